@@ -1,0 +1,86 @@
+-- Signed differences, remainders of signed numbers, and clamping. Assumes nothing.
+use mathlib.Core.Path.{_≡_, refl, sym, _∙_, ap}
+use mathlib.Core.Bool.{Bool, true, false, _&&_}
+use Prim.Native.Nat.{ℕ, zero, suc, _+_, _-_, _%_, _^_, _<_, _≤_}
+use native.Mathlib.Nat.{mod-eq-of-lt}
+use native.Mathlib.Omega.{arith}
+use borrow.Author.Tests.{ltb-true, ltb-false, leb-true, lt-ltb, le-ltb, le-leb}
+use lib.Dec.{ltb}
+use lib.Pow.{pow-pos}
+use lib.Signed.{mag, ltZ, leZ}
+use lib.IntN.{ℤ, pos, negsuc, natAbs, _+ℤ_, _-ℤ_}
+use Rattle.numbers.specs.Whole.{least, most, clamp, isReading}
+use Rattle.numbers.specs.Circular.{distance, signed, difference, wrap}
+use Rattle.numbers.proofs.Halves.{above, below, apart, same, in-range, above--, below--, halves-lt, halves-not-lt}
+use Rattle.numbers.proofs.Circle.{by-order, half, distance-below}
+
+-- the signed number of a distance: the distance itself, or a turn less
+pub signed-low : (w d : ℕ) → d < 2 ^ (w - 1) → signed w d ≡ pos d
+unfolding signed
+signed-low w d h = rw (lt-ltb d (2 ^ (w - 1)) h)
+
+pub signed-high : (w d : ℕ) → 2 ^ (w - 1) ≤ d → signed w d ≡ pos d -ℤ pos (2 ^ w)
+unfolding signed
+signed-high w d h = rw (le-ltb d (2 ^ (w - 1)) h)
+
+turn-less : (w n d : ℕ) → n + d + 1 ≡ 2 ^ w → pos d -ℤ pos (2 ^ w) ≡ negsuc n
+turn-less w n d e = same (rw above-- (omega arith)) (rw below-- (omega arith))
+
+-- it lies in -2^(w-1)..2^(w-1)-1
+pub signed-range : (w d : ℕ) → 0 < w → d < 2 ^ w → mag (signed w d) < 2 ^ (w - 1)
+signed-range w d hw h =
+    by-order d (2 ^ (w - 1))
+    (λ k. rw (signed-low w d k) k)
+    (λ k.
+    let e = turn-less w (2 ^ w - 1 - d) d (omega arith) in
+    rw (signed-high w d k, e) (omega (arith, half w hw)))
+
+pub difference-range : (w a b : ℕ) → 0 < w → mag (difference w a b) < 2 ^ (w - 1)
+unfolding difference
+difference-range w a b hw = signed-range w (distance w a b) hw (distance-below w a b)
+
+-- it is congruent to the distance mod 2^w
+pub signed-congruent : (w d : ℕ) → d < 2 ^ w → wrap w (signed w d) ≡ d
+unfolding wrap
+signed-congruent w d h =
+    by-order d (2 ^ (w - 1))
+    (λ k. rw (signed-low w d k) (mod-eq-of-lt h))
+    (λ k.
+    let e = turn-less w (2 ^ w - 1 - d) d (omega arith) in
+    let l : 2 ^ w - 1 - d < 2 ^ w = omega arith in
+    rw (signed-high w d k, e, mod-eq-of-lt l) (omega arith))
+
+-- and no other number in that range is
+pub signed-only : (w : ℕ) (z : ℤ) → 0 < w → mag z < 2 ^ (w - 1) → z ≡ signed w (wrap w z)
+unfolding wrap
+signed-only w (pos n) hw h =
+    let l : n < 2 ^ w = omega (arith, half w hw) in
+    rw (mod-eq-of-lt l) (sym (signed-low w n h))
+signed-only w (negsuc n) hw h =
+    let l : n < 2 ^ w = omega (arith, half w hw) in
+    let d = 2 ^ w - 1 - n in
+    rw (mod-eq-of-lt l) (sym (signed-high w d (omega (arith, half w hw)) ∙ turn-less w n d (omega arith)))
+
+-- `clamp`, by where the number lies
+pub clamp-low : (z : ℤ) → 2 ^ 31 ≤ below z → clamp z ≡ least
+unfolding clamp
+clamp-low z h =
+    by-order (below z) 2147483649
+    (λ g. let e : z ≡ least = same (omega (arith, apart z)) (omega arith) in rw e)
+    (λ g. rw (halves-lt z least (omega (arith, apart z))))
+
+pub clamp-high : (z : ℤ) → 2147483647 ≤ above z → clamp z ≡ most
+unfolding clamp
+clamp-high z h =
+    by-order (above z) 2147483648
+    (λ g. let e : z ≡ most = same (omega arith) (omega (arith, apart z)) in rw e)
+    (λ g. rw (halves-not-lt z least (omega (arith, apart z)), halves-lt most z (omega (arith, apart z))))
+
+pub clamp-in : (z : ℤ) → above z < 2 ^ 31 → below z ≤ 2 ^ 31 → clamp z ≡ z
+unfolding clamp
+clamp-in z h k = rw (halves-not-lt z least (omega (arith, apart z)), halves-not-lt most z (omega (arith, apart z)))
+
+-- a reading's size
+pub reading-size : (z : ℤ) → isReading z ≡ true → (below z ≡ 0) × (natAbs z < 2 ^ 60)
+reading-size (pos n) e = (refl, ltb-true n (2 ^ 60) (sym (rw (le-leb 0 n (omega arith))) ∙ e))
+reading-size (negsuc n) e = absurd (let z : _≡_ {A = ℕ} 0 1 = cc in omega arith)

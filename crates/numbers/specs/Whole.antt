@@ -1,0 +1,25 @@
+-- Instants and intervals, whole numbers of µs with a sign: 01, "Numbers".
+use mathlib.Core.Bool.{Bool, _&&_, cond}
+use Prim.Native.Nat.{_^_}
+use lib.IntN.{ℤ, pos, negsuc, _-ℤ_}
+use lib.Signed.{ltZ, leZ}
+
+-- a reading lies in 0..2^60-1
+abbrev pub isReading : ℤ → Bool
+isReading z = leZ (pos 0) z && ltZ z (pos (2 ^ 60))
+
+-- the ends of the signed 32-bit range, -2^31 and 2^31-1
+abbrev pub least : ℤ
+least = negsuc 2147483647
+
+abbrev pub most : ℤ
+most = pos 2147483647
+
+-- clamped to that range
+unfoldable pub clamp : ℤ → ℤ
+clamp z = cond (ltZ z least) least (cond (ltZ most z) most z)
+
+-- an interval is the difference of two instants, clamped
+unfoldable pub intervalOf : ℤ → ℤ → ℤ
+unfolding clamp
+intervalOf begin end = clamp (end -ℤ begin)

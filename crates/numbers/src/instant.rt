@@ -1,0 +1,39 @@
+// Instants and intervals, signed µs: 01, "Numbers".
+ghost use mathlib.Core.Path.{_≡_};
+ghost use Rattle.numbers.specs.Whole.{clamp, intervalOf, isReading};
+
+// A reading lies in 0..2^60-1.
+pub fn is_reading(z: i64) -> bool
+    ensures { λ r. ⌜ r ≡ isReading z ⌝ }
+{
+    (0 <= z) & (z < 0x1000_0000_0000_0000)
+}
+
+// z cut to the signed 32-bit range.
+pub fn clamp(z: i64) -> i32
+    ensures { λ r. ⌜ r ≡ clamp z ⌝ }
+{
+    if z < -0x8000_0000 {
+        return -0x8000_0000;
+    }
+    if 0x7fff_ffff < z {
+        return 0x7fff_ffff;
+    }
+    z as i32
+}
+
+// The difference of two instants, clamped. A difference that would not fit is told before it is made.
+pub fn interval(begin: i64, end: i64) -> i32
+    ensures { λ r. ⌜ r ≡ intervalOf begin end ⌝ }
+{
+    if begin <= 0 {
+        if begin + 0x7fff_ffff < end {
+            return 0x7fff_ffff;
+        }
+        return clamp(end - begin);
+    }
+    if end < begin - 0x8000_0000 {
+        return -0x8000_0000;
+    }
+    clamp(end - begin)
+}
