@@ -11,22 +11,18 @@ distance w a b = (a + (2 ^ w - b % 2 ^ w)) % 2 ^ w
 
 -- equal if D = 0
 unfoldable pub equal : ℕ → ℕ → ℕ → Bool
-unfolding distance
 equal w a b = eqb (distance w a b) 0
 
 -- a after b if 0 < D < 2^(w-1)
 unfoldable pub after : ℕ → ℕ → ℕ → Bool
-unfolding distance
 after w a b = ltb 0 (distance w a b) && ltb (distance w a b) (2 ^ (w - 1))
 
 -- else before
 unfoldable pub before : ℕ → ℕ → ℕ → Bool
-unfolding equal after
 before w a b = not (equal w a b || after w a b)
 
 -- saturating difference: D if a is not before b, else 0
 unfoldable pub saturating : ℕ → ℕ → ℕ → ℕ
-unfolding before distance
 saturating w a b = cond (not (before w a b)) (distance w a b) 0
 
 -- (a + n) mod 2^w: also the number of place n, counted from the number a
@@ -34,12 +30,10 @@ unfoldable pub sum : ℕ → ℕ → ℕ → ℕ
 sum w a n = (a + n) % 2 ^ w
 
 unfoldable pub successor : ℕ → ℕ → ℕ
-unfolding sum
 successor w a = sum w a 1
 
 -- n successors, one after the other
 unfoldable pub successors : ℕ → ℕ → ℕ → ℕ
-unfolding successor
 successors w zero a = a
 successors w (suc n) a = successor w (successors w n a)
 
@@ -54,5 +48,4 @@ signed w d = cond (ltb d (2 ^ (w - 1))) (pos d) (pos d -ℤ pos (2 ^ w))
 
 -- a - b as that number
 unfoldable pub difference : ℕ → ℕ → ℕ → ℤ
-unfolding distance signed
 difference w a b = signed w (distance w a b)

@@ -21,5 +21,4 @@ clamp z = cond (ltZ z least) least (cond (ltZ most z) most z)
 
 -- an interval is the difference of two instants, clamped
 unfoldable pub intervalOf : ℤ → ℤ → ℤ
-unfolding clamp
 intervalOf begin end = clamp (end -ℤ begin)

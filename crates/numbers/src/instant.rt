@@ -2,6 +2,12 @@
 ghost use mathlib.Core.Path.{_≡_};
 ghost use Rattle.numbers.specs.Whole.{clamp, intervalOf, isReading};
 
+// A time that may be unset.
+pub enum Moment {
+    Unset,
+    At(i64),
+}
+
 // A reading lies in 0..2^60-1.
 pub fn is_reading(z: i64) -> bool
     ensures { λ r. ⌜ r ≡ isReading z ⌝ }

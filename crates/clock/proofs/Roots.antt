@@ -1,0 +1,49 @@
+-- The whole square root is the one number whose square is at most n and whose successor's square is above n. Assumes nothing.
+use mathlib.Core.Path.{_≡_, refl, sym, _∙_, ap}
+use mathlib.Core.Bool.{Bool, true, false, not, cond}
+use Prim.Native.Nat.{ℕ, zero, suc, _+_, _*_, _<_, _≤_, min}
+use native.Mathlib.Nat.{mul-le-mul, suc-mul, mul-suc, le-trans, lt-of-lt-of-le, lt-of-le-of-lt, lt-irrefl}
+use native.Mathlib.Omega.{arith}
+use borrow.Author.Tests.{leb-true, leb-false}
+use lib.Dec.{T, leb, leb→le, nleb→lt}
+use Rattle.numbers.proofs.Circle.{by-order}
+use Rattle.clock.specs.Root.{root}
+
+pub squares : {a b : ℕ} → a ≤ b → a * a ≤ b * b
+squares h = mul-le-mul h h
+
+by-test : (P : ℕ → Type 0) (c : Bool) (x y : ℕ) → (T c → P x) → (T (not c) → P y) → P (cond c x y)
+by-test P true x y f g = f tt
+by-test P false x y f g = g tt
+
+pub root-low : (n : ℕ) → root n * root n ≤ n
+unfolding root
+root-low zero = omega arith
+root-low (suc n) =
+    by-test (λ (r : ℕ). r * r ≤ suc n) (leb (suc (root n) * suc (root n)) (suc n)) (suc (root n)) (root n)
+    (λ t. leb→le (suc (root n) * suc (root n)) (suc n) t)
+    (λ t. let h = root-low n in omega arith)
+
+pub root-high : (n : ℕ) → n < suc (root n) * suc (root n)
+unfolding root
+root-high zero = omega arith
+root-high (suc n) =
+    by-test (λ (r : ℕ). suc n < suc r * suc r) (leb (suc (root n) * suc (root n)) (suc n)) (suc (root n)) (root n)
+    (λ t. let h = root-high n in let k = grows (suc (root n)) in omega arith)
+    (λ t. nleb→lt (suc (root n) * suc (root n)) (suc n) t)
+  where
+    grows : (r : ℕ) → r * r < suc r * suc r
+    grows r = omega (arith, suc-mul r (suc r), mul-suc r r)
+
+-- a number whose square is at most n is at most the root, and one whose square is above n is above it
+pub root-least : (n r : ℕ) → r * r ≤ n → r ≤ root n
+root-least n r h =
+    by-order (root n) r
+    (λ g. absurd (lt-irrefl n (lt-of-lt-of-le (root-high n) (le-trans (squares g) h))))
+    (λ g. g)
+
+pub root-below : (n r : ℕ) → n < r * r → root n < r
+root-below n r h =
+    by-order (root n) r
+    (λ g. g)
+    (λ g. absurd (lt-irrefl n (lt-of-lt-of-le h (le-trans (squares g) (root-low n)))))
