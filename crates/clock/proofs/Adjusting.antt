@@ -13,7 +13,7 @@ use Rattle.numbers.proofs.Halves.{size--, size-fits}
 use Rattle.clock.specs.Base.{stampOf, inReference, shifted, moved, adjusted}
 use Rattle.clock.specs.declared.base.TimeBase.{TimeBase}
 use Rattle.clock.specs.declared.base.Adjusted.the-variants.{Base, OutOfRange}
-use Rattle.clock.proofs.Reference.{reference-near}
+use Rattle.clock.proofs.Ranges.{reference-near}
 
 -- a shifted time is within 2^61 + 2^31 of zero
 pub shifted-size : (b : TimeBase) {x : TimeBase} {d drift : ℤ}

@@ -9,16 +9,13 @@ use lib.IntN.{ℤ, pos, negsuc, negℤ}
 use lib.Pow.{pow-pos}
 use Rattle.numbers.specs.Whole.{clamp}
 use Rattle.numbers.proofs.Halves.{above, below, above-neg, below-neg}
-use Rattle.numbers.proofs.Circle.{by-order}
+use Rattle.numbers.proofs.Flags.{impossible, or-left, by-order}
 use Rattle.numbers.proofs.Signs.{clamp-low, clamp-high, clamp-in}
 use lib.Ieee.{Float, nan, inf, fin, up, down, lt, le, eq, toUnsigned, toSigned}
 
 down-pos : (e : ℤ) → 0 < down e
 down-pos (pos k) = omega arith
 down-pos (negsuc k) = pow-pos (suc k)
-
-pub impossible : {P : Type 0} → true ≡ false → P
-impossible e = absurd (let z : _≡_ {A = ℕ} 0 1 = cc in omega arith)
 
 -- -1 or less, or no number: nothing above zero
 pub unsigned-none : (v : Float) → lt (fin true 1 (pos 0)) v ≡ false → toUnsigned 64 v ≡ 0
@@ -40,10 +37,6 @@ unsigned-most (fin false m x) e f =
     let h = ltb-false (m * up x * 1) (18446744073709551616 * down x) f in
     let g : 18446744073709551616 ≤ m * up x / down x = le-div-iff-mul-le (down-pos x) .1 (omega arith) in
     omega arith
-
-no-left : (x y : Bool) → (x || y) ≡ false → x ≡ false
-no-left false y e = refl
-no-left true y e = e
 
 -- the quotient of a number that is at least k turns of the divisor
 at-least : (k m : ℕ) (x : ℤ) → k * down x ≤ m * up x → k ≤ m * up x / down x
@@ -67,11 +60,11 @@ signed-least nan e f = impossible (sym f)
 signed-least (inf true) e f = refl
 signed-least (inf false) e f = impossible (sym f)
 signed-least (fin true m x) e f =
-    let h = ltb-false (m * up x * 1) (9223372036854775808 * down x) (no-left _ _ e) in
+    let h = ltb-false (m * up x * 1) (9223372036854775808 * down x) (or-left _ _ e) in
     let g = at-least 9223372036854775808 m x (omega arith) in
     let k : min (m * up x / down x) 2147483648 ≡ 2147483648 = omega arith in
     ap (λ (n : ℕ). negℤ (pos n)) k
-signed-least (fin false m x) e f = absurd (omega (arith, ltb-false 0 (9223372036854775808 * down x + m * up x * 1) (no-left _ _ e), down-pos x))
+signed-least (fin false m x) e f = absurd (omega (arith, ltb-false 0 (9223372036854775808 * down x + m * up x * 1) (or-left _ _ e), down-pos x))
 
 pub signed-nan : (v : Float) → le (fin true 1 (pos 63)) v ≡ false → lt v (fin false 0 (pos 0)) ≡ false → toSigned 31 v ≡ pos 0
 unfolding le lt eq toSigned
@@ -79,10 +72,10 @@ signed-nan nan e f = refl
 signed-nan (inf true) e f = impossible f
 signed-nan (inf false) e f = impossible e
 signed-nan (fin true m x) e f =
-    let h = ltb-false (m * up x * 1) (9223372036854775808 * down x) (no-left _ _ e) in
+    let h = ltb-false (m * up x * 1) (9223372036854775808 * down x) (or-left _ _ e) in
     let g = ltb-false 0 (m * up x * 1 + 0 * down x) f in
     absurd (omega (arith, down-pos x))
-signed-nan (fin false m x) e f = absurd (omega (arith, ltb-false 0 (9223372036854775808 * down x + m * up x * 1) (no-left _ _ e), down-pos x))
+signed-nan (fin false m x) e f = absurd (omega (arith, ltb-false 0 (9223372036854775808 * down x + m * up x * 1) (or-left _ _ e), down-pos x))
 
 -- the whole part at 64 bits, clamped, is the whole part at 32
 minus-clamped : (q : ℕ) → clamp (negℤ (pos (min q 9223372036854775808))) ≡ negℤ (pos (min q 2147483648))

@@ -6,22 +6,18 @@ use native.Mathlib.Nat.{mul-le-mul, suc-mul, mul-suc, le-trans, lt-of-lt-of-le, 
 use native.Mathlib.Omega.{arith}
 use borrow.Author.Tests.{leb-true, leb-false}
 use lib.Dec.{T, leb, leb→le, nleb→lt}
-use Rattle.numbers.proofs.Circle.{by-order}
+use Rattle.numbers.proofs.Flags.{by-test, by-order}
 use Rattle.clock.specs.Root.{root}
 
 pub squares : {a b : ℕ} → a ≤ b → a * a ≤ b * b
 squares h = mul-le-mul h h
-
-by-test : (P : ℕ → Type 0) (c : Bool) (x y : ℕ) → (T c → P x) → (T (not c) → P y) → P (cond c x y)
-by-test P true x y f g = f tt
-by-test P false x y f g = g tt
 
 pub root-low : (n : ℕ) → root n * root n ≤ n
 unfolding root
 root-low zero = omega arith
 root-low (suc n) =
     by-test (λ (r : ℕ). r * r ≤ suc n) (leb (suc (root n) * suc (root n)) (suc n)) (suc (root n)) (root n)
-    (λ t. leb→le (suc (root n) * suc (root n)) (suc n) t)
+    (λ t. leb-true (suc (root n) * suc (root n)) (suc n) t)
     (λ t. let h = root-low n in omega arith)
 
 pub root-high : (n : ℕ) → n < suc (root n) * suc (root n)
@@ -30,7 +26,7 @@ root-high zero = omega arith
 root-high (suc n) =
     by-test (λ (r : ℕ). suc n < suc r * suc r) (leb (suc (root n) * suc (root n)) (suc n)) (suc (root n)) (root n)
     (λ t. let h = root-high n in let k = grows (suc (root n)) in omega arith)
-    (λ t. nleb→lt (suc (root n) * suc (root n)) (suc n) t)
+    (λ t. leb-false (suc (root n) * suc (root n)) (suc n) t)
   where
     grows : (r : ℕ) → r * r < suc r * suc r
     grows r = omega (arith, suc-mul r (suc r), mul-suc r r)
@@ -47,3 +43,7 @@ root-below n r h =
     by-order (root n) r
     (λ g. g)
     (λ g. absurd (lt-irrefl n (lt-of-lt-of-le h (le-trans (squares g) (root-low n)))))
+
+-- so a root is known by its two squares
+pub root-is : (n r : ℕ) → r * r ≤ n → n < suc r * suc r → root n ≡ r
+root-is n r h k = omega (arith, root-least n r h, root-below n (suc r) k)

@@ -124,6 +124,20 @@ unfolding freshClock
 fresh start e p f = rw (e, p, f)
 
 pub ruleset steps = (
-    out-of-range, based, unsteady, steady, sample-kept, sample-last, first-drift, later-drift,
-    no-last, is-later, is-last, last-test, range-test, release, fresh, needs
+  out-of-range,
+  based,
+  unsteady,
+  steady,
+  sample-kept,
+  sample-last,
+  first-drift,
+  later-drift,
+  no-last,
+  is-later,
+  is-last,
+  last-test,
+  range-test,
+  release,
+  fresh,
+  needs,
 )

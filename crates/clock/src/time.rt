@@ -47,6 +47,7 @@ fn later(last: Moment, time: i64) -> i64
 
 impl SynchronizedRemoteClock {
     pub const MAX_SAMPLES: u32 = 1_000;
+
     pub const DRIFT_DEVIATION_TOLERANCE: u32 = 5_000;
 
     pub fn new(start: i64) -> Self

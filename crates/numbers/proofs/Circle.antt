@@ -7,17 +7,10 @@ use Prim.Native.Nat.{ℕ, zero, suc, _+_, _-_, _*_, _/_, _%_, _^_, _<_, _≤_}
 use native.Mathlib.Nat.{mod-eq-of-lt, mod-lt, mod-mod, add-mod-mod, mod-add-mod, pow-suc, add-mul-mod-self-right, div-add-mod', suc-mul}
 use native.Mathlib.Omega.{arith}
 use borrow.Author.Tests.{ltb-true, ltb-false, leb-true, leb-false, eqb-true, eqb-false, lt-ltb, le-ltb, le-leb, lt-leb, eq-eqb, ne-eqb}
-use lib.Dec.{T, ltb, leb, eqb, ltb→lt, nltb→le}
+use lib.Dec.{ltb, leb, eqb}
 use lib.Pow.{pow-pos}
+use Rattle.numbers.proofs.Flags.{by-order, and-false}
 use Rattle.numbers.specs.Circular.{distance, equal, after, before, saturating, sum, successor, successors}
-
--- one of two numbers is the smaller
-by-bool : {P : Type 0} (c : Bool) → (T c → P) → (T (not c) → P) → P
-by-bool true f g = f tt
-by-bool false f g = g tt
-
-pub by-order : {P : Type 0} (a b : ℕ) → (a < b → P) → (b ≤ a → P) → P
-by-order a b f g = by-bool (ltb a b) (λ t. f (ltb→lt a b t)) (λ t. g (nltb→le a b t))
 
 -- b, then n, then what b lacks of a whole turn: n is left
 back : (m b n : ℕ) → 0 < m → (b + n + (m - b % m)) % m ≡ n % m
@@ -105,10 +98,6 @@ after-none w a b h = rw (le-ltb 0 (distance w a b) (omega arith))
 pub after-not : (w a b : ℕ) → 2 ^ (w - 1) ≤ distance w a b → after w a b ≡ false
 unfolding after
 after-not w a b h = and-false (ltb 0 (distance w a b)) (le-ltb (distance w a b) (2 ^ (w - 1)) h)
-  where
-    and-false : (x : Bool) {y : Bool} → y ≡ false → (x && y) ≡ false
-    and-false true e = e
-    and-false false e = refl
 
 pub before-at : (w a b : ℕ) → 2 ^ (w - 1) ≤ distance w a b → before w a b ≡ true
 unfolding before

@@ -6,7 +6,8 @@ use Prim.Native.Nat.{ℕ, _+_, _-_, _*_, _%_, _^_, _<_, _≤_}
 use native.Mathlib.Nat.{add-mul-mod-self-right}
 use native.Mathlib.Omega.{arith}
 use Rattle.numbers.specs.Circular.{distance, after, before, sum}
-use Rattle.numbers.proofs.Circle.{by-order, distance-self, distance-sum, sum-sum, half, after-at, before-at, around}
+use Rattle.numbers.proofs.Flags.{by-order}
+use Rattle.numbers.proofs.Circle.{distance-self, distance-sum, sum-sum, half, after-at, before-at, around}
 
 -- k turns on, the same number
 pub place-turns : (w first p k : ℕ) → sum w first (p + k * 2 ^ w) ≡ sum w first p

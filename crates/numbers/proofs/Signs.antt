@@ -12,7 +12,8 @@ use lib.IntN.{ℤ, pos, negsuc, natAbs, _+ℤ_, _-ℤ_}
 use Rattle.numbers.specs.Whole.{least, most, clamp, isReading}
 use Rattle.numbers.specs.Circular.{distance, signed, difference, wrap}
 use Rattle.numbers.proofs.Halves.{above, below, apart, same, in-range, above--, below--, halves-lt, halves-not-lt}
-use Rattle.numbers.proofs.Circle.{by-order, half, distance-below}
+use Rattle.numbers.proofs.Flags.{by-order}
+use Rattle.numbers.proofs.Circle.{half, distance-below}
 
 -- the signed number of a distance: the distance itself, or a turn less
 pub signed-low : (w d : ℕ) → d < 2 ^ (w - 1) → signed w d ≡ pos d

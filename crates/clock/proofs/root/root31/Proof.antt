@@ -5,7 +5,7 @@ use Prim.Native.Nat.{ℕ, suc, _+_, _-_, _*_, _<_, _≤_, min}
 use native.Mathlib.Nat.{lt-of-le-of-lt}
 use native.Mathlib.Omega.{arith}
 use lib.Dec.{lit<}
-use Rattle.numbers.proofs.Circle.{by-order}
+use Rattle.numbers.proofs.Flags.{by-order}
 use Rattle.clock.specs.Root.{root}
 use Rattle.clock.proofs.Roots.{squares, root-least, root-below}
 use Rattle.clock.proofs.root.root31.Statement.{statement}
