@@ -1,12 +1,12 @@
 -- What `TimeBase::adjust` does at each return, as laws over plain values. A signed number stands twice, as it is (`now`) and as the machine reads
 -- it back (`n`). Assumes nothing.
-use mathlib.Core.Path.{_≡_, refl, sym, _∙_, ap}
-use mathlib.Core.Bool.{Bool, true, false, _&&_}
+use mathlib.Core.Path.{_≡_, sym, _∙_}
+use mathlib.Core.Bool.{Bool, true, false}
 use Prim.Native.Nat.{ℕ, _+_, _<_, _≤_, _^_}
 use native.Mathlib.Omega.{arith}
 use borrow.Author.Needs.{needs}
-use lib.IntN.{ℤ, natAbs, _-ℤ_}
-use lib.Signed.{ltZ, leZ}
+use lib.IntN.{ℤ, natAbs}
+use lib.Signed.{ltZ}
 use mir.Syntax.{w32}
 use mir.Val.{SFits}
 use Rattle.numbers.proofs.Halves.{size--, size-fits}

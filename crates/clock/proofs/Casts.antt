@@ -1,14 +1,14 @@
 -- A float's whole part where the float is out of the range that `std::num` takes. Assumes nothing.
-use mathlib.Core.Path.{_≡_, refl, sym, _∙_, ap}
-use mathlib.Core.Bool.{Bool, true, false, _||_}
+use mathlib.Core.Path.{_≡_, refl, sym, ap}
+use mathlib.Core.Bool.{true, false}
 use Prim.Native.Nat.{ℕ, suc, _+_, _*_, _/_, _-_, _<_, _≤_, _^_, min}
 use native.Mathlib.Nat.{le-div-iff-mul-le}
 use native.Mathlib.Omega.{arith}
-use borrow.Author.Tests.{ltb-true, ltb-false}
+use borrow.Author.Tests.{ltb-false}
 use lib.IntN.{ℤ, pos, negsuc, negℤ}
 use lib.Pow.{pow-pos}
 use Rattle.numbers.specs.Whole.{clamp}
-use Rattle.numbers.proofs.Halves.{above, below, above-neg, below-neg}
+use Rattle.numbers.proofs.Halves.{above-neg, below-neg}
 use Rattle.numbers.proofs.Flags.{impossible, or-left, by-order}
 use Rattle.numbers.proofs.Signs.{clamp-low, clamp-high, clamp-in}
 use lib.Ieee.{Float, nan, inf, fin, up, down, lt, le, eq, toUnsigned, toSigned}

@@ -1,13 +1,12 @@
 -- Worked examples of 01, "Clock", computed from the definitions. Assumes nothing.
 use mathlib.Core.Path.{_≡_, refl}
 use mathlib.Core.Bool.{true, false}
-use Prim.Native.Nat.{ℕ, _*_, _-_, _^_, min}
-use native.Mathlib.Omega.{arith}
+use Prim.Native.Nat.{ℕ, _*_, _-_, _^_}
 use lib.Dec.{lit≤, lit<}
 use lib.IntN.{ℤ, pos, negsuc}
-use lib.Ieee.{Float, nan, inf, fin, round, ofInt, add, sub, mul, div, toUnsigned, toSigned}
+use lib.Ieee.{nan, inf, fin, round, ofInt, add, sub, mul, div, toUnsigned, toSigned}
 use Rattle.numbers.specs.Circular.{distance, signed, difference, wrap}
-use Rattle.numbers.specs.declared.instant.Moment.the-variants.{Unset, At}
+use Rattle.numbers.specs.declared.instant.Moment.the-variants.{Unset}
 use Rattle.clock.specs.Base.{freshBase, instantOf, stampOf, driftOf, shifted, moved, adjusted}
 use Rattle.clock.specs.Root.{root}
 use Rattle.clock.specs.Samples.{noSamples, distanceOf, meanWith, squaresWith, sampled, varianceOf, deviationOf, truncatedOf}

@@ -1,23 +1,23 @@
 -- The clock's ranges are kept: a clock in range stays in range, so no run from a fresh one is ever refused 1 for it. Assumes nothing.
-use mathlib.Core.Path.{_≡_, refl, sym, _∙_, ap}
-use mathlib.Core.Bool.{Bool, true, false, not, _&&_, cond}
-use Prim.Native.Nat.{ℕ, suc, _+_, _-_, _<_, _≤_, _^_}
+use mathlib.Core.Path.{_≡_, refl}
+use mathlib.Core.Bool.{true, not}
+use Prim.Native.Nat.{ℕ, _+_, _-_, _≤_, _^_}
 use native.Mathlib.Omega.{arith}
-use borrow.Author.Tests.{leb-true, le-leb, ltb-true}
-use lib.Dec.{ltb, leb}
-use lib.IntN.{ℤ, pos, negsuc, natAbs, _+ℤ_}
-use lib.Signed.{ltZ, leZ, natAbs-le}
+use borrow.Author.Tests.{le-leb, ltb-true}
+use lib.Dec.{ltb}
+use lib.IntN.{ℤ, pos, negsuc, natAbs}
+use lib.Signed.{ltZ, natAbs-le}
 use Rattle.numbers.specs.Whole.{isReading}
 use Rattle.numbers.specs.Circular.{difference}
 use Rattle.numbers.specs.declared.instant.Moment.{Moment}
 use Rattle.numbers.specs.declared.instant.Moment.the-variants.{Unset, At}
-use Rattle.numbers.proofs.Flags.{and-left, and-right, by-test}
+use Rattle.numbers.proofs.Flags.{by-test}
 use Rattle.numbers.proofs.Halves.{size-+}
 use Rattle.numbers.proofs.Signs.{reading-size}
 use Rattle.numbers.proofs.Both.{stamp-range}
 use Rattle.clock.specs.Base.{freshBase, instantOf, driftOf, inReference, shifted, moved, adjusted}
 use Rattle.clock.specs.Samples.{noSamples, sampled, varianceOf, deviationOf, truncatedOf}
-use Rattle.clock.specs.Sync.{freshClock, settled, afterAdjusting, adjustedBy, judged, sampleTaken, synchronized}
+use Rattle.clock.specs.Sync.{freshClock, afterAdjusting, adjustedBy, judged, sampleTaken, synchronized}
 use Rattle.clock.specs.Release.{laterOf, released, releaseOf}
 use Rattle.clock.specs.Ranges.{lastOk, clockOk}
 use Rattle.clock.specs.declared.base.TimeBase.{TimeBase}

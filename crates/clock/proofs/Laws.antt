@@ -1,20 +1,19 @@
 -- What the clock call does, case by case: 01, "Clock". Assumes nothing.
-use mathlib.Core.Path.{_≡_, refl, sym, _∙_, ap}
-use mathlib.Core.Bool.{Bool, true, false, not, _&&_, cond}
+use mathlib.Core.Path.{_≡_, refl, _∙_, ap}
+use mathlib.Core.Bool.{Bool, true, false, not, cond}
 use Prim.Native.Nat.{ℕ, _+_, _<_, _≤_, _^_}
 use native.Mathlib.Omega.{arith}
-use borrow.Author.Tests.{lt-ltb, le-ltb, leb-true, ltb-true, ltb-false}
-use lib.Dec.{ltb, leb}
-use lib.IntN.{ℤ, pos, natAbs, _-ℤ_}
-use lib.Signed.{ltZ, leZ}
+use borrow.Author.Tests.{lt-ltb, le-ltb}
+use lib.Dec.{ltb}
+use lib.IntN.{ℤ, pos, _-ℤ_}
+use lib.Signed.{ltZ}
 use Rattle.numbers.specs.Whole.{isReading}
-use Rattle.numbers.proofs.Flags.{impossible, and-left, and-right, by-bool, by-test}
-use Rattle.numbers.proofs.Halves.{above, below, apart, size, lt-true, lt-false, le-false, halves-not-lt, above--}
+use Rattle.numbers.proofs.Flags.{by-bool, by-test}
+use Rattle.numbers.proofs.Halves.{apart, size, lt-false}
 use Rattle.numbers.proofs.Signs.{reading-size}
-use Rattle.clock.specs.Base.{driftOf, inReference, shifted, moved, adjusted}
+use Rattle.clock.specs.Base.{driftOf, shifted, moved, adjusted}
 use Rattle.clock.specs.Samples.{noSamples, sampled, varianceOf, deviationOf, truncatedOf}
-use Rattle.clock.specs.Sync.{Ready, settled, afterAdjusting, adjustedBy, judged, sampleTaken, synchronized}
-use Rattle.clock.specs.Ranges.{lastOk, clockOk}
+use Rattle.clock.specs.Sync.{settled, afterAdjusting, adjustedBy, judged, sampleTaken, synchronized}
 use Rattle.clock.specs.declared.base.TimeBase.{TimeBase}
 use Rattle.clock.specs.declared.base.Adjusted.{Adjusted}
 use Rattle.clock.specs.declared.base.Adjusted.the-variants.{Base, OutOfRange}

@@ -1,7 +1,7 @@
 -- The clock's ranges as facts: what a passed test gives. Assumes nothing.
-use mathlib.Core.Path.{_≡_}
-use mathlib.Core.Bool.{true, _&&_}
-use Prim.Native.Nat.{ℕ, suc, _-_, _≤_, _^_}
+use mathlib.Core.Path.{_≡_, sym, _∙_}
+use mathlib.Core.Bool.{Bool, true, _&&_}
+use Prim.Native.Nat.{_-_, _≤_, _^_}
 use native.Mathlib.Omega.{arith}
 use borrow.Author.Tests.{leb-true, le-leb}
 use lib.Dec.{leb}
@@ -52,3 +52,7 @@ ready k now e r =
       reading = reading-size now r .1;
       samples = omega (arith, leb-true (k .stats .count) 999 (o .samples));
     }
+
+-- the same by two flags, as a program has them
+pub ready-by : {k : SynchronizedRemoteClock} {now : ℤ} {a b : Bool} → a ≡ clockOk k → a ≡ true → b ≡ isReading now → b ≡ true → Ready k now
+ready-by {k} {now} p e q f = ready k now (sym p ∙ e) (sym q ∙ f)

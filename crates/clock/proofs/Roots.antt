@@ -1,11 +1,10 @@
 -- The whole square root is the one number whose square is at most n and whose successor's square is above n. Assumes nothing.
-use mathlib.Core.Path.{_≡_, refl, sym, _∙_, ap}
-use mathlib.Core.Bool.{Bool, true, false, not, cond}
-use Prim.Native.Nat.{ℕ, zero, suc, _+_, _*_, _<_, _≤_, min}
-use native.Mathlib.Nat.{mul-le-mul, suc-mul, mul-suc, le-trans, lt-of-lt-of-le, lt-of-le-of-lt, lt-irrefl}
+use mathlib.Core.Path.{_≡_}
+use Prim.Native.Nat.{ℕ, zero, suc, _*_, _<_, _≤_}
+use native.Mathlib.Nat.{mul-le-mul, suc-mul, mul-suc, le-trans, lt-of-lt-of-le, lt-irrefl}
 use native.Mathlib.Omega.{arith}
 use borrow.Author.Tests.{leb-true, leb-false}
-use lib.Dec.{T, leb, leb→le, nleb→lt}
+use lib.Dec.{leb}
 use Rattle.numbers.proofs.Flags.{by-test, by-order}
 use Rattle.clock.specs.Root.{root}
 

@@ -1,11 +1,11 @@
 -- What the code of time.rt does at each return, as laws over plain values; the proof files hand them to `search`. A signed number stands twice, as
 -- it is (`now`) and as the machine reads it back (`n`). Assumes nothing.
-use mathlib.Core.Path.{_≡_, refl, sym, _∙_, ap}
+use mathlib.Core.Path.{_≡_, sym, _∙_, ap}
 use mathlib.Core.Bool.{Bool, true, false, not, _&&_, cond}
 use Prim.Native.Nat.{ℕ, _<_, _≤_}
 use borrow.Author.Needs.{needs}
 use borrow.Author.Tests.{lt-ltb, le-ltb}
-use lib.Dec.{ltb, leb}
+use lib.Dec.{leb}
 use lib.IntN.{ℤ}
 use lib.Ieee.{Float}
 use lib.Signed.{ltZ}
@@ -13,7 +13,7 @@ use Rattle.numbers.specs.declared.instant.Moment.{Moment}
 use Rattle.numbers.specs.declared.instant.Moment.the-variants.{Unset, At}
 use Rattle.clock.specs.Base.{freshBase, instantOf, driftOf, inReference, adjusted}
 use Rattle.clock.specs.Samples.{noSamples, sampled, varianceOf, deviationOf, truncatedOf}
-use Rattle.clock.specs.Sync.{freshClock, settled, afterAdjusting, adjustedBy, judged, sampleTaken, synchronized}
+use Rattle.clock.specs.Sync.{freshClock, settled, adjustedBy, judged, sampleTaken, synchronized}
 use Rattle.clock.specs.Release.{laterOf, released, releaseOf}
 use Rattle.clock.specs.Ranges.{lastOk, clockOk}
 use Rattle.clock.specs.declared.base.TimeBase.{TimeBase}

@@ -1,5 +1,5 @@
 -- The clock call: 01, "Clock". What it answers, and the clock after it.
-use mathlib.Core.Bool.{Bool, true, false, not, cond}
+use mathlib.Core.Bool.{true, false, not, cond}
 use Prim.Native.Nat.{ℕ, _<_, _≤_, _^_}
 use lib.Dec.{ltb}
 use lib.IntN.{ℤ, natAbs}

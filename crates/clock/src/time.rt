@@ -3,7 +3,7 @@ ghost use mathlib.Core.Path.{_≡_};
 ghost use Prim.Native.Nat.{_<_, _≤_, _^_};
 ghost use lib.IntN.{natAbs};
 ghost use Rattle.clock.specs.Sync.{Ready, freshClock, settled, adjustedBy, judged, sampleTaken, synchronized};
-ghost use Rattle.clock.specs.Release.{laterOf, released, releaseOf};
+ghost use Rattle.clock.specs.Release.{laterOf, releaseOf};
 ghost use Rattle.clock.specs.Ranges.{lastOk, clockOk};
 use crate::base::Adjusted;
 use crate::base::TimeBase;

@@ -1,13 +1,12 @@
 -- Circular numbers at every width: distance, order, saturating difference and sum. Each law stands here once, over w; `Both` cites it at 31 and 32.
 -- Two laws carry the rest: a lies D past b (`stepped`), and no other number below 2^w does that (`distance-is`). Assumes nothing.
 use mathlib.Core.Path.{_≡_, refl, sym, _∙_, ap}
-use mathlib.Core.Logic.{_⊎_, inl, inr}
-use mathlib.Core.Bool.{Bool, true, false, not, _&&_, _||_, cond}
+use mathlib.Core.Bool.{Bool, true, false, not, _||_}
 use Prim.Native.Nat.{ℕ, zero, suc, _+_, _-_, _*_, _/_, _%_, _^_, _<_, _≤_}
 use native.Mathlib.Nat.{mod-eq-of-lt, mod-lt, mod-mod, add-mod-mod, mod-add-mod, pow-suc, add-mul-mod-self-right, div-add-mod', suc-mul}
 use native.Mathlib.Omega.{arith}
-use borrow.Author.Tests.{ltb-true, ltb-false, leb-true, leb-false, eqb-true, eqb-false, lt-ltb, le-ltb, le-leb, lt-leb, eq-eqb, ne-eqb}
-use lib.Dec.{ltb, leb, eqb}
+use borrow.Author.Tests.{lt-ltb, le-ltb, le-leb, lt-leb, eq-eqb, ne-eqb}
+use lib.Dec.{ltb, leb}
 use lib.Pow.{pow-pos}
 use Rattle.numbers.proofs.Flags.{by-order, and-false}
 use Rattle.numbers.specs.Circular.{distance, equal, after, before, saturating, sum, successor, successors}

@@ -1,8 +1,8 @@
 -- Places and their numbers: place p, counted from 0 and never again from 0, has the number (first + p) mod 2^w, which is `sum w first p`.
 -- Places repeat their numbers exactly every 2^w, and no two of a stretch of 2^w share one. Assumes nothing.
 use mathlib.Core.Path.{_≡_, sym, _∙_, ap}
-use mathlib.Core.Bool.{true, false}
-use Prim.Native.Nat.{ℕ, _+_, _-_, _*_, _%_, _^_, _<_, _≤_}
+use mathlib.Core.Bool.{true}
+use Prim.Native.Nat.{ℕ, _+_, _-_, _*_, _^_, _<_, _≤_}
 use native.Mathlib.Nat.{add-mul-mod-self-right}
 use native.Mathlib.Omega.{arith}
 use Rattle.numbers.specs.Circular.{distance, after, before, sum}

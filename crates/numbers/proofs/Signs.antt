@@ -1,17 +1,18 @@
 -- Signed differences, remainders of signed numbers, and clamping. Assumes nothing.
-use mathlib.Core.Path.{_≡_, refl, sym, _∙_, ap}
-use mathlib.Core.Bool.{Bool, true, false, _&&_}
-use Prim.Native.Nat.{ℕ, zero, suc, _+_, _-_, _%_, _^_, _<_, _≤_}
+use mathlib.Core.Path.{_≡_, refl, sym, _∙_}
+use mathlib.Core.Bool.{true}
+use Prim.Native.Nat.{ℕ, _+_, _-_, _^_, _<_, _≤_}
 use native.Mathlib.Nat.{mod-eq-of-lt}
 use native.Mathlib.Omega.{arith}
-use borrow.Author.Tests.{ltb-true, ltb-false, leb-true, lt-ltb, le-ltb, le-leb}
-use lib.Dec.{ltb}
-use lib.Pow.{pow-pos}
-use lib.Signed.{mag, ltZ, leZ}
-use lib.IntN.{ℤ, pos, negsuc, natAbs, _+ℤ_, _-ℤ_}
+use borrow.Author.Tests.{ltb-true, lt-ltb, le-ltb, le-leb}
+use lib.Signed.{mag}
+use lib.IntN.{ℤ, pos, negsuc, natAbs, _-ℤ_}
+use mir.Syntax.{w32, w64}
+use mir.Val.{SFits}
+use mir.Facts.{sfits-widen}
 use Rattle.numbers.specs.Whole.{least, most, clamp, isReading}
 use Rattle.numbers.specs.Circular.{distance, signed, difference, wrap}
-use Rattle.numbers.proofs.Halves.{above, below, apart, same, in-range, above--, below--, halves-lt, halves-not-lt}
+use Rattle.numbers.proofs.Halves.{above, below, apart, same, above--, below--, halves-lt, halves-not-lt}
 use Rattle.numbers.proofs.Flags.{by-order}
 use Rattle.numbers.proofs.Circle.{half, distance-below}
 
@@ -85,3 +86,7 @@ clamp-in z h k = rw (halves-not-lt z least (omega (arith, apart z)), halves-not-
 pub reading-size : (z : ℤ) → isReading z ≡ true → (below z ≡ 0) × (natAbs z < 2 ^ 60)
 reading-size (pos n) e = (refl, ltb-true n (2 ^ 60) (sym (rw (le-leb 0 n (omega arith))) ∙ e))
 reading-size (negsuc n) e = absurd (let z : _≡_ {A = ℕ} 0 1 = cc in omega arith)
+
+-- a number that fits 32 bits fits 64; z₁ is z as the machine reads it back
+pub widens : {z z₁ : ℤ} → z₁ ≡ z → SFits w32 z → SFits w64 z₁
+widens p f = rw p (sfits-widen tt f)

@@ -1,15 +1,20 @@
 -- What the code of this crate does at each return, as laws over plain numbers; the proof files hand them to `search`. Assumes nothing.
 use mathlib.Core.Path.{_≡_, refl, sym, _∙_, ap}
-use mathlib.Core.Bool.{Bool, true, false, _&&_}
+use mathlib.Core.Bool.{true, false, _&&_}
 use Prim.Native.Nat.{ℕ, _+_, _-_, _%_, _^_, _<_, _≤_}
-use native.Mathlib.Nat.{mod-lt, mod-eq-of-lt, add-mod-mod, add-comm}
+use native.Mathlib.Nat.{mod-lt, add-mod-mod, add-comm}
 use native.Mathlib.Omega.{arith}
 use borrow.Author.Needs.{needs}
-use lib.Dec.{ltb, leb}
+use lib.Dec.{ltb, leb, leb·zero}
+use lib.IntN.{ℤ, pos, negsuc, natAbs}
+use lib.Signed.{mag, leZ}
+use mir.Syntax.{w64}
+use mir.Val.{Fits, SFits}
 use lib.Pow.{pow-pos, mod-mod-pow}
-use Rattle.numbers.specs.Circular.{distance, equal, after, before, saturating, sum}
+use Rattle.numbers.specs.Circular.{distance, after, before, saturating, sum, wrap}
 use Rattle.numbers.specs.Order.{order}
 use Rattle.numbers.specs.declared.seq.Order.the-variants.{Before, Equal, After}
+use Rattle.numbers.proofs.Flags.{impossible}
 use Rattle.numbers.proofs.Circle.{distance-is, equal-at, equal-not, after-at, after-not, before-test, saturating-near, saturating-far}
 
 -- a remainder at j + w bits, taken at w bits
@@ -53,4 +58,36 @@ near w a b e h = e ∙ sym (saturating-near w a b (omega arith))
 pub far : (w a b : ℕ) {d : ℕ} → d ≡ distance w a b → 2 ^ (w - 1) ≤ d → 0 ≡ saturating w a b
 far w a b e h = sym (saturating-far w a b (omega arith))
 
-pub ruleset steps = (narrow-distance, narrow-sum, is-equal, is-after, is-before, after-flag, before-flag, near, far, needs)
+-- a signed number's magnitude, size and remainder, by its sign; z₁ is z as the machine reads it back
+pub mag-above : (z : ℤ) → leZ (pos 0) z ≡ true → mag z ≡ natAbs z
+mag-above (pos n) e = refl
+mag-above (negsuc n) e = impossible (sym e)
+
+pub mag-below : (z : ℤ) → leZ (pos 0) z ≡ false → mag z + 1 ≡ natAbs z
+mag-below (pos n) e = impossible (sym (leb·zero n) ∙ e)
+mag-below (negsuc n) e = omega arith
+
+pub mag-fits : {z z₁ : ℤ} {m : ℕ} → m ≡ mag z₁ → z₁ ≡ z → SFits w64 z → Fits w64 (m + 1)
+mag-fits a p f = rw (a, p) (record { fits = omega (arith, f .sfits) })
+
+pub size-above : (z : ℤ) {z₁ z₂ : ℤ} {m : ℕ} → m ≡ mag z₁ → z₁ ≡ z → leZ (pos 0) z₂ ≡ true → z₂ ≡ z → m ≡ natAbs z
+size-above z a p e q = rw (a, p) (mag-above z (rw q at e))
+
+pub size-below : (z : ℤ) {z₁ z₂ : ℤ} {m : ℕ} → m ≡ mag z₁ → z₁ ≡ z → leZ (pos 0) z₂ ≡ false → z₂ ≡ z → m + 1 ≡ natAbs z
+size-below z a p e q = rw (a, p) (mag-below z (rw q at e))
+
+pub wrap-above : (w : ℕ) (z : ℤ) {z₁ z₂ : ℤ} {m t : ℕ}
+    → t ≡ 2 ^ w → m ≡ mag z₁ → z₁ ≡ z → leZ (pos 0) z₂ ≡ true → z₂ ≡ z
+    → m % t ≡ wrap w z
+unfolding wrap
+wrap-above w (pos n) o a p e q = rw (o, a, p)
+wrap-above w (negsuc n) o a p e q = impossible (sym (rw q at e))
+
+pub wrap-below : (w : ℕ) (z : ℤ) {z₁ z₂ : ℤ} {m t u : ℕ}
+    → t ≡ 2 ^ w → u ≡ 2 ^ w - 1 → m ≡ mag z₁ → z₁ ≡ z → leZ (pos 0) z₂ ≡ false → z₂ ≡ z
+    → u - m % t ≡ wrap w z
+unfolding wrap
+wrap-below w (pos n) o v a p e q = impossible (sym (leb·zero n) ∙ rw q at e)
+wrap-below w (negsuc n) o v a p e q = rw (o, v, a, p)
+
+pub ruleset steps = (narrow-distance, narrow-sum, is-equal, is-after, is-before, after-flag, before-flag, near, far, mag-fits, size-above, size-below, wrap-above, wrap-below, needs)

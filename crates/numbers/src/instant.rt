@@ -1,5 +1,7 @@
 // Instants and intervals, signed µs: 01, "Numbers".
 ghost use mathlib.Core.Path.{_≡_};
+ghost use lib.IntN.{natAbs};
+ghost use lib.Signed.{mag};
 ghost use Rattle.numbers.specs.Whole.{clamp, intervalOf, isReading};
 
 // A time that may be unset.
@@ -13,6 +15,24 @@ pub fn is_reading(z: i64) -> bool
     ensures { λ r. ⌜ r ≡ isReading z ⌝ }
 {
     (0 <= z) & (z < 0x1000_0000_0000_0000)
+}
+
+// z, or how far z lies below -1: half of the signed numbers each, so that every one has its u64.
+pub fn magnitude(z: i64) -> u64
+    ensures { λ r. ⌜ r ≡ mag z ⌝ }
+{
+    if 0 <= z {
+        return z as u64;
+    }
+    (-(z + 1)) as u64
+}
+
+// z without its sign.
+pub fn size(z: i64) -> u64
+    ensures { λ r. ⌜ r ≡ natAbs z ⌝ }
+{
+    let m = magnitude(z);
+    if 0 <= z { m } else { m + 1 }
 }
 
 // z cut to the signed 32-bit range.

@@ -20,13 +20,10 @@ pub fn difference(a: u32, b: u32) -> i32
     (d as i64 - 0x1_0000_0000) as i32
 }
 
-// z mod 2^32, by halves of the line, since z is not cast as it is below 0.
+// z mod 2^32.
 pub fn wrap(z: i64) -> u32
     ensures { λ r. ⌜ r ≡ wrap 32 z ⌝ }
 {
-    if 0 <= z {
-        return (z as u64 % 0x1_0000_0000) as u32;
-    }
-    let n = (-(z + 1)) as u64;
-    0xffff_ffff - (n % 0x1_0000_0000) as u32
+    let low = (crate::instant::magnitude(z) % 0x1_0000_0000) as u32;
+    if 0 <= z { low } else { 0xffff_ffff - low }
 }

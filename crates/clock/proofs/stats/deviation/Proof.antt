@@ -1,12 +1,10 @@
 -- `stats::deviation` meets its contract. Each arm's tests say where v lies. Assumes nothing.
-use mathlib.Core.Path.{_≡_, sym, _∙_, ap, subst}
-use mathlib.Core.Bool.{Bool, true, false}
-use Prim.Native.Nat.{ℕ, _≤_, min}
+use mathlib.Core.Path.{sym, _∙_, ap, subst}
+use Prim.Native.Nat.{ℕ, min}
 use native.Mathlib.Omega.{arith}
 use borrow.Author.Needs.{needs}
 use lib.Dec.{T, lit≤, lit<}
-use lib.IntN.{pos}
-use lib.Ieee.{ofBits, neg, toUnsigned}
+use lib.Ieee.{ofBits, neg}
 use Rattle.clock.specs.Root.{root}
 use Rattle.clock.specs.Samples.{deviationOf}
 use Rattle.clock.proofs.Roots.{root-least, root-below}

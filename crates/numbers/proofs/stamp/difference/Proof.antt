@@ -1,5 +1,5 @@
 -- `stamp::difference` meets its contract: from 2^31 on, the distance less 2^32 is the signed number. Assumes nothing.
-use mathlib.Core.Path.{_≡_, sym, _∙_, ap}
+use mathlib.Core.Path.{sym, _∙_, ap}
 use Prim.Native.Nat.{ℕ, _<_, _≤_, _^_}
 use native.Mathlib.Omega.{arith}
 use borrow.Author.Needs.{needs}
@@ -8,7 +8,7 @@ use mir.Syntax.{w32, w64}
 use mir.Val.{SFits}
 use mir.Facts.{toZ-ofZ, toZ-pos, sfits-widen}
 use Rattle.numbers.specs.Circular.{distance, difference, signed}
-use Rattle.numbers.proofs.Halves.{above, below, in-range, above--, below--}
+use Rattle.numbers.proofs.Halves.{in-range, above--, below--}
 use Rattle.numbers.proofs.Signs.{signed-low, signed-high}
 use Rattle.numbers.proofs.stamp.difference.Statement.{statement}
 use Rattle.numbers.proofs.stamp.difference.Tie as tie

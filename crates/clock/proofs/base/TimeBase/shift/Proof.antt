@@ -1,9 +1,8 @@
 -- `TimeBase::shift` meets its contract: the difference fits. Assumes nothing.
-use Prim.Native.Nat.{_≤_, _^_}
 use native.Mathlib.Omega.{arith}
-use lib.IntN.{ℤ, natAbs, _-ℤ_}
-use mir.Syntax.{w32, w64}
-use mir.Val.{SFits, toZ, ofZ}
+use lib.IntN.{ℤ, _-ℤ_}
+use mir.Syntax.{w64}
+use mir.Val.{SFits}
 use mir.Facts.{toZ-ofZ, sfits-widen}
 use Rattle.numbers.proofs.Halves.{size--, fits-size, size-fits}
 use Rattle.clock.specs.Base.{shifted}
