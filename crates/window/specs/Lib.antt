@@ -1,0 +1,2 @@
+-- The definitions of the window, in the order of 01, "Window".
+pub mod Window
