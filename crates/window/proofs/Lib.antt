@@ -1,2 +1,3 @@
 -- The laws of the window.
 pub mod Walks
+pub mod Copies

@@ -1,2 +1,4 @@
 -- The definitions of the window, in the order of 01, "Window".
 pub mod Window
+pub mod Pop
+pub mod Report

@@ -1,4 +1,8 @@
 // The window over lent areas, buffer.rs: 01, "Window". The numbers of the window are a value, its entries lie in lent words and bytes.
+pub mod copy;
+pub mod pop;
+pub mod report;
+
 ghost use mathlib.Core.Path.{_≡_};
 ghost use Prim.Native.Nat.{_-_, _<_, _≤_};
 ghost use Rattle.window.specs.Window.{Ring, Good, nextOf, numberIn, firstGap, lrsnFrom, cut, roomOf};
