@@ -1,14 +1,16 @@
 -- Circular numbers at every width: distance, order, saturating difference and sum. Each law stands here once, over w; `Both` cites it at 31 and 32.
 -- Two laws carry the rest: a lies D past b (`stepped`), and no other number below 2^w does that (`distance-is`). Assumes nothing.
 use mathlib.Core.Path.{_≡_, refl, sym, _∙_, ap}
-use mathlib.Core.Bool.{Bool, true, false, not, _||_}
+use mathlib.Core.Bool.{cond, Bool, true, false, not, _||_}
 use Prim.Native.Nat.{ℕ, zero, suc, _+_, _-_, _*_, _/_, _%_, _^_, _<_, _≤_}
 use native.Mathlib.Nat.{mod-eq-of-lt, mod-lt, mod-mod, add-mod-mod, mod-add-mod, pow-suc, add-mul-mod-self-right, div-add-mod', suc-mul}
 use native.Mathlib.Omega.{arith}
-use borrow.Author.Tests.{lt-ltb, le-ltb, le-leb, lt-leb, eq-eqb, ne-eqb}
+use borrow.Author.Tests.{leb-true, leb-false, lt-ltb, le-ltb, le-leb, lt-leb, eq-eqb, ne-eqb}
 use lib.Dec.{ltb, leb}
 use lib.Pow.{pow-pos}
 use Rattle.numbers.proofs.Flags.{by-order, and-false}
+use Rattle.numbers.specs.Order.{order}
+use Rattle.numbers.specs.declared.seq.Order.the-variants.{Before, Equal, After}
 use Rattle.numbers.specs.Circular.{distance, equal, after, before, saturating, sum, successor, successors}
 
 -- b, then n, then what b lacks of a whole turn: n is left
@@ -207,3 +209,30 @@ saturating-sum w b {n} hw h =
 pub sum-saturating : (w : ℕ) {a : ℕ} (b : ℕ) → a < 2 ^ w → before w a b ≡ false → sum w b (saturating w a b) ≡ a
 unfolding sum saturating
 sum-saturating w {a} b ha e = rw e (stepped w a b ∙ mod-eq-of-lt ha)
+
+sum-past : (w s h d : ℕ) → (sum w s h + d) % 2 ^ w ≡ (s + h + d) % 2 ^ w
+unfolding sum
+sum-past w s h d = mod-add-mod (s + h) (2 ^ w) d
+
+-- a number that is not before s, and before the one h past s, lies less than h past s
+pub within : (w n s h : ℕ) → before w n (sum w s h) ≡ true → before w n s ≡ false → distance w n s < h
+within w n s h b f =
+    let i = distance w n s in
+    let far = leb-true (2 ^ (w - 1)) (distance w n (sum w s h)) (sym (before-test w n (sum w s h)) ∙ b) in
+    let near = leb-false (2 ^ (w - 1)) i (sym (before-test w n s) ∙ f) in
+    by-order i h
+    (λ l. l)
+    (λ l.
+    let e : s + h + (i - h) ≡ s + i = omega arith in
+    let d : distance w n (sum w s h) ≡ i - h = distance-is w n (sum w s h) (i - h) (omega (arith, distance-below w n s)) (sum-past w s h (i - h) ∙ ap (λ (x : ℕ). x % 2 ^ w) e ∙ stepped w n s) in
+    absurd (omega arith))
+
+-- an order tells its test
+pub order-before : (w a b : ℕ) → order w a b ≡ Before → before w a b ≡ true
+unfolding order before
+order-before w a b e = go (equal w a b) (after w a b) e
+  where
+    go : (x y : Bool) → cond x Equal (cond y After Before) ≡ Before → not (x || y) ≡ true
+    go true y e = absurd (let z : _≡_ {A = ℕ} 0 1 = cc in omega arith)
+    go false true e = absurd (let z : _≡_ {A = ℕ} 0 1 = cc in omega arith)
+    go false false e = refl

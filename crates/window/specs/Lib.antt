@@ -1,4 +1,5 @@
 -- The definitions of the window, in the order of 01, "Window".
 pub mod Window
+pub mod Push
 pub mod Pop
 pub mod Report
