@@ -3,3 +3,4 @@ pub mod Window
 pub mod Push
 pub mod Pop
 pub mod Report
+pub mod Show

@@ -3,6 +3,7 @@ pub mod copy;
 pub mod pop;
 pub mod push;
 pub mod report;
+pub mod show;
 
 ghost use mathlib.Core.Path.{_≡_};
 ghost use Prim.Native.Nat.{_-_, _<_, _≤_};
