@@ -1,0 +1,4 @@
+-- What each operation of the window does to the list of entries.
+pub mod Lists
+pub mod Gaps
+pub mod Pushes

@@ -1,0 +1,136 @@
+-- What a push does to the list of entries, to the ranges and to lrsn. Assumes nothing.
+use mathlib.Core.Path.{_≡_, refl, ap, sym, _∙_}
+use mathlib.Core.Bool.{Bool, true, false, cond}
+use mathlib.Core.List.{List, [], _∷_, _++_, append-assoc, append-nil}
+use Prim.Native.Nat.{ℕ, zero, suc, _+_, _-_, _*_, _^_, _<_, _≤_}
+use native.Mathlib.Numerals.{add-one}
+use native.Mathlib.Omega.{arith}
+use borrow.Author.Tests.{eqb-true, eqb-false, ltb-true, ltb-false}
+use lib.Dec.{eqb, ltb}
+use lib.ListN.{length, getD, set, replicate, replicate-append-replicate}
+use Rattle.numbers.specs.Circular.{distance, before, sum}
+use Rattle.numbers.specs.Order.{order}
+use Rattle.numbers.specs.declared.seq.Order.{Order}
+use Rattle.numbers.specs.declared.seq.Order.the-variants.{Before, Equal, After}
+use Rattle.numbers.proofs.Flags.{by-test}
+use Rattle.numbers.proofs.Circle.{within, order-before}
+use Rattle.slots.specs.Words as words
+use Rattle.slots.specs.Words.{Fit, entryAt, writeAt}
+use Rattle.slots.specs.Ring.{slotOf, withPayload}
+use Rattle.slots.specs.declared.entry.Entry.{Entry}
+use Rattle.slots.specs.declared.entry.Entry.the-variants.{Lost, Received, GivenUp}
+use Rattle.slots.proofs.Laws.{length-write, length-payload, read-same, payload-same, slot-lt, slot-apart}
+use Rattle.window.specs.Window.{Good, Bytes, slotIn, entryIn, nextOf, numberIn, withLrsn, roomOf}
+use Rattle.window.specs.Push as push
+use Rattle.window.specs.Push.{PushOutcome, Right, withLost, grown, appendNextOf, appendWithLossOf, recoveredOf, recoverOf, pushOf}
+use Rattle.window.specs.declared.Window.{Window}
+use Rattle.window.specs.declared.push.Packet.{Packet}
+use Rattle.window.specs.declared.push.PushAnswer.{PushAnswer}
+use Rattle.window.specs.declared.push.PushAnswer.the-variants as answers
+use Rattle.window.proofs.Pushes.{length-lost}
+use Rattle.views.specs.View.{Seen, lost, seenOf, seenAt, entriesFrom, entries, packetSeen, afterPush}
+use Rattle.views.proofs.Lists.{seen-other, seen-words, entries-length, entries-at, one-more, one-changed}
+
+module _ (w : Window) (ws bs : List ℕ) (time : ℕ) (p : Packet) (payload : List ℕ) (g : Good w ws) (gb : Bytes w bs) (r : Right p payload) (ht : time < 2 ^ 60) (hs : p .stamp < 2 ^ 32) where
+  abbrev es : List Seen
+  es = entries w ws bs
+
+  abbrev e : Entry
+  e = push.received p payload
+
+  fit : Fit e
+  fit = omega arith
+
+  in-area : (i : ℕ) → 1456 * slotIn w i + 1456 ≤ length bs
+  in-area i = omega (arith, slot-lt (w .capacity) (w .start) i (g .some))
+
+  in-words : (i : ℕ) (vs : List ℕ) → length vs ≡ length ws → 3 * slotIn w i + 3 ≤ length vs
+  in-words i vs h = omega (arith, slot-lt (w .capacity) (w .start) i (g .some))
+
+  -- the packet's own slot, and another's
+  own : (i : ℕ) (vs : List ℕ) → length vs ≡ length ws → seenAt (writeAt vs (slotIn w i) e) (withPayload bs (slotIn w i) payload) (slotIn w i) ≡ packetSeen p payload
+  own i vs h = rw (read-same vs (slotIn w i) e (in-words i vs h) fit, payload-same bs (slotIn w i) payload (r .bytes) (in-area i))
+
+  other : (i j : ℕ) (vs : List ℕ) → i < w .capacity → j < w .capacity → (j ≡ i → ⊥)
+      → seenAt (writeAt vs (slotIn w i) e) (withPayload bs (slotIn w i) payload) (slotIn w j) ≡ seenAt vs bs (slotIn w j)
+  other i j vs hi hj ne = seen-other vs bs (slotIn w i) e payload (slotIn w j) (r .bytes) (in-area i) (slot-apart (w .capacity) (w .start) (g .starts) j i hj hi ne)
+
+  abbrev Seen-after : PushOutcome → Type 0
+  Seen-after o = entries (o .pushed .window) (o .slots) (o .payloads) ≡ afterPush w time p payload es (o .pushed .answer)
+
+  -- at the next expected number: one entry more
+  next-seen : Seen-after (appendNextOf w ws bs time p payload)
+  unfolding appendNextOf
+  next-seen =
+      by-test Seen-after (eqb (w .held) (w .capacity)) _ _
+      (λ t. refl)
+      (λ t.
+      let ne = eqb-false (w .held) (w .capacity) t in
+      let k = w .held in
+      one-more (w .capacity) (w .start) ws bs (writeAt ws (slotIn w k) e) (withPayload bs (slotIn w k) payload) k (λ j h. other k j ws (omega (arith, ne)) (omega arith) (omega arith))
+      ∙ ap (λ (x : Seen). es ++ (x ∷ [])) (own k ws refl))
+
+  -- after it: a run of lost entries ..
+  lost-seen : (n : ℕ) → w .held + n ≤ w .capacity
+      → entriesFrom (w .capacity) (w .start) (withLost (w .capacity) (w .start) ws time (w .held) n) bs 0 (w .held + n) ≡ es ++ replicate n (lost 2 time)
+  unfolding withLost
+  lost-seen zero h =
+      let z : w .held + 0 ≡ w .held = omega arith in
+      rw z (sym (append-nil es))
+  lost-seen (suc n) h =
+      let k = w .held + n in
+      let vs = withLost (w .capacity) (w .start) ws time (w .held) n in
+      let z : w .held + suc n ≡ k + 1 = omega arith in
+      let own : seenAt (writeAt vs (slotIn w k) (Lost 2 time)) bs (slotIn w k) ≡ lost 2 time = rw (read-same vs (slotIn w k) (Lost 2 time) (in-words k vs (length-lost (w .capacity) (w .start) ws time (w .held) n)) (omega arith)) in
+      rw z
+      (one-more (w .capacity) (w .start) vs bs (writeAt vs (slotIn w k) (Lost 2 time)) bs k (λ j l. seen-words vs bs (slotIn w k) (Lost 2 time) (slotIn w j) (slot-apart (w .capacity) (w .start) (g .starts) j k (omega arith) (omega arith) (omega arith)))
+      ∙ rw (own, lost-seen n (omega arith)) (append-assoc es (replicate n (lost 2 time)) (lost 2 time ∷ []) ∙ ap (λ (l : List Seen). es ++ l) (snoc n)))
+    where
+      snoc : (n : ℕ) → replicate n (lost 2 time) ++ (lost 2 time ∷ []) ≡ replicate (suc n) (lost 2 time)
+      snoc n = replicate-append-replicate n 1 (lost 2 time) ∙ rw add-one
+
+  -- .. and then the packet
+  loss-seen : Seen-after (appendWithLossOf w ws bs time p payload (distance 31 (p .number) (nextOf w)))
+  unfolding appendWithLossOf
+  loss-seen =
+      let gap = distance 31 (p .number) (nextOf w) in
+      let k = w .held + gap in
+      let vs = withLost (w .capacity) (w .start) ws time (w .held) gap in
+      let z : w .held + (gap + 1) ≡ k + 1 = omega arith in
+      by-test Seen-after (ltb (roomOf w) (gap + 1)) _ _
+      (λ t. refl)
+      (λ t.
+      let l = ltb-false (roomOf w) (gap + 1) t in
+      rw z
+      (one-more (w .capacity) (w .start) vs bs (writeAt vs (slotIn w k) e) (withPayload bs (slotIn w k) payload) k (λ j h. other k j vs (omega arith) (omega arith) (omega arith))
+      ∙ rw (own k vs (length-lost (w .capacity) (w .start) ws time (w .held) gap), lost-seen gap (omega arith))))
+
+  -- before it: one entry, which was lost, is the packet
+  recovered-seen : (i : ℕ) → i ≡ distance 31 (p .number) (w .seqno0) → i < w .held → Seen-after (recoveredOf w ws bs time p payload i)
+  unfolding recoveredOf
+  recovered-seen i d h =
+      let z : 0 + i ≡ i = omega arith in
+      rw (← d)
+      (one-changed (w .capacity) (w .start) ws bs (writeAt ws (slotIn w i) e) (withPayload bs (slotIn w i) payload) (w .held) 0 i h (λ j ne a b. other i j ws (omega arith) (omega arith) (omega (arith, ne)))
+      ∙ rw z (ap (λ (x : Seen). set es i x) (own i ws refl)))
+
+  recover-seen : before 31 (p .number) (nextOf w) ≡ true → Seen-after (recoverOf w ws bs time p payload)
+  unfolding recoverOf
+  recover-seen b =
+      by-test Seen-after (before 31 (p .number) (w .seqno0)) _ _
+      (λ t. refl)
+      (λ t.
+      let i = distance 31 (p .number) (w .seqno0) in
+      by-test Seen-after (words.isLost (entryIn w ws i)) _ _
+      (λ u. recovered-seen i refl (within 31 (p .number) (w .seqno0) (w .held) b t))
+      (λ u. refl))
+
+  -- a push, by its answer
+  pub push-seen : Seen-after (pushOf w ws bs time p payload)
+  unfolding pushOf
+  push-seen = go (order 31 (p .number) (nextOf w)) refl
+    where
+      go : (o : Order) → order 31 (p .number) (nextOf w) ≡ o → Seen-after (push.byOrder w ws bs time p payload o)
+      go Equal q = next-seen
+      go After q = loss-seen
+      go Before q = recover-seen (order-before 31 (p .number) (nextOf w) q)

@@ -1,0 +1,2 @@
+-- The window's entries as a list.
+pub mod View

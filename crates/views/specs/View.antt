@@ -1,0 +1,65 @@
+-- The entries of a window as a list, front first: what a reader of 01, "Window", thinks of.
+use mathlib.Core.Path.{_≡_}
+use mathlib.Core.Bool.{Bool, true, false, cond}
+use mathlib.Core.List.{List, [], _∷_, _++_}
+use Prim.Native.Nat.{ℕ, zero, suc}
+use lib.ListN.{set, replicate}
+use Rattle.numbers.specs.Circular.{distance}
+use Rattle.slots.specs.Words.{entryAt}
+use Rattle.slots.specs.Ring.{slotOf, payloadAt}
+use Rattle.slots.specs.declared.entry.Entry.{Entry}
+use Rattle.slots.specs.declared.entry.Entry.the-variants.{Lost, Received, GivenUp}
+use Rattle.window.specs.Window.{numberIn, nextOf}
+use Rattle.window.specs.declared.Window.{Window}
+use Rattle.window.specs.declared.push.Packet.{Packet}
+use Rattle.window.specs.declared.push.PushAnswer.{PushAnswer}
+use Rattle.window.specs.declared.push.PushAnswer.the-variants as answers
+
+-- an entry with its bytes
+pub data Seen : Type 0 where
+  lost : ℕ → ℕ → Seen
+  received : ℕ → ℕ → ℕ → List ℕ → Seen
+  givenUp : Seen
+
+abbrev pub seenOf : List ℕ → ℕ → Entry → Seen
+seenOf bs s (Lost k f) = lost k f
+seenOf bs s (Received n l m t) = received l m t (payloadAt bs s n)
+seenOf bs s GivenUp = givenUp
+
+abbrev pub seenAt : List ℕ → List ℕ → ℕ → Seen
+seenAt ws bs s = seenOf bs s (entryAt ws s)
+
+-- the n entries from entry i on
+unfoldable pub entriesFrom : ℕ → ℕ → List ℕ → List ℕ → ℕ → ℕ → List Seen
+entriesFrom capacity start ws bs i zero = []
+entriesFrom capacity start ws bs i (suc n) = seenAt ws bs (slotOf capacity start i) ∷ entriesFrom capacity start ws bs (suc i) n
+
+abbrev pub entries : Window → List ℕ → List ℕ → List Seen
+entries w ws bs = entriesFrom (w .capacity) (w .start) ws bs 0 (w .held)
+
+abbrev pub isReceived : Seen → Bool
+isReceived (lost k f) = false
+isReceived (received l m t b) = true
+isReceived givenUp = false
+
+-- how many entries are received before the first that is not
+unfoldable pub gapIn : List Seen → ℕ
+gapIn [] = 0
+gapIn (e ∷ es) = cond (isReceived e) (suc (gapIn es)) 0
+
+-- lrsn names the first held entry not received, else the next expected number
+abbrev pub LrsnRight : Window → List Seen → Type 0
+LrsnRight w es = w .lrsn ≡ numberIn w (gapIn es)
+
+-- what a push does to the list, by its answer
+abbrev pub packetSeen : Packet → List ℕ → Seen
+packetSeen p payload = received (p .location) (p .message) (p .stamp) payload
+
+abbrev pub afterPush : Window → ℕ → Packet → List ℕ → List Seen → PushAnswer → List Seen
+afterPush w time p payload es (answers.Got lrsn true) = set es (distance 31 (p .number) (w .seqno0)) (packetSeen p payload)
+afterPush w time p payload es (answers.Got lrsn false) = es ++ (packetSeen p payload ∷ [])
+afterPush w time p payload es (answers.Loss first last) = es ++ replicate (distance 31 (p .number) (nextOf w)) (lost 2 time) ++ (packetSeen p payload ∷ [])
+afterPush w time p payload es answers.BufferFull = es
+afterPush w time p payload es (answers.PacketTooEarly room need) = es
+afterPush w time p payload es answers.PacketTooLate = es
+afterPush w time p payload es answers.DiscardedDuplicate = es
