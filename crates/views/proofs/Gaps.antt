@@ -88,3 +88,12 @@ gap-drop (suc n) (givenUp ∷ es) h = absurd (omega arith)
 -- the gap is found from any entry up to it
 pub gap-from : (n : ℕ) (es : List Seen) → n ≤ gapIn es → n + gapIn (drop n es) ≡ gapIn es
 gap-from n es h = let r = gap-drop n es h in omega arith
+
+-- changing the entry at the gap moves it no nearer
+pub gap-set-at : (i : ℕ) (es : List Seen) (e : Seen) → i ≤ gapIn es → i ≤ gapIn (set es i e)
+unfolding gapIn
+gap-set-at zero es e h = omega arith
+gap-set-at (suc i) [] e h = absurd (omega arith)
+gap-set-at (suc i) (lost k f ∷ es) e h = absurd (omega arith)
+gap-set-at (suc i) (received l m t b ∷ es) e h = let r = gap-set-at i es e (omega arith) in omega arith
+gap-set-at (suc i) (givenUp ∷ es) e h = absurd (omega arith)

@@ -2,3 +2,4 @@
 pub mod Lists
 pub mod Gaps
 pub mod Pushes
+pub mod PushKeeps
