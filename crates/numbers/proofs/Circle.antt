@@ -1,15 +1,16 @@
 -- Circular numbers at every width: distance, order, saturating difference and sum. Each law stands here once, over w; `Both` cites it at 31 and 32.
 -- Two laws carry the rest: a lies D past b (`stepped`), and no other number below 2^w does that (`distance-is`). Assumes nothing.
-use mathlib.Core.Path.{_≡_, refl, sym, _∙_, ap}
+use mathlib.Core.Path.{_≡_, refl, sym, _∙_, ap, subst}
 use mathlib.Core.Bool.{cond, Bool, true, false, not, _||_}
 use Prim.Native.Nat.{ℕ, zero, suc, _+_, _-_, _*_, _/_, _%_, _^_, _<_, _≤_}
 use native.Mathlib.Nat.{mod-eq-of-lt, mod-lt, mod-mod, add-mod-mod, mod-add-mod, pow-suc, add-mul-mod-self-right, div-add-mod', suc-mul}
 use native.Mathlib.Omega.{arith}
-use borrow.Author.Tests.{leb-true, leb-false, lt-ltb, le-ltb, le-leb, lt-leb, eq-eqb, ne-eqb}
+use borrow.Author.Tests.{leb-true, leb-false, lt-ltb, le-ltb, le-leb, lt-leb, eq-eqb, ne-eqb, eqb-true, ltb-true}
 use lib.Dec.{ltb, leb}
 use lib.Pow.{pow-pos}
-use Rattle.numbers.proofs.Flags.{by-order, and-false}
+use Rattle.numbers.proofs.Flags.{and-left, and-right, by-order, and-false}
 use Rattle.numbers.specs.Order.{order}
+use Rattle.numbers.specs.declared.seq.Order.{Order}
 use Rattle.numbers.specs.declared.seq.Order.the-variants.{Before, Equal, After}
 use Rattle.numbers.specs.Circular.{distance, equal, after, before, saturating, sum, successor, successors}
 
@@ -228,11 +229,26 @@ within w n s h b f =
     absurd (omega arith))
 
 -- an order tells its test
+abbrev Told : Order → Bool → Bool → Type 0
+Told Equal x y = x ≡ true
+Told After x y = (x ≡ false) × (y ≡ true)
+Told Before x y = not (x || y) ≡ true
+
+order-tells : (x y : Bool) (o : Order) → cond x Equal (cond y After Before) ≡ o → Told o x y
+order-tells true y o e = subst (λ (o : Order). Told o true y) e refl
+order-tells false true o e = subst (λ (o : Order). Told o false true) e (refl, refl)
+order-tells false false o e = subst (λ (o : Order). Told o false false) e refl
+
 pub order-before : (w a b : ℕ) → order w a b ≡ Before → before w a b ≡ true
 unfolding order before
-order-before w a b e = go (equal w a b) (after w a b) e
-  where
-    go : (x y : Bool) → cond x Equal (cond y After Before) ≡ Before → not (x || y) ≡ true
-    go true y e = absurd (let z : _≡_ {A = ℕ} 0 1 = cc in omega arith)
-    go false true e = absurd (let z : _≡_ {A = ℕ} 0 1 = cc in omega arith)
-    go false false e = refl
+order-before w a b e = order-tells (equal w a b) (after w a b) Before e
+
+pub order-equal : (w a b : ℕ) → order w a b ≡ Equal → distance w a b ≡ 0
+unfolding order equal
+order-equal w a b e = eqb-true (distance w a b) 0 (order-tells (equal w a b) (after w a b) Equal e)
+
+pub order-after : (w a b : ℕ) → order w a b ≡ After → (0 < distance w a b) × (distance w a b < 2 ^ (w - 1))
+unfolding order after
+order-after w a b e =
+    let t = order-tells (equal w a b) (after w a b) After e .1 in
+    (ltb-true 0 (distance w a b) (and-left _ _ t), ltb-true (distance w a b) (2 ^ (w - 1)) (and-right (ltb 0 (distance w a b)) _ t))

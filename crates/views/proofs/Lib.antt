@@ -3,3 +3,4 @@ pub mod Lists
 pub mod Gaps
 pub mod Pushes
 pub mod PushKeeps
+pub mod PushLrsn

@@ -35,7 +35,7 @@ use Rattle.views.specs.View.{Seen, lost, seenOf, seenAt, entriesFrom, en
 use Rattle.views.proofs.Lists.{seen-other, seen-words, entries-length, entries-at, one-more, one-changed}
 
 module _ (w : Window) (ws bs : List ℕ) (time : ℕ) (p : Packet) (payload : List ℕ) (g : Good w ws) (gb : Bytes w bs) (r : Right p payload) (ht : time < 2 ^ 60) (hs : p .stamp < 2 ^ 32) where
-  abbrev es : List Seen
+  abbrev pub es : List Seen
   es = entries w ws bs
 
   abbrev e : Entry
@@ -58,11 +58,11 @@ module _ (w : Window) (ws bs : List ℕ) (time : ℕ) (p : Packet) (payload : Li
       → seenAt (writeAt vs (slotIn w i) e) (withPayload bs (slotIn w i) payload) (slotIn w j) ≡ seenAt vs bs (slotIn w j)
   other i j vs hi hj ne = seen-other vs bs (slotIn w i) e payload (slotIn w j) (r .bytes) (in-area i) (slot-apart (w .capacity) (w .start) (g .starts) j i hj hi ne)
 
-  abbrev Seen-after : PushOutcome → Type 0
+  abbrev pub Seen-after : PushOutcome → Type 0
   Seen-after o = entries (o .pushed .window) (o .slots) (o .payloads) ≡ afterPush w time p payload es (o .pushed .answer)
 
   -- at the next expected number: one entry more
-  next-seen : Seen-after (appendNextOf w ws bs time p payload)
+  pub next-seen : Seen-after (appendNextOf w ws bs time p payload)
   unfolding appendNextOf
   next-seen =
       by-test Seen-after (eqb (w .held) (w .capacity)) _ _
@@ -93,7 +93,7 @@ module _ (w : Window) (ws bs : List ℕ) (time : ℕ) (p : Packet) (payload : Li
       snoc n = replicate-append-replicate n 1 (lost 2 time) ∙ rw add-one
 
   -- .. and then the packet
-  loss-seen : Seen-after (appendWithLossOf w ws bs time p payload (distance 31 (p .number) (nextOf w)))
+  pub loss-seen : Seen-after (appendWithLossOf w ws bs time p payload (distance 31 (p .number) (nextOf w)))
   unfolding appendWithLossOf
   loss-seen =
       let gap = distance 31 (p .number) (nextOf w) in
@@ -109,7 +109,7 @@ module _ (w : Window) (ws bs : List ℕ) (time : ℕ) (p : Packet) (payload : Li
       ∙ rw (own k vs (length-lost (w .capacity) (w .start) ws time (w .held) gap), lost-seen gap (omega arith))))
 
   -- before it: one entry, which was lost, is the packet
-  recovered-seen : (i : ℕ) → i ≡ distance 31 (p .number) (w .seqno0) → i < w .held → Seen-after (recoveredOf w ws bs time p payload i)
+  pub recovered-seen : (i : ℕ) → i ≡ distance 31 (p .number) (w .seqno0) → i < w .held → Seen-after (recoveredOf w ws bs time p payload i)
   unfolding recoveredOf
   recovered-seen i d h =
       let z : 0 + i ≡ i = omega arith in
