@@ -124,9 +124,9 @@ module _ (w : Window) (ws bs : List ℕ) (time : ℕ) (p : Packet) (payload : Li
       let z : 0 + i ≡ i = omega arith in
       let q : i + (w .held - i) ≡ w .held = omega arith in
       let back : drop i after ≡ entriesFrom (w .capacity) (w .start) ws₁ bs₁ i (w .held - i) =
-          ap (λ (x : ℕ). drop i (entriesFrom (w .capacity) (w .start) ws₁ bs₁ 0 x)) (sym q)
-          ∙ entries-drop (w .capacity) (w .start) ws₁ bs₁ i (w .held - i) 0
-          ∙ ap (λ (x : ℕ). entriesFrom (w .capacity) (w .start) ws₁ bs₁ x (w .held - i)) z in
+      ap (λ (x : ℕ). drop i (entriesFrom (w .capacity) (w .start) ws₁ bs₁ 0 x)) (sym q)
+      ∙ entries-drop (w .capacity) (w .start) ws₁ bs₁ i (w .held - i) 0
+      ∙ ap (λ (x : ℕ). entriesFrom (w .capacity) (w .start) ws₁ bs₁ x (w .held - i)) z in
       by-test (λ (x : ℕ). x ≡ numberIn w (gapIn after)) (eqb (w .lrsn) (p .number)) (lrsnFrom w ws₁ i) (w .lrsn)
       (λ t.
       let f : gapIn es ≡ i = apart (gapIn es) i (omega (arith, gap-held)) (omega arith) (sym l ∙ eqb-true (w .lrsn) (p .number) t ∙ n) in

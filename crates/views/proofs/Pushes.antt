@@ -157,9 +157,9 @@ module _ (w : Window) (ws bs : List ℕ) (time : ℕ) (p : Packet) (payload : Li
       let n = w .held - index in
       let z : index + n ≡ w .held = omega arith in
       let d : distance 31 (nextOf w) (p .number) ≡ n =
-          ap (λ (x : ℕ). distance 31 (numberIn w x) (p .number)) (sym z)
-          ∙ ap (λ (x : ℕ). distance 31 (numberIn w (index + n)) x) number-is
-          ∙ place-distance 31 (w .seqno0) index n (omega arith) in
+      ap (λ (x : ℕ). distance 31 (numberIn w x) (p .number)) (sym z)
+      ∙ ap (λ (x : ℕ). distance 31 (numberIn w (index + n)) x) number-is
+      ∙ place-distance 31 (w .seqno0) index n (omega arith) in
       let o = around 31 (nextOf w) (p .number) (omega arith) in
       sym (is-before 31 (p .number) (nextOf w) refl (omega arith) (omega arith))
 

@@ -12,7 +12,7 @@ use Rattle.numbers.specs.Circular.{distance, before, sum, successor}
 use Rattle.numbers.specs.Order.{order}
 use Rattle.numbers.specs.declared.seq.Order.{Order}
 use Rattle.numbers.specs.declared.seq.Order.the-variants.{Before, Equal, After}
-use Rattle.numbers.proofs.Circle.{distance-below, within, order-before}
+use Rattle.numbers.proofs.Circle.{distance-below, before-at, before-not, within, order-before}
 use Rattle.slots.specs.Words.{isLost, entryAt, writeAt}
 use Rattle.slots.specs.Ring.{slotOf, nextSlot, withPayload}
 use Rattle.slots.specs.declared.entry.Entry.{Entry}
@@ -103,26 +103,26 @@ module _ (w : Window) (ws bs : List ℕ) (time : ℕ) (p : Packet) (payload : Li
   unfolding recoveredOf
   recovered i d j k l = rw (← d, ← j, ← k, ← l)
 
-  pub too-late : {t : Bool} → t ≡ before 31 (p .number) (w .seqno0) → t ≡ true → refused w ws bs time p payload answers.PacketTooLate ≡ recoverOf w ws bs time p payload
+  pub too-late : {i : ℕ} → i ≡ distance 31 (p .number) (w .seqno0) → 2 ^ 30 ≤ i → refused w ws bs time p payload answers.PacketTooLate ≡ recoverOf w ws bs time p payload
   unfolding recoverOf
-  too-late e f = rw (← e, f)
+  too-late c h = rw (before-at 31 (p .number) (w .seqno0) (omega arith))
 
-  module _ {t u : Bool} {i s : ℕ} {e : Entry} (a : t ≡ before 31 (p .number) (w .seqno0)) (b : t ≡ false)
-      (c : i ≡ distance 31 (p .number) (w .seqno0)) (d : s ≡ slotIn w i) (f : e ≡ entryAt ws s) (g : u ≡ isLost e) where
+  module _ {u : Bool} {i s : ℕ} {e : Entry} (c : i ≡ distance 31 (p .number) (w .seqno0)) (b : i < 2 ^ 30) (d : s ≡ slotIn w i) (f : e ≡ entryAt ws s) (g : u ≡ isLost e) where
     pub recovers : {r : PushOutcome} → u ≡ true → r ≡ recoveredOf w ws bs time p payload i → r ≡ recoverOf w ws bs time p payload
     unfolding recoverOf
-    recovers h j = rw (← a, b, ← c, ← d, ← f, ← g, h) j
+    recovers h j = rw (before-not 31 (p .number) (w .seqno0) (omega arith), ← c, ← d, ← f, ← g, h) j
 
     pub duplicate : u ≡ false → refused w ws bs time p payload answers.DiscardedDuplicate ≡ recoverOf w ws bs time p payload
     unfolding recoverOf
-    duplicate h = rw (← a, b, ← c, ← d, ← f, ← g, h)
+    duplicate h = rw (before-not 31 (p .number) (w .seqno0) (omega arith), ← c, ← d, ← f, ← g, h)
 
   -- an entry that is not before the first number, of a number before the next expected, is held
-  pub inside : {t : Bool} {i : ℕ} → t ≡ before 31 (p .number) (w .seqno0) → t ≡ false → i ≡ distance 31 (p .number) (w .seqno0) → before 31 (p .number) (nextOf w) ≡ true → i ≤ w .held
-  inside a b c d = omega (arith, within 31 (p .number) (w .seqno0) (w .held) d (sym a ∙ b))
+  module _ {i : ℕ} (c : i ≡ distance 31 (p .number) (w .seqno0)) (b : i < 2 ^ 30) (d : before 31 (p .number) (nextOf w) ≡ true) where
+    pub inside : i ≤ w .held
+    inside = omega (arith, within 31 (p .number) (w .seqno0) (w .held) d (before-not 31 (p .number) (w .seqno0) (omega arith)))
 
-  pub inside-capacity : {t : Bool} {i : ℕ} → t ≡ before 31 (p .number) (w .seqno0) → t ≡ false → i ≡ distance 31 (p .number) (w .seqno0) → before 31 (p .number) (nextOf w) ≡ true → w .held ≤ w .capacity → i ≤ w .capacity
-  inside-capacity a b c d h = omega (arith, within 31 (p .number) (w .seqno0) (w .held) d (sym a ∙ b))
+    pub inside-capacity : w .held ≤ w .capacity → i ≤ w .capacity
+    inside-capacity h = let k = inside in omega arith
 
   -- push
   pub gap-below : (n : ℕ) {gap : ℕ} → gap ≡ distance 31 (p .number) n → gap < 2 ^ 31

@@ -220,13 +220,14 @@ fn recover(
     requires { ⌜ Good w (now words) × Bytes w (now bytes) × Right p (now payload) × (before 31 (p .number) (nextOf w) ≡ true) ⌝ }
     ensures { λ r. ⌜ pushEnded r (now (words .exit)) (now (bytes .exit)) ≡ recoverOf w (now (words .entry)) (now (bytes .entry)) time p (now (payload .entry)) ⌝ }
 {
-    if numbers::seq::is_before(p.number, w.seqno0) {
+    let past = numbers::seq::distance(p.number, w.seqno0);
+    if 0x4000_0000 <= past {
         return Pushed {
             window: w,
             answer: PushAnswer::PacketTooLate,
         };
     }
-    let i = numbers::seq::distance(p.number, w.seqno0) as usize;
+    let i = past as usize;
     let s = slots::ring::slot(w.capacity, w.start, i);
     if slots::entry::is_lost(slots::entry::read_at(words, s)) {
         return take_recovered(w, words, bytes, time, p, payload, i);

@@ -8,7 +8,6 @@ recover-spec =
     (tie.spec
     (λ c κs. search pushes)
     (λ c. search pushes)
-    (λ c κs. search pushes)
     (λ c. search pushes)
     (λ c κs. search pushes)
     (λ c κs. search pushes)
