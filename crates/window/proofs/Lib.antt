@@ -3,3 +3,4 @@ pub mod Walks
 pub mod Copies
 pub mod Pushes
 pub mod Shows
+pub mod Examples
