@@ -35,6 +35,25 @@ kAfter (Lost k f) = min (k + 1) 65535
 kAfter (Received n l m t) = 0
 kAfter GivenUp = 0
 
+-- words so far, and the run that is open before entry i: its first entry. A run of one is one word, a run of two or more two
+abbrev pub runWords : Runs → ℕ → ℕ
+runWords r i = cond (r .going) (cond (eqb (r .first + 1) i) 1 2) 0
+
+abbrev pub closed : Runs → ℕ → Runs
+closed r i = record { words = r .words + runWords r i; going = false; first = 0 }
+
+abbrev pub runsAfter : Runs → ℕ → Bool → Runs
+runsAfter r i due = cond due (record { words = r .words; going = true; first = cond (r .going) (r .first) i }) (closed r i)
+
+-- a single number; a run of two or more consecutive as first with bit 31 set, then last
+abbrev pub runPut : Window → List ℕ → Runs → ℕ → List ℕ
+runPut w list r i =
+    cond (r .going)
+    (cond (eqb (r .first + 1) i)
+    (set list (r .words) (numberIn w (r .first)))
+    (set (set list (r .words) (2 ^ 31 + numberIn w (r .first))) (r .words + 1) (numberIn w (i - 1))))
+    list
+
 module _ (w : Window) (ws : List ℕ) (time mean : ℕ) where
   abbrev pub slotNo : ℕ → ℕ
   slotNo i = slotOf (w .capacity) (w .start) i
@@ -47,16 +66,6 @@ module _ (w : Window) (ws : List ℕ) (time mean : ℕ) where
   slotsTo zero = ws
   slotsTo (suc i) = cond (dueAt i) (writeReport (slotsTo i) (slotNo i) (kAfter (entryAt ws (slotNo i))) time) (slotsTo i)
 
-  -- words so far, and the run that is open before entry i: its first entry. A run of one is one word, a run of two or more two
-  abbrev pub runWords : Runs → ℕ → ℕ
-  runWords r i = cond (r .going) (cond (eqb (r .first + 1) i) 1 2) 0
-
-  abbrev pub closed : Runs → ℕ → Runs
-  closed r i = record { words = r .words + runWords r i; going = false; first = 0 }
-
-  abbrev pub runsAfter : Runs → ℕ → Bool → Runs
-  runsAfter r i due = cond due (record { words = r .words; going = true; first = cond (r .going) (r .first) i }) (closed r i)
-
   unfoldable pub runsTo : ℕ → Runs
   runsTo zero = record { words = 0; going = false; first = 0 }
   runsTo (suc i) = runsAfter (runsTo i) i (dueAt i)
@@ -64,18 +73,9 @@ module _ (w : Window) (ws : List ℕ) (time mean : ℕ) where
   abbrev pub needed : ℕ
   needed = closed (runsTo (w .held)) (w .held) .words
 
-  -- a single number; a run of two or more consecutive as first with bit 31 set, then last
-  abbrev pub runPut : List ℕ → Runs → ℕ → List ℕ
-  runPut list r i =
-      cond (r .going)
-      (cond (eqb (r .first + 1) i)
-      (set list (r .words) (numberIn w (r .first)))
-      (set (set list (r .words) (2 ^ 31 + numberIn w (r .first))) (r .words + 1) (numberIn w (i - 1))))
-      list
-
   unfoldable pub listTo : List ℕ → ℕ → List ℕ
   listTo list zero = list
-  listTo list (suc i) = cond (dueAt i) (listTo list i) (runPut (listTo list i) (runsTo i) i)
+  listTo list (suc i) = cond (dueAt i) (listTo list i) (runPut w (listTo list i) (runsTo i) i)
 
   -- no entry, no report; refusal 12 if the report needs more words than lent
   unfoldable pub reportOf : List ℕ → ReportOutcome
@@ -84,4 +84,4 @@ module _ (w : Window) (ws : List ℕ) (time mean : ℕ) where
       (reportEnded answers.Nothing ws list)
       (cond (ltb (length list) needed)
       (reportEnded answers.ListShort ws list)
-      (reportEnded (answers.Report needed) (slotsTo (w .held)) (runPut (listTo list (w .held)) (runsTo (w .held)) (w .held))))
+      (reportEnded (answers.Report needed) (slotsTo (w .held)) (runPut w (listTo list (w .held)) (runsTo (w .held)) (w .held))))

@@ -2,8 +2,10 @@
 ghost use mathlib.Core.Path.{_≡_};
 ghost use Prim.Native.Nat.{_+_, _*_, _<_, _≤_, _^_};
 ghost use lib.ListN.{length};
+ghost use Rattle.slots.specs.Words.{Fit};
 ghost use Rattle.window.specs.Window.{Ring, Good};
 ghost use Rattle.window.specs.Report.{isDue, kAfter, reportEnded, slotsTo, runWords, closed, runsAfter, runsTo, runPut, listTo, needed, reportOf};
+use slots::entry::Entry;
 
 // Words so far, and whether a run of reported entries is going on, with its first entry.
 pub struct Runs {
@@ -16,4 +18,75 @@ pub enum ReportAnswer {
     Nothing,
     Report { words: usize },
     ListShort,
+}
+
+// A lost entry whose feedback is k mean round trips old; a younger one waits.
+fn is_due(e: Entry, time: u64, mean: u32) -> bool
+    requires { ⌜ Fit e × (mean < 2 ^ 31) ⌝ }
+    ensures { λ r. ⌜ r ≡ isDue time mean e ⌝ }
+{
+    match e {
+        Entry::Lost { k, feedback } => feedback + (k as u64) * (mean as u64) < time,
+        Entry::Received {
+            length: _,
+            location: _,
+            message: _,
+            stamp: _,
+        } => false,
+        Entry::GivenUp => false,
+    }
+}
+
+// k of a reported entry.
+fn k_after(e: Entry) -> u32
+    ensures { λ r. ⌜ r ≡ kAfter e ⌝ }
+{
+    match e {
+        Entry::Lost { k, feedback: _ } => if k < 65535 { k + 1 } else { 65535 },
+        Entry::Received {
+            length: _,
+            location: _,
+            message: _,
+            stamp: _,
+        } => 0,
+        Entry::GivenUp => 0,
+    }
+}
+
+// The words of the run that ends before entry i.
+fn run_words(r: Runs, i: usize) -> usize
+    requires { ⌜ r .first ≤ 8192 ⌝ }
+    ensures { λ n. ⌜ n ≡ runWords r i ⌝ }
+{
+    if r.going {} else {
+        return 0;
+    }
+    if r.first + 1 == i { 1 } else { 2 }
+}
+
+fn runs_closed(r: Runs, i: usize) -> Runs
+    requires { ⌜ (r .words ≤ 2 * i) × (r .first ≤ i) × (i ≤ 8192) ⌝ }
+    ensures { λ n. ⌜ n ≡ closed r i ⌝ }
+{
+    Runs {
+        words: r.words + run_words(r, i),
+        going: false,
+        first: 0,
+    }
+}
+
+// Entry i goes on with the run, begins one, or ends it.
+fn runs_after(r: Runs, i: usize, due: bool) -> Runs
+    requires { ⌜ (r .words ≤ 2 * i) × (r .first ≤ i) × (i ≤ 8192) ⌝ }
+    ensures { λ n. ⌜ n ≡ runsAfter r i due ⌝ }
+{
+    if due {} else {
+        return runs_closed(r, i);
+    }
+    let first = if r.going { r.first } else { i };
+    Runs {
+        words: r.words,
+        going: true,
+        first,
+    }
 }
