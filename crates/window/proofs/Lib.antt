@@ -1,4 +1,5 @@
 -- The laws of the window.
 pub mod Walks
 pub mod Copies
+pub mod ReportLaws
 pub mod Reports

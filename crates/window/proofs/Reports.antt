@@ -7,15 +7,19 @@ use native.Mathlib.Nat.{mul-le-mul-right}
 use native.Mathlib.Omega.{arith}
 use borrow.Author.Needs.{needs}
 use borrow.Author.Tests.{eq-eqb, ne-eqb, lt-ltb, le-ltb}
-use lib.Dec.{ltb, eqb}
+use lib.Dec.{ltb}
 use mir.Syntax.{w64}
 use mir.Val.{Fits}
-use Rattle.numbers.proofs.Flags.{by-test}
 use Rattle.slots.specs.Words.{Fit, entryAt}
+use Rattle.slots.specs.Ring.{slotOf}
 use Rattle.slots.specs.declared.entry.Entry.{Entry}
 use Rattle.slots.specs.declared.entry.Entry.the-variants.{Lost}
-use Rattle.window.specs.Report.{isDue, kAfter, runWords, closed, runsAfter}
+use Rattle.slots.proofs.Laws.{entry-fit}
+use Rattle.window.specs.Report.{isDue, kAfter, runWords, closed, runsAfter, Within, runsTo}
+use Rattle.window.specs.declared.Window.{Window}
 use Rattle.window.specs.declared.report.Runs.{Runs}
+use Rattle.window.proofs.Walks.{walk-start, walk-words, walk-slot, walk-on}
+use Rattle.window.proofs.ReportLaws.{words-most, runs-within, runs-more}
 
 -- is_due: feedback and k round trips are under 2^60 + 2^47
 module _ {e : Entry} {k f : ℕ} (p : e ≡ Lost k f) where
@@ -61,13 +65,52 @@ module _ (r : Runs) (i : ℕ) where
   pub run-begins : {d : Bool} → d ≡ true → r .going ≡ false → _≡_ {A = Runs} (record { words = r .words; going = true; first = i }) (runsAfter r i d)
   run-begins e f = rw (e, f)
 
-words-most : (r : Runs) (i : ℕ) → runWords r i ≤ 2
-words-most r i =
-    by-test (λ (n : ℕ). n ≤ 2) (r .going) _ _
-    (λ t. by-test (λ (n : ℕ). n ≤ 2) (eqb (r .first + 1) i) _ _ (λ u. omega arith) (λ u. omega arith))
-    (λ t. omega arith)
-
 pub run-sum : (r : Runs) (i : ℕ) {n : ℕ} → n ≡ runWords r i → r .words ≤ 2 * i → i ≤ 8192 → Fits w64 (r .words + n)
 run-sum r i e h k = let l = words-most r i in omega arith
 
-pub ruleset reports = (due-product, due-sum, due-lost, k-more, k-most, run-one, run-two, run-closed, run-ended, run-goes, run-begins, run-sum, needs)
+-- an entry that is read can be tested
+pub due-fit : (ws : List ℕ) (s : ℕ) {e : Entry} → e ≡ entryAt ws s → Fit e
+due-fit ws s p = subst Fit (sym p) (entry-fit ws s)
+
+-- count_runs: the bounds, the start, a turn and the end
+module _ (w : Window) (ws : List ℕ) (time mean : ℕ) where
+  pub runs-start : _≡_ {A = Runs} (record { words = 0; going = false; first = 0 }) (runsTo w ws time mean 0)
+  unfolding runsTo
+  runs-start = refl
+
+  module _ (i : ℕ) {r : Runs} (a : r ≡ runsTo w ws time mean i) where
+    pub runs-kept : Within r i
+    runs-kept = subst (λ (x : Runs). Within x i) (sym a) (runs-within w ws time mean i)
+
+    pub runs-again : {s : ℕ} {e : Entry} {d : Bool} {q : Runs}
+        → s ≡ slotOf (w .capacity) (w .start) i → e ≡ entryAt ws s → d ≡ isDue time mean e → q ≡ runsAfter r i d
+        → q ≡ runsTo w ws time mean (i + 1)
+    runs-again b c d e = rw (runs-more w ws time mean i, ← a, ← b, ← c, ← d) e
+
+    pub runs-done : i ≤ w .held → w .held ≤ i → r ≡ runsTo w ws time mean (w .held)
+    runs-done h k = let e : i ≡ w .held = omega arith in a ∙ ap (runsTo w ws time mean) e
+
+pub ruleset reports = (
+  due-product,
+  due-sum,
+  due-lost,
+  k-more,
+  k-most,
+  run-one,
+  run-two,
+  run-closed,
+  run-ended,
+  run-goes,
+  run-begins,
+  run-sum,
+  due-fit,
+  runs-start,
+  runs-kept,
+  runs-again,
+  runs-done,
+  walk-start,
+  walk-words,
+  walk-slot,
+  walk-on,
+  needs,
+)

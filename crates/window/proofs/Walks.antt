@@ -10,9 +10,13 @@ use Rattle.numbers.proofs.Flags.{by-test}
 use Rattle.slots.specs.Words.{isReceived, entryAt}
 use Rattle.slots.specs.Ring.{slotOf, nextSlot}
 use Rattle.slots.specs.declared.entry.Entry.{Entry}
-use Rattle.slots.proofs.Laws.{slot-lt, slot-next, slot-words, slot-words-kept, slot-bytes}
+use Rattle.slots.proofs.Laws.{slot-lt, slot-zero, slot-next, slot-words, slot-words-kept, slot-bytes}
 use Rattle.window.specs.Window.{Good, slotIn, numberIn, firstGap, lrsnFrom, cut}
 use Rattle.window.specs.declared.Window.{Window}
+
+-- a walk begins in the start slot
+pub walk-start : (capacity start : ℕ) → start < capacity → start ≡ slotOf capacity start 0
+walk-start capacity start h = sym (slot-zero capacity start h)
 
 -- a walk's slot is under the capacity, and the next one's is the next slot
 pub walk-slot : (capacity start i : ℕ) {s : ℕ} → s ≡ slotOf capacity start i → start < capacity → s < capacity

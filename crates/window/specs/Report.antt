@@ -1,4 +1,5 @@
 -- The loss report: 01, "Window", from "Loss report: lost entries" to "No entry, no report."
+use mathlib.Core.Path.{_≡_}
 use mathlib.Core.Bool.{Bool, true, false, not, _&&_, cond}
 use mathlib.Core.List.{List}
 use Prim.Native.Nat.{ℕ, zero, suc, _+_, _-_, _*_, _^_, _<_, _≤_, min}
@@ -44,6 +45,12 @@ closed r i = record { words = r .words + runWords r i; going = false; first = 0 
 
 abbrev pub runsAfter : Runs → ℕ → Bool → Runs
 runsAfter r i due = cond due (record { words = r .words; going = true; first = cond (r .going) (r .first) i }) (closed r i)
+
+-- what holds of a walk before entry i: at most two words an entry, and a run that goes on began before i
+pub record Within (r : Runs) (i : ℕ) : Type 0 where
+  pub words : r .words ≤ 2 * i
+  pub first : r .first ≤ i
+  pub before : r .going ≡ true → r .first < i
 
 -- a single number; a run of two or more consecutive as first with bit 31 set, then last
 abbrev pub runPut : Window → List ℕ → Runs → ℕ → List ℕ

@@ -4,7 +4,7 @@ ghost use Prim.Native.Nat.{_+_, _*_, _<_, _≤_, _^_};
 ghost use lib.ListN.{length};
 ghost use Rattle.slots.specs.Words.{Fit};
 ghost use Rattle.window.specs.Window.{Ring, Good};
-ghost use Rattle.window.specs.Report.{isDue, kAfter, reportEnded, slotsTo, runWords, closed, runsAfter, runsTo, runPut, listTo, needed, reportOf};
+ghost use Rattle.window.specs.Report.{isDue, kAfter, reportEnded, slotsTo, runWords, closed, runsAfter, Within, runsTo, runPut, listTo, needed, reportOf};
 use slots::entry::Entry;
 
 // Words so far, and whether a run of reported entries is going on, with its first entry.
@@ -65,7 +65,7 @@ fn run_words(r: Runs, i: usize) -> usize
 }
 
 fn runs_closed(r: Runs, i: usize) -> Runs
-    requires { ⌜ (r .words ≤ 2 * i) × (r .first ≤ i) × (i ≤ 8192) ⌝ }
+    requires { ⌜ Within r i × (i ≤ 8192) ⌝ }
     ensures { λ n. ⌜ n ≡ closed r i ⌝ }
 {
     Runs {
@@ -77,7 +77,7 @@ fn runs_closed(r: Runs, i: usize) -> Runs
 
 // Entry i goes on with the run, begins one, or ends it.
 fn runs_after(r: Runs, i: usize, due: bool) -> Runs
-    requires { ⌜ (r .words ≤ 2 * i) × (r .first ≤ i) × (i ≤ 8192) ⌝ }
+    requires { ⌜ Within r i × (i ≤ 8192) ⌝ }
     ensures { λ n. ⌜ n ≡ runsAfter r i due ⌝ }
 {
     if due {} else {
@@ -89,4 +89,25 @@ fn runs_after(r: Runs, i: usize, due: bool) -> Runs
         going: true,
         first,
     }
+}
+
+// The runs of all entries, and so how many words they need.
+fn count_runs(w: crate::Window, words: &[u64], time: u64, mean: u32) -> Runs
+    requires { ⌜ Good w (now words) × (mean < 2 ^ 31) ⌝ }
+    ensures { λ r. ⌜ r ≡ runsTo w (now (words .entry)) time mean (w .held) ⌝ }
+{
+    let mut r = Runs {
+        words: 0,
+        going: false,
+        first: 0,
+    };
+    let mut i = 0;
+    let mut s = w.start;
+    while i < w.held {
+        let due = is_due(slots::entry::read_at(words, s), time, mean);
+        r = runs_after(r, i, due);
+        s = slots::ring::next_slot(w.capacity, s);
+        i += 1;
+    }
+    r
 }
