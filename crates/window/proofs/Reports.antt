@@ -6,16 +6,20 @@ use Prim.Native.Nat.{ℕ, _+_, _-_, _*_, _^_, _<_, _≤_}
 use native.Mathlib.Nat.{mul-le-mul-right}
 use native.Mathlib.Omega.{arith}
 use borrow.Author.Needs.{needs}
-use borrow.Author.Tests.{eq-eqb, ne-eqb, lt-ltb, le-ltb}
-use lib.Dec.{ltb}
-use mir.Syntax.{w64}
+use borrow.Author.Tests.{eq-eqb, ne-eqb, lt-ltb, le-ltb, eqb-true, eqb-false}
+use lib.Dec.{ltb, eqb}
+use lib.ListN.{length, set, length-set}
+use mir.Syntax.{w32, w64}
 use mir.Val.{Fits}
+use Rattle.numbers.proofs.Flags.{by-bool}
+use Rattle.numbers.proofs.Circle.{sum-below}
 use Rattle.slots.specs.Words.{Fit, entryAt}
 use Rattle.slots.specs.Ring.{slotOf}
 use Rattle.slots.specs.declared.entry.Entry.{Entry}
 use Rattle.slots.specs.declared.entry.Entry.the-variants.{Lost}
 use Rattle.slots.proofs.Laws.{entry-fit}
-use Rattle.window.specs.Report.{isDue, kAfter, runWords, closed, runsAfter, Within, runsTo}
+use Rattle.window.specs.Window.{numberIn}
+use Rattle.window.specs.Report.{isDue, kAfter, runWords, closed, runsAfter, Within, runsTo, runPut}
 use Rattle.window.specs.declared.Window.{Window}
 use Rattle.window.specs.declared.report.Runs.{Runs}
 use Rattle.window.proofs.Walks.{walk-start, walk-words, walk-slot, walk-on}
@@ -90,6 +94,54 @@ module _ (w : Window) (ws : List ℕ) (time mean : ℕ) where
     pub runs-done : i ≤ w .held → w .held ≤ i → r ≡ runsTo w ws time mean (w .held)
     runs-done h k = let e : i ≡ w .held = omega arith in a ∙ ap (runsTo w ws time mean) e
 
+-- run_put: by the number of words of the run
+module _ (r : Runs) (i : ℕ) where
+  by-words : {P : Type 0} → (r .going ≡ false → runWords r i ≡ 0 → P) → (r .going ≡ true → r .first + 1 ≡ i → runWords r i ≡ 1 → P) → (r .going ≡ true → (r .first + 1 ≡ i → ⊥) → runWords r i ≡ 2 → P) → P
+  by-words f g h =
+      by-bool (r .going)
+      (λ t.
+      by-bool (eqb (r .first + 1) i)
+      (λ u. let e = eqb-true _ _ u in g t e (sym (run-one r i t e)))
+      (λ u. let e = eqb-false _ _ u in h t e (sym (run-two r i t e))))
+      (λ t. f t (rw t))
+
+  pub put-past : {n : ℕ} → n ≡ runWords r i → (n ≡ 0 → ⊥) → Within r i → 1 ≤ i
+  put-past e z h =
+      by-words
+      (λ t u. absurd (z (e ∙ u)))
+      (λ t u v. let l = h .before t in omega arith)
+      (λ t u v. let l = h .before t in omega arith)
+
+  module _ (w : Window) (list : List ℕ) {n : ℕ} (e : n ≡ runWords r i) where
+    pub put-none : {x : List ℕ} → x ≡ list → n ≡ 0 → x ≡ runPut w list r i
+    unfolding runPut
+    put-none f z = by-words (λ t u. rw t f) (λ t u v. absurd (omega arith)) (λ t u v. absurd (omega arith))
+
+    pub put-one : {m : ℕ} → n ≡ 1 → m ≡ numberIn w (r .first) → set list (r .words) m ≡ runPut w list r i
+    unfolding runPut
+    put-one z f =
+        by-words
+        (λ t u. absurd (omega arith))
+        (λ t u v. rw (t, eq-eqb _ _ u, f))
+        (λ t u v. absurd (omega arith))
+
+    pub put-run : {m l : ℕ} → (n ≡ 0 → ⊥) → (n ≡ 1 → ⊥) → m ≡ numberIn w (r .first) → l ≡ numberIn w (i - 1)
+        → set (set list (r .words) (2 ^ 31 + m)) (r .words + 1) l ≡ runPut w list r i
+    unfolding runPut
+    put-run z o f g =
+        by-words
+        (λ t u. absurd (z (e ∙ u)))
+        (λ t u v. absurd (o (e ∙ v)))
+        (λ t u v. rw (t, ne-eqb _ _ u, f, g))
+
+pub put-second : (r : Runs) (i : ℕ) (list : List ℕ) (j v at : ℕ) {n : ℕ}
+    → n ≡ runWords r i → (n ≡ 0 → ⊥) → (n ≡ 1 → ⊥) → r .words + runWords r i ≤ length list → at ≡ r .words
+    → at + 1 < length (set list j v)
+put-second r i list j v at e z o h f = rw length-set (omega (arith, z, o))
+
+pub put-fits : (w : Window) (i : ℕ) {n : ℕ} → n ≡ numberIn w i → Fits w32 (2 ^ 31 + n)
+put-fits w i e = omega (arith, sum-below 31 (w .seqno0) i)
+
 pub ruleset reports = (
   due-product,
   due-sum,
@@ -108,6 +160,12 @@ pub ruleset reports = (
   runs-kept,
   runs-again,
   runs-done,
+  put-past,
+  put-none,
+  put-one,
+  put-run,
+  put-second,
+  put-fits,
   walk-start,
   walk-words,
   walk-slot,

@@ -53,7 +53,7 @@ pub record Within (r : Runs) (i : ℕ) : Type 0 where
   pub before : r .going ≡ true → r .first < i
 
 -- a single number; a run of two or more consecutive as first with bit 31 set, then last
-abbrev pub runPut : Window → List ℕ → Runs → ℕ → List ℕ
+unfoldable pub runPut : Window → List ℕ → Runs → ℕ → List ℕ
 runPut w list r i =
     cond (r .going)
     (cond (eqb (r .first + 1) i)

@@ -111,3 +111,23 @@ fn count_runs(w: crate::Window, words: &[u64], time: u64, mean: u32) -> Runs
     }
     r
 }
+
+// The run that ends before entry i: its number, or its first with bit 31 set and its last.
+fn run_put(w: crate::Window, list: &mut [u32], r: Runs, i: usize)
+    requires { ⌜ Within r i × (i ≤ 8192) × (r .words + runWords r i ≤ length (now list)) ⌝ }
+    ensures { λ _. ⌜ now (list .exit) ≡ runPut w (now (list .entry)) r i ⌝ }
+{
+    let n = run_words(r, i);
+    if n == 0 {
+        return;
+    }
+    let at = r.words;
+    let first = crate::number(w, r.first);
+    if n == 1 {
+        list[at] = first;
+        return;
+    }
+    let last = crate::number(w, i - 1);
+    list[at] = 0x8000_0000 + first;
+    list[at + 1] = last;
+}
