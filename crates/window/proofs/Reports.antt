@@ -13,13 +13,13 @@ use mir.Syntax.{w32, w64}
 use mir.Val.{Fits}
 use Rattle.numbers.proofs.Flags.{by-bool}
 use Rattle.numbers.proofs.Circle.{sum-below}
-use Rattle.slots.specs.Words.{Fit, entryAt}
+use Rattle.slots.specs.Words.{Fit, entryAt, writeReport}
 use Rattle.slots.specs.Ring.{slotOf}
 use Rattle.slots.specs.declared.entry.Entry.{Entry}
 use Rattle.slots.specs.declared.entry.Entry.the-variants.{Lost}
 use Rattle.slots.proofs.Laws.{entry-fit}
 use Rattle.window.specs.Window.{numberIn}
-use Rattle.window.specs.Report.{isDue, kAfter, runWords, closed, runsAfter, Within, runsTo, runPut}
+use Rattle.window.specs.Report.{isDue, kAfter, runWords, closed, runsAfter, Within, runsTo, runPut, reporting, reportOne}
 use Rattle.window.specs.declared.Window.{Window}
 use Rattle.window.specs.declared.report.Runs.{Runs}
 use Rattle.window.proofs.Walks.{walk-start, walk-words, walk-slot, walk-on}
@@ -142,6 +142,19 @@ put-second r i list j v at e z o h f = rw length-set (omega (arith, z, o))
 pub put-fits : (w : Window) (i : ℕ) {n : ℕ} → n ≡ numberIn w i → Fits w32 (2 ^ 31 + n)
 put-fits w i e = omega (arith, sum-below 31 (w .seqno0) i)
 
+-- report_one
+module _ (w : Window) (time mean s i : ℕ) (ws list : List ℕ) (r : Runs) {e : Entry} {d : Bool} {q : Runs}
+    (a : e ≡ entryAt ws s) (b : d ≡ isDue time mean e) (c : q ≡ runsAfter r i d) where
+  pub one-due : {k : ℕ} {ws₁ : List ℕ} → d ≡ true → k ≡ kAfter e → ws₁ ≡ writeReport ws s k time
+      → reporting ws₁ list q ≡ reportOne w time mean s i (reporting ws list r)
+  unfolding reportOne
+  one-due t f g = rw (← a, ← b, t, g, f, c, t)
+
+  pub one-not : {list₁ : List ℕ} → d ≡ false → list₁ ≡ runPut w list r i
+      → reporting ws list₁ q ≡ reportOne w time mean s i (reporting ws list r)
+  unfolding reportOne
+  one-not t g = rw (← a, ← b, t, g, c, t)
+
 pub ruleset reports = (
   due-product,
   due-sum,
@@ -166,6 +179,8 @@ pub ruleset reports = (
   put-run,
   put-second,
   put-fits,
+  one-due,
+  one-not,
   walk-start,
   walk-words,
   walk-slot,

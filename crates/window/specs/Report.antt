@@ -61,6 +61,23 @@ runPut w list r i =
     (set (set list (r .words) (2 ^ 31 + numberIn w (r .first))) (r .words + 1) (numberIn w (i - 1))))
     list
 
+-- a report under way: the slot area, the list and the runs
+pub record Reporting : Type 0 where
+  pub slots : List ℕ
+  pub list : List ℕ
+  pub runs : Runs
+
+abbrev pub reporting : List ℕ → List ℕ → Runs → Reporting
+reporting ws list r = record { slots = ws; list = list; runs = r }
+
+-- and after entry i, which lies in slot s: written if it is due; if not, the run before it is written
+unfoldable pub reportOne : Window → ℕ → ℕ → ℕ → ℕ → Reporting → Reporting
+reportOne w time mean s i x =
+    let e = entryAt (x .slots) s in
+    cond (isDue time mean e)
+    (reporting (writeReport (x .slots) s (kAfter e) time) (x .list) (runsAfter (x .runs) i true))
+    (reporting (x .slots) (runPut w (x .list) (x .runs) i) (runsAfter (x .runs) i false))
+
 module _ (w : Window) (ws : List ℕ) (time mean : ℕ) where
   abbrev pub slotNo : ℕ → ℕ
   slotNo i = slotOf (w .capacity) (w .start) i
@@ -83,6 +100,9 @@ module _ (w : Window) (ws : List ℕ) (time mean : ℕ) where
   unfoldable pub listTo : List ℕ → ℕ → List ℕ
   listTo list zero = list
   listTo list (suc i) = cond (dueAt i) (listTo list i) (runPut w (listTo list i) (runsTo i) i)
+
+  abbrev pub reportedTo : List ℕ → ℕ → Reporting
+  reportedTo list i = reporting (slotsTo i) (listTo list i) (runsTo i)
 
   -- no entry, no report; refusal 12 if the report needs more words than lent
   unfoldable pub reportOf : List ℕ → ReportOutcome

@@ -4,7 +4,7 @@ ghost use Prim.Native.Nat.{_+_, _*_, _<_, _≤_, _^_};
 ghost use lib.ListN.{length};
 ghost use Rattle.slots.specs.Words.{Fit};
 ghost use Rattle.window.specs.Window.{Ring, Good};
-ghost use Rattle.window.specs.Report.{isDue, kAfter, reportEnded, slotsTo, runWords, closed, runsAfter, Within, runsTo, runPut, listTo, needed, reportOf};
+ghost use Rattle.window.specs.Report.{isDue, kAfter, reportEnded, slotsTo, runWords, closed, runsAfter, Within, runsTo, runPut, listTo, needed, reporting, reportOne, reportedTo, reportOf};
 use slots::entry::Entry;
 
 // Words so far, and whether a run of reported entries is going on, with its first entry.
@@ -130,4 +130,30 @@ fn run_put(w: crate::Window, list: &mut [u32], r: Runs, i: usize)
     let last = crate::number(w, i - 1);
     list[at] = 0x8000_0000 + first;
     list[at + 1] = last;
+}
+
+// Entry i, which lies in slot s: reported if it is due; if not, the run before it is written.
+fn report_one(
+    w: crate::Window,
+    words: &mut [u64],
+    list: &mut [u32],
+    time: u64,
+    mean: u32,
+    s: usize,
+    i: usize,
+    r: Runs,
+) -> Runs
+    requires { ⌜ (3 * s + 3 ≤ length (now words)) × (mean < 2 ^ 31) × Within r i × (i ≤ 8192) × (r .words + runWords r i ≤ length (now list)) ⌝ }
+    ensures { λ q. ⌜ reporting (now (words .exit)) (now (list .exit)) q ≡ reportOne w time mean s i (reporting (now (words .entry)) (now (list .entry)) r) ⌝ }
+{
+    let e = slots::entry::read_at(words, s);
+    let due = is_due(e, time, mean);
+    let k = k_after(e);
+    let q = runs_after(r, i, due);
+    if due {
+        slots::entry::write_report(words, s, k, time);
+        return q;
+    }
+    run_put(w, list, r, i);
+    q
 }
