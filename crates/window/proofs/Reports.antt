@@ -19,11 +19,11 @@ use Rattle.slots.specs.declared.entry.Entry.{Entry}
 use Rattle.slots.specs.declared.entry.Entry.the-variants.{Lost}
 use Rattle.slots.proofs.Laws.{entry-fit}
 use Rattle.window.specs.Window.{numberIn}
-use Rattle.window.specs.Report.{isDue, kAfter, runWords, closed, runsAfter, Within, runsTo, runPut, reporting, reportOne}
+use Rattle.window.specs.Report.{isDue, kAfter, runWords, closed, runsAfter, Within, slotsTo, runsTo, runPut, listTo, needed, Reporting, reporting, reportOne, reportedTo}
 use Rattle.window.specs.declared.Window.{Window}
 use Rattle.window.specs.declared.report.Runs.{Runs}
-use Rattle.window.proofs.Walks.{walk-start, walk-words, walk-slot, walk-on}
-use Rattle.window.proofs.ReportLaws.{words-most, runs-within, runs-more}
+use Rattle.window.proofs.Walks.{walk-start, walk-words, walk-words-kept, walk-slot, walk-most, walk-on}
+use Rattle.window.proofs.ReportLaws.{words-most, runs-within, runs-more, words-rise, length-slots, length-list, report-more}
 
 -- is_due: feedback and k round trips are under 2^60 + 2^47
 module _ {e : Entry} {k f : ℕ} (p : e ≡ Lost k f) where
@@ -155,6 +155,39 @@ module _ (w : Window) (time mean s i : ℕ) (ws list : List ℕ) (r : Runs) {e :
   unfolding reportOne
   one-not t g = rw (← a, ← b, t, g, c, t)
 
+-- report_entries: the start, what a turn needs, a turn and the end
+module _ (w : Window) (ws : List ℕ) (time mean : ℕ) (list : List ℕ) where
+  pub report-start : reporting ws list (record { words = 0; going = false; first = 0 }) ≡ reportedTo w ws time mean list 0
+  unfolding slotsTo listTo runsTo
+  report-start = refl
+
+  module _ (i : ℕ) {words l : List ℕ} {r : Runs} (a : reporting words l r ≡ reportedTo w ws time mean list i) where
+    report-runs : r ≡ runsTo w ws time mean i
+    report-runs = ap (λ (x : Reporting). x .runs) a
+
+    pub report-slots-long : length words ≡ length ws
+    report-slots-long = ap (λ (x : Reporting). length (x .slots)) a ∙ length-slots w ws time mean i
+
+    pub report-list-long : length l ≡ length list
+    report-list-long = ap (λ (x : Reporting). length (x .list)) a ∙ length-list w ws time mean list i
+
+    pub report-words : {s : ℕ} → s ≡ slotOf (w .capacity) (w .start) i → w .start < w .capacity → 3 * w .capacity ≤ length ws → 3 * s + 3 ≤ length words
+    report-words e h k = walk-words-kept (w .capacity) (w .start) i e h report-slots-long k
+
+    pub report-within : Within r i
+    report-within = runs-kept w ws time mean i report-runs
+
+    pub report-room : i < w .held → needed w ws time mean ≤ length list → r .words + runWords r i ≤ length l
+    report-room h n =
+        rw report-runs (omega (arith, words-rise w ws time mean i (w .held) (omega arith), report-list-long))
+
+    pub report-again : {s : ℕ} {y : Reporting} → i < w .held → w .held ≤ w .capacity → w .start < w .capacity → s ≡ slotOf (w .capacity) (w .start) i
+        → y ≡ reportOne w time mean s i (reporting words l r) → y ≡ reportedTo w ws time mean list (i + 1)
+    report-again h k hs b c = c ∙ rw (a, b) (report-more w ws time mean list i hs (omega arith))
+
+    pub report-done : i ≤ w .held → w .held ≤ i → reporting words l r ≡ reportedTo w ws time mean list (w .held)
+    report-done h k = let e : i ≡ w .held = omega arith in a ∙ ap (reportedTo w ws time mean list) e
+
 pub ruleset reports = (
   due-product,
   due-sum,
@@ -181,9 +214,18 @@ pub ruleset reports = (
   put-fits,
   one-due,
   one-not,
+  report-start,
+  report-slots-long,
+  report-list-long,
+  report-words,
+  report-within,
+  report-room,
+  report-again,
+  report-done,
   walk-start,
   walk-words,
   walk-slot,
+  walk-most,
   walk-on,
   needs,
 )

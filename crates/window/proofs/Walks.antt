@@ -22,6 +22,9 @@ walk-start capacity start h = sym (slot-zero capacity start h)
 pub walk-slot : (capacity start i : ℕ) {s : ℕ} → s ≡ slotOf capacity start i → start < capacity → s < capacity
 walk-slot capacity start i e h = omega (arith, slot-lt capacity start i (omega arith))
 
+pub walk-most : {i held capacity : ℕ} → i < held → held ≤ capacity → capacity ≤ 8192 → i ≤ 8192
+walk-most h k l = omega arith
+
 pub walk-on : (capacity start i : ℕ) {s t held : ℕ} → s ≡ slotOf capacity start i → t ≡ nextSlot capacity s → start < capacity → i < held → held ≤ capacity → t ≡ slotOf capacity start (i + 1)
 walk-on capacity start i e f h k l = f ∙ rw e (sym (slot-next capacity start h i (omega arith)))
 

@@ -157,3 +157,30 @@ fn report_one(
     run_put(w, list, r, i);
     q
 }
+
+// All entries. What is left to do is to write the run that is going on at the end.
+fn report_entries(
+    w: crate::Window,
+    words: &mut [u64],
+    list: &mut [u32],
+    time: u64,
+    mean: u32,
+) -> Runs
+    requires { ⌜ Good w (now words) × (mean < 2 ^ 31) × (needed w (now words) time mean ≤ length (now list)) ⌝ }
+    ensures { λ r. ⌜ reporting (now (words .exit)) (now (list .exit)) r ≡ reportedTo w (now (words .entry)) time mean (now (list .entry)) (w .held) ⌝ }
+{
+    let mut r = Runs {
+        words: 0,
+        going: false,
+        first: 0,
+    };
+    let mut i = 0;
+    let mut s = w.start;
+    while i < w.held {
+        let next = slots::ring::next_slot(w.capacity, s);
+        r = report_one(w, words, list, time, mean, s, i, r);
+        s = next;
+        i += 1;
+    }
+    r
+}
