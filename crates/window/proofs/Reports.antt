@@ -19,10 +19,11 @@ use Rattle.slots.specs.declared.entry.Entry.{Entry}
 use Rattle.slots.specs.declared.entry.Entry.the-variants.{Lost}
 use Rattle.slots.proofs.Laws.{entry-fit}
 use Rattle.window.specs.Window.{numberIn}
-use Rattle.window.specs.Report.{isDue, kAfter, runWords, closed, runsAfter, Within, slotsTo, runsTo, runPut, listTo, needed, Reporting, reporting, reportOne, reportedTo}
+use Rattle.window.specs.Report.{isDue, kAfter, runWords, closed, runsAfter, Within, slotsTo, runsTo, runPut, listTo, needed, Reporting, reporting, reportOne, reportedTo, listAll, reportEnded, reportOf}
 use Rattle.window.specs.declared.Window.{Window}
 use Rattle.window.specs.declared.report.Runs.{Runs}
-use Rattle.window.proofs.Walks.{walk-start, walk-words, walk-words-kept, walk-slot, walk-most, walk-on}
+use Rattle.window.specs.declared.report.ReportAnswer.the-variants as answers
+use Rattle.window.proofs.Walks.{walk-start, walk-words, walk-words-kept, walk-slot, walk-most, held-most, walk-on}
 use Rattle.window.proofs.ReportLaws.{words-most, runs-within, runs-more, words-rise, length-slots, length-list, report-more}
 
 -- is_due: feedback and k round trips are under 2^60 + 2^47
@@ -181,12 +182,46 @@ module _ (w : Window) (ws : List ℕ) (time mean : ℕ) (list : List ℕ) where
     report-room h n =
         rw report-runs (omega (arith, words-rise w ws time mean i (w .held) (omega arith), report-list-long))
 
+    pub report-last : i ≡ w .held → needed w ws time mean ≤ length list → r .words + runWords r i ≤ length l
+    report-last e n = rw report-runs (omega (arith, words-rise w ws time mean i (w .held) (omega arith), report-list-long))
+
     pub report-again : {s : ℕ} {y : Reporting} → i < w .held → w .held ≤ w .capacity → w .start < w .capacity → s ≡ slotOf (w .capacity) (w .start) i
         → y ≡ reportOne w time mean s i (reporting words l r) → y ≡ reportedTo w ws time mean list (i + 1)
     report-again h k hs b c = c ∙ rw (a, b) (report-more w ws time mean list i hs (omega arith))
 
     pub report-done : i ≤ w .held → w .held ≤ i → reporting words l r ≡ reportedTo w ws time mean list (w .held)
     report-done h k = let e : i ≡ w .held = omega arith in a ∙ ap (reportedTo w ws time mean list) e
+
+-- report_all
+module _ (w : Window) (ws : List ℕ) (time mean : ℕ) (list : List ℕ) {ws₁ l : List ℕ} {r : Runs} (a : reporting ws₁ l r ≡ reportedTo w ws time mean list (w .held)) where
+  pub all-slots : ws₁ ≡ slotsTo w ws time mean (w .held)
+  all-slots = ap (λ (x : Reporting). x .slots) a
+
+  pub all-list : {list₁ : List ℕ} → list₁ ≡ runPut w l r (w .held) → list₁ ≡ listAll w ws time mean list
+  all-list b = b ∙ ap (λ (x : Reporting). runPut w (x .list) (x .runs) (w .held)) a
+
+-- words_needed, loss_report
+module _ (w : Window) (ws : List ℕ) (time mean : ℕ) where
+  pub needs-words : {r q : Runs} → r ≡ runsTo w ws time mean (w .held) → q ≡ closed r (w .held) → q .words ≡ needed w ws time mean
+  needs-words e f = rw (f, e)
+
+  module _ (list : List ℕ) {n : ℕ} (a : n ≡ needed w ws time mean) where
+    pub report-none : n ≡ 0 → reportEnded answers.Nothing ws list ≡ reportOf w ws time mean list
+    unfolding reportOf
+    report-none z = rw (eq-eqb _ _ (sym a ∙ z))
+
+    module _ (z : n ≡ 0 → ⊥) where
+      pub report-short : length list < n → reportEnded answers.ListShort ws list ≡ reportOf w ws time mean list
+      unfolding reportOf
+      report-short h = rw (← a, ne-eqb _ _ z, lt-ltb _ _ h)
+
+      pub report-long : {ws₁ list₁ : List ℕ} → n ≤ length list → ws₁ ≡ slotsTo w ws time mean (w .held) → list₁ ≡ listAll w ws time mean list
+          → reportEnded (answers.Report n) ws₁ list₁ ≡ reportOf w ws time mean list
+      unfolding reportOf
+      report-long h b c = rw (← a, ne-eqb _ _ z, le-ltb _ _ h, b, c)
+
+    pub report-fits : n ≤ length list → needed w ws time mean ≤ length list
+    report-fits h = rw (← a) h
 
 pub ruleset reports = (
   due-product,
@@ -220,12 +255,21 @@ pub ruleset reports = (
   report-words,
   report-within,
   report-room,
+  report-last,
   report-again,
   report-done,
+  all-slots,
+  all-list,
+  needs-words,
+  report-none,
+  report-short,
+  report-long,
+  report-fits,
   walk-start,
   walk-words,
   walk-slot,
   walk-most,
+  held-most,
   walk-on,
   needs,
 )

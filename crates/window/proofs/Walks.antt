@@ -25,6 +25,9 @@ walk-slot capacity start i e h = omega (arith, slot-lt capacity start i (omega a
 pub walk-most : {i held capacity : ℕ} → i < held → held ≤ capacity → capacity ≤ 8192 → i ≤ 8192
 walk-most h k l = omega arith
 
+pub held-most : {held capacity : ℕ} → held ≤ capacity → capacity ≤ 8192 → held ≤ 8192
+held-most k l = omega arith
+
 pub walk-on : (capacity start i : ℕ) {s t held : ℕ} → s ≡ slotOf capacity start i → t ≡ nextSlot capacity s → start < capacity → i < held → held ≤ capacity → t ≡ slotOf capacity start (i + 1)
 walk-on capacity start i e f h k l = f ∙ rw e (sym (slot-next capacity start h i (omega arith)))
 

@@ -101,6 +101,10 @@ module _ (w : Window) (ws : List ℕ) (time mean : ℕ) where
   listTo list zero = list
   listTo list (suc i) = cond (dueAt i) (listTo list i) (runPut w (listTo list i) (runsTo i) i)
 
+  -- with the run that is going on at the end
+  abbrev pub listAll : List ℕ → List ℕ
+  listAll list = runPut w (listTo list (w .held)) (runsTo (w .held)) (w .held)
+
   abbrev pub reportedTo : List ℕ → ℕ → Reporting
   reportedTo list i = reporting (slotsTo i) (listTo list i) (runsTo i)
 
@@ -111,4 +115,4 @@ module _ (w : Window) (ws : List ℕ) (time mean : ℕ) where
       (reportEnded answers.Nothing ws list)
       (cond (ltb (length list) needed)
       (reportEnded answers.ListShort ws list)
-      (reportEnded (answers.Report needed) (slotsTo (w .held)) (runPut w (listTo list (w .held)) (runsTo (w .held)) (w .held))))
+      (reportEnded (answers.Report needed) (slotsTo (w .held)) (listAll list)))

@@ -4,7 +4,7 @@ ghost use Prim.Native.Nat.{_+_, _*_, _<_, _≤_, _^_};
 ghost use lib.ListN.{length};
 ghost use Rattle.slots.specs.Words.{Fit};
 ghost use Rattle.window.specs.Window.{Ring, Good};
-ghost use Rattle.window.specs.Report.{isDue, kAfter, reportEnded, slotsTo, runWords, closed, runsAfter, Within, runsTo, runPut, listTo, needed, reporting, reportOne, reportedTo, reportOf};
+ghost use Rattle.window.specs.Report.{isDue, kAfter, reportEnded, slotsTo, runWords, closed, runsAfter, Within, runsTo, runPut, listTo, needed, reporting, reportOne, reportedTo, listAll, reportOf};
 use slots::entry::Entry;
 
 // Words so far, and whether a run of reported entries is going on, with its first entry.
@@ -112,6 +112,15 @@ fn count_runs(w: crate::Window, words: &[u64], time: u64, mean: u32) -> Runs
     r
 }
 
+// How many words the report needs.
+fn words_needed(w: crate::Window, words: &[u64], time: u64, mean: u32) -> usize
+    requires { ⌜ Good w (now words) × (mean < 2 ^ 31) ⌝ }
+    ensures { λ n. ⌜ n ≡ needed w (now (words .entry)) time mean ⌝ }
+{
+    let r = runs_closed(count_runs(w, words, time, mean), w.held);
+    r.words
+}
+
 // The run that ends before entry i: its number, or its first with bit 31 set and its last.
 fn run_put(w: crate::Window, list: &mut [u32], r: Runs, i: usize)
     requires { ⌜ Within r i × (i ≤ 8192) × (r .words + runWords r i ≤ length (now list)) ⌝ }
@@ -183,4 +192,35 @@ fn report_entries(
         i += 1;
     }
     r
+}
+
+// The whole report, in a list that has room for it.
+fn report_all(w: crate::Window, words: &mut [u64], list: &mut [u32], time: u64, mean: u32)
+    requires { ⌜ Good w (now words) × (mean < 2 ^ 31) × (needed w (now words) time mean ≤ length (now list)) ⌝ }
+    ensures { λ _. ⌜ (now (words .exit) ≡ slotsTo w (now (words .entry)) time mean (w .held)) × (now (list .exit) ≡ listAll w (now (words .entry)) time mean (now (list .entry))) ⌝ }
+{
+    let r = report_entries(w, words, list, time, mean);
+    run_put(w, list, r, w.held);
+}
+
+// The loss report. On ListShort, and where nothing is due, the areas stay.
+pub fn loss_report(
+    w: crate::Window,
+    words: &mut [u64],
+    list: &mut [u32],
+    time: u64,
+    mean: u32,
+) -> ReportAnswer
+    requires { ⌜ Good w (now words) × (mean < 2 ^ 31) ⌝ }
+    ensures { λ r. ⌜ reportEnded r (now (words .exit)) (now (list .exit)) ≡ reportOf w (now (words .entry)) time mean (now (list .entry)) ⌝ }
+{
+    let n = words_needed(w, words, time, mean);
+    if n == 0 {
+        return ReportAnswer::Nothing;
+    }
+    if list.len() < n {
+        return ReportAnswer::ListShort;
+    }
+    report_all(w, words, list, time, mean);
+    ReportAnswer::Report { words: n }
 }
