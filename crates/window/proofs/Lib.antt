@@ -3,3 +3,4 @@ pub mod Walks
 pub mod Copies
 pub mod ReportLaws
 pub mod Reports
+pub mod ReportExamples
