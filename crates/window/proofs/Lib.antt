@@ -4,3 +4,5 @@ pub mod Copies
 pub mod ReportLaws
 pub mod Reports
 pub mod ReportExamples
+pub mod DropLaws
+pub mod Drops

@@ -2,3 +2,4 @@
 pub mod Window
 pub mod Pop
 pub mod Report
+pub mod Drop
