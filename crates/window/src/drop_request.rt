@@ -25,3 +25,33 @@ fn give_up_one(words: &mut [u64], s: usize, n: usize) -> usize
     }
     n
 }
+
+// Gives up the lost entries from `from` to before `to`, and counts them.
+fn give_up(words: &mut [u64], capacity: usize, start: usize, from: usize, to: usize) -> usize
+    requires { ⌜ Ring capacity start to (now words) × (from ≤ to) ⌝ }
+    ensures { λ r. ⌜ dropEnded r (now (words .exit)) ≡ sweep capacity start (now (words .entry)) from (to - from) ⌝ }
+{
+    let mut n = 0;
+    let mut i = from;
+    let mut s = slots::ring::slot(capacity, start, from);
+    while i < to {
+        let next = slots::ring::next_slot(capacity, s);
+        n = give_up_one(words, s, n);
+        s = next;
+        i += 1;
+    }
+    n
+}
+
+// The drop request, first to last: how many entries it gave up.
+pub fn drop_packets(w: crate::Window, words: &mut [u64], first: u32, last: u32) -> usize
+    requires { ⌜ Good w (now words) ⌝ }
+    ensures { λ r. ⌜ dropEnded r (now (words .exit)) ≡ dropOf w (now (words .entry)) first last ⌝ }
+{
+    let from = end_in(w, first);
+    let to = end_in(w, numbers::seq::sum(last, 1));
+    if to <= from {
+        return 0;
+    }
+    give_up(words, w.capacity, w.start, from, to)
+}
