@@ -93,3 +93,63 @@ module _ (capacity start : ℕ) (ws : List ℕ) (i : ℕ) where
         let a = sweep-out n (omega arith) (λ m q p. omega arith) in
         rw e
         (one-same (slotOf capacity start j) (sweep capacity start ws i n) (rw sweep-long (slot-words capacity start j (omega arith) refl w)) ∙ rw a))
+
+-- how many of the n entries from entry i on are lost
+unfoldable pub lostAmong : ℕ → ℕ → List ℕ → ℕ → ℕ → ℕ
+lostAmong capacity start ws i zero = 0
+lostAmong capacity start ws i (suc n) = lostAmong capacity start ws i n + cond (isLost (entryAt ws (slotOf capacity start (i + n)))) 1 0
+
+-- the count is that number: what is given up on the way is not counted again
+pub sweep-counts : (capacity start : ℕ) (ws : List ℕ) (i n : ℕ) → start < capacity → i + n ≤ capacity → sweep capacity start ws i n .count ≡ lostAmong capacity start ws i n
+unfolding sweep giveUp lostAmong
+sweep-counts capacity start ws i zero hs h = refl
+sweep-counts capacity start ws i (suc n) hs h =
+    let a = sweep-counts capacity start ws i n hs (omega arith) in
+    let b = sweep-out capacity start ws i hs (i + n) (omega arith) n (omega arith) (λ m k p. omega arith) in
+    rw b
+    (by-bool (isLost (entryAt ws (slotOf capacity start (i + n))))
+    (λ t. rw (t, a))
+    (λ t. rw t (omega arith)))
+
+-- a drop request from first to last
+module _ (w : Window) (ws : List ℕ) (first last : ℕ) where
+  abbrev pub dropped : Dropped
+  dropped = dropOf w ws first last
+
+  pub drop-most : dropped .count ≤ dropTo w last - dropFrom w first
+  unfolding dropOf
+  drop-most = sweep-most (w .capacity) (w .start) ws (dropFrom w first) (dropTo w last - dropFrom w first)
+
+  pub drop-long : length (dropped .slots) ≡ length ws
+  unfolding dropOf
+  drop-long = sweep-long (w .capacity) (w .start) ws (dropFrom w first) (dropTo w last - dropFrom w first)
+
+  pub drop-past : 0 < w .capacity → drop (3 * w .capacity) (dropped .slots) ≡ drop (3 * w .capacity) ws
+  unfolding dropOf
+  drop-past h = sweep-past (w .capacity) (w .start) ws (dropFrom w first) (dropTo w last - dropFrom w first) h
+
+  module _ (g : Good w ws) where
+    within : dropFrom w first + (dropTo w last - dropFrom w first) ≤ w .capacity
+    unfolding endIn
+    within = omega arith
+
+    pub drop-counts : dropped .count ≡ lostAmong (w .capacity) (w .start) ws (dropFrom w first) (dropTo w last - dropFrom w first)
+    unfolding dropOf
+    drop-counts = sweep-counts (w .capacity) (w .start) ws (dropFrom w first) (dropTo w last - dropFrom w first) (g .starts) within
+
+    -- a lost entry in the range is given up, and every other entry is as it was
+    pub drop-in : (j : ℕ) → dropFrom w first ≤ j → j < dropTo w last → entryIn w (dropped .slots) j ≡ cond (isLost (entryIn w ws j)) GivenUp (entryIn w ws j)
+    unfolding dropOf
+    drop-in j h k =
+        sweep-in (w .capacity) (w .start) ws (dropFrom w first) (g .starts) j (omega (arith, within)) (dropTo w last - dropFrom w first) (g .words) within h
+        (omega arith)
+
+    drop-out : (j : ℕ) → j < w .capacity → ((m : ℕ) → m < dropTo w last - dropFrom w first → j ≡ dropFrom w first + m → ⊥) → entryIn w (dropped .slots) j ≡ entryIn w ws j
+    unfolding dropOf
+    drop-out j h f = sweep-out (w .capacity) (w .start) ws (dropFrom w first) (g .starts) j h (dropTo w last - dropFrom w first) within f
+
+    pub drop-before : (j : ℕ) → j < w .capacity → j < dropFrom w first → entryIn w (dropped .slots) j ≡ entryIn w ws j
+    drop-before j h k = drop-out j h (λ m l e. omega arith)
+
+    pub drop-after : (j : ℕ) → j < w .capacity → dropTo w last ≤ j → entryIn w (dropped .slots) j ≡ entryIn w ws j
+    drop-after j h k = drop-out j h (λ m l e. omega arith)

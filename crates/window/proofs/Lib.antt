@@ -6,3 +6,4 @@ pub mod Reports
 pub mod ReportExamples
 pub mod DropLaws
 pub mod Drops
+pub mod DropExamples
