@@ -10,13 +10,23 @@ use Rattle.numbers.proofs.Flags.{by-test}
 use Rattle.slots.specs.Words.{isReceived, entryAt}
 use Rattle.slots.specs.Ring.{slotOf, nextSlot}
 use Rattle.slots.specs.declared.entry.Entry.{Entry}
-use Rattle.slots.proofs.Laws.{slot-lt, slot-next, slot-words, slot-words-kept, slot-bytes}
+use Rattle.slots.proofs.Laws.{slot-lt, slot-zero, slot-next, slot-words, slot-words-kept, slot-bytes}
 use Rattle.window.specs.Window.{Good, slotIn, numberIn, firstGap, lrsnFrom, cut}
 use Rattle.window.specs.declared.Window.{Window}
+
+-- a walk begins in the start slot
+pub walk-start : (capacity start : ℕ) → start < capacity → start ≡ slotOf capacity start 0
+walk-start capacity start h = sym (slot-zero capacity start h)
 
 -- a walk's slot is under the capacity, and the next one's is the next slot
 pub walk-slot : (capacity start i : ℕ) {s : ℕ} → s ≡ slotOf capacity start i → start < capacity → s < capacity
 walk-slot capacity start i e h = omega (arith, slot-lt capacity start i (omega arith))
+
+pub walk-most : {i held capacity : ℕ} → i < held → held ≤ capacity → capacity ≤ 8192 → i ≤ 8192
+walk-most h k l = omega arith
+
+pub held-most : {held capacity : ℕ} → held ≤ capacity → capacity ≤ 8192 → held ≤ 8192
+held-most k l = omega arith
 
 pub walk-on : (capacity start i : ℕ) {s t held : ℕ} → s ≡ slotOf capacity start i → t ≡ nextSlot capacity s → start < capacity → i < held → held ≤ capacity → t ≡ slotOf capacity start (i + 1)
 walk-on capacity start i e f h k l = f ∙ rw e (sym (slot-next capacity start h i (omega arith)))

@@ -1,5 +1,6 @@
 // The window over lent areas, buffer.rs: 01, "Window". The numbers of the window are a value, its entries lie in lent words and bytes.
 pub mod copy;
+pub mod drop_request;
 pub mod pop;
 pub mod push;
 pub mod report;
