@@ -1,3 +1,4 @@
 -- The laws of the window.
 pub mod Walks
 pub mod Copies
+pub mod Pops

@@ -6,6 +6,7 @@ ghost use lib.ListN.{length};
 ghost use Rattle.window.specs.Window.{Ring, Good, Bytes};
 ghost use Rattle.window.specs.Pop.{lengthIn, stampIn, messageIn, isFirst, isLast, inMessage, popEnded, runFrom, messageOf, filled, isLate, walkedTo, walkFrom, discarded, lateOf, releasedOf, frontOf, popOf};
 use clock::time::SynchronizedRemoteClock;
+use slots::entry::Entry;
 
 // A message in front; 0 packets where there is no whole one.
 pub struct Message {
@@ -38,4 +39,119 @@ pub struct Popped {
     pub window: crate::Window,
     pub clock: SynchronizedRemoteClock,
     pub answer: PopAnswer,
+}
+
+// What an entry holds, if it is received.
+fn length_in(e: Entry) -> usize
+    ensures { λ r. ⌜ r ≡ lengthIn e ⌝ }
+{
+    match e {
+        Entry::Lost { k: _, feedback: _ } => 0,
+        Entry::Received {
+            length,
+            location: _,
+            message: _,
+            stamp: _,
+        } => length,
+        Entry::GivenUp => 0,
+    }
+}
+
+fn stamp_in(e: Entry) -> u32
+    ensures { λ r. ⌜ r ≡ stampIn e ⌝ }
+{
+    match e {
+        Entry::Lost { k: _, feedback: _ } => 0,
+        Entry::Received {
+            length: _,
+            location: _,
+            message: _,
+            stamp,
+        } => stamp,
+        Entry::GivenUp => 0,
+    }
+}
+
+fn message_in(e: Entry) -> u32
+    ensures { λ r. ⌜ r ≡ messageIn e ⌝ }
+{
+    match e {
+        Entry::Lost { k: _, feedback: _ } => 0,
+        Entry::Received {
+            length: _,
+            location: _,
+            message,
+            stamp: _,
+        } => message,
+        Entry::GivenUp => 0,
+    }
+}
+
+fn is_first(e: Entry) -> bool
+    ensures { λ r. ⌜ r ≡ isFirst e ⌝ }
+{
+    match e {
+        Entry::Lost { k: _, feedback: _ } => false,
+        Entry::Received {
+            length: _,
+            location,
+            message: _,
+            stamp: _,
+        } => 2 <= location,
+        Entry::GivenUp => false,
+    }
+}
+
+fn is_last(e: Entry) -> bool
+    ensures { λ r. ⌜ r ≡ isLast e ⌝ }
+{
+    match e {
+        Entry::Lost { k: _, feedback: _ } => false,
+        Entry::Received {
+            length: _,
+            location,
+            message: _,
+            stamp: _,
+        } => location % 2 == 1,
+        Entry::GivenUp => false,
+    }
+}
+
+fn in_message(number: u32, e: Entry) -> bool
+    ensures { λ r. ⌜ r ≡ inMessage number e ⌝ }
+{
+    match e {
+        Entry::Lost { k: _, feedback: _ } => false,
+        Entry::Received {
+            length: _,
+            location: _,
+            message,
+            stamp: _,
+        } => message == number,
+        Entry::GivenUp => false,
+    }
+}
+
+// The run of received entries with this message number, through the first LAST.
+fn count_run(words: &[u64], capacity: usize, start: usize, held: usize, message: u32) -> Message
+    requires { ⌜ Ring capacity start held (now words) ⌝ }
+    ensures { λ r. ⌜ r ≡ runFrom capacity start (now (words .entry)) message 0 0 held ⌝ }
+{
+    let mut i = 0;
+    let mut s = start;
+    let mut total = 0;
+    while i < held {
+        let e = slots::entry::read_at(words, s);
+        if in_message(message, e) {
+            total += length_in(e);
+            i += 1;
+            if is_last(e) {
+                return Message { packets: i, bytes: total };
+            }
+            s = slots::ring::next_slot(capacity, s);
+        } else {
+            return Message { packets: 0, bytes: 0 };
+        }
+    }
+    Message { packets: 0, bytes: 0 }
 }
