@@ -2,3 +2,4 @@
 pub mod Walks
 pub mod Copies
 pub mod Pops
+pub mod Fills

@@ -14,8 +14,9 @@ use Rattle.slots.specs.Ring.{slotOf}
 use Rattle.slots.specs.declared.entry.Entry.{Entry}
 use Rattle.slots.specs.declared.entry.Entry.the-variants.{Lost, Received, GivenUp}
 use Rattle.slots.proofs.Laws.{slot-zero, entry-fit}
-use Rattle.window.specs.Window.{Ring}
-use Rattle.window.specs.Pop.{lengthIn, isFirst, isLast, inMessage, noMessage, runFrom}
+use Rattle.window.specs.Window.{Ring, entryIn}
+use Rattle.window.specs.Pop.{lengthIn, isFirst, isLast, inMessage, messageIn, noMessage, runFrom, messageOf}
+use Rattle.window.specs.declared.Window.{Window}
 use Rattle.window.specs.declared.pop.Message.{Message}
 use Rattle.window.proofs.Walks.{walk-words, walk-slot, walk-on}
 
@@ -88,6 +89,19 @@ module _ (capacity start : ℕ) (ws : List ℕ) (message i total held : ℕ) whe
   pub run-fits : (s : ℕ) {n : ℕ} {e : Entry} → n ≡ lengthIn e → e ≡ entryAt ws s → total ≤ 1456 * i → Ring capacity start held ws → i < held → Fits w64 (total + n)
   run-fits s g c h k l = record { fits = omega (arith, run-bytes s g c h) }
 
+-- message_in_front: the front lies in the start slot
+pub front-entry : (w : Window) (ws : List ℕ) {e : Entry} → e ≡ entryAt ws (w .start) → w .start < w .capacity → e ≡ entryIn w ws 0
+front-entry w ws c h = c ∙ ap (entryAt ws) (walk-start (w .capacity) (w .start) h)
+
+module _ (w : Window) (ws : List ℕ) {e : Entry} {t : Bool} (c : e ≡ entryAt ws (w .start)) (h : w .start < w .capacity) (d : t ≡ isFirst e) where
+  pub front-run : {m : ℕ} {r : Message} → t ≡ true → m ≡ messageIn e → r ≡ runFrom (w .capacity) (w .start) ws m 0 0 (w .held) → r ≡ messageOf w ws
+  unfolding messageOf
+  front-run f g k = rw (← front-entry w ws c h, ← d, f, ← g) k
+
+  pub front-none : t ≡ false → noMessage ≡ messageOf w ws
+  unfolding messageOf
+  front-none f = rw (← front-entry w ws c h, ← d, f)
+
 pub ruleset pops = (
   first-flag,
   last-flag,
@@ -103,5 +117,7 @@ pub ruleset pops = (
   run-again,
   run-bytes,
   run-fits,
+  front-run,
+  front-none,
   needs,
 )

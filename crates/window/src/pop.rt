@@ -3,8 +3,11 @@ ghost use mathlib.Core.Path.{_≡_};
 ghost use Prim.Native.Nat.{_+_, _*_, _<_, _≤_, _^_};
 ghost use lib.IntN.{natAbs};
 ghost use lib.ListN.{length};
+ghost use lib.Seq.{paste};
+ghost use Rattle.slots.specs.Ring.{payloadAt};
 ghost use Rattle.window.specs.Window.{Ring, Good, Bytes};
 ghost use Rattle.window.specs.Pop.{lengthIn, stampIn, messageIn, isFirst, isLast, inMessage, popEnded, runFrom, messageOf, filled, isLate, walkedTo, walkFrom, discarded, lateOf, releasedOf, frontOf, popOf};
+use crate::Window;
 use clock::time::SynchronizedRemoteClock;
 use slots::entry::Entry;
 
@@ -36,7 +39,7 @@ pub enum PopAnswer {
 }
 
 pub struct Popped {
-    pub window: crate::Window,
+    pub window: Window,
     pub clock: SynchronizedRemoteClock,
     pub answer: PopAnswer,
 }
@@ -146,12 +149,63 @@ fn count_run(words: &[u64], capacity: usize, start: usize, held: usize, message:
             total += length_in(e);
             i += 1;
             if is_last(e) {
-                return Message { packets: i, bytes: total };
+                return Message {
+                    packets: i,
+                    bytes: total,
+                };
             }
             s = slots::ring::next_slot(capacity, s);
         } else {
-            return Message { packets: 0, bytes: 0 };
+            return Message {
+                packets: 0,
+                bytes: 0,
+            };
         }
     }
-    Message { packets: 0, bytes: 0 }
+    Message {
+        packets: 0,
+        bytes: 0,
+    }
+}
+
+// The message in front: the first entry with FIRST, and the run with its message number.
+fn message_in_front(w: Window, words: &[u64]) -> Message
+    requires { ⌜ Good w (now words) ⌝ }
+    ensures { λ r. ⌜ r ≡ messageOf w (now (words .entry)) ⌝ }
+{
+    let e = slots::entry::read_at(words, w.start);
+    if is_first(e) {
+        return count_run(words, w.capacity, w.start, w.held, message_in(e));
+    }
+    Message {
+        packets: 0,
+        bytes: 0,
+    }
+}
+
+// Puts the payload in slot s, n bytes of it, into the output.
+fn put_payload(bytes: &[u8], s: usize, n: usize, out: &mut [u8], at: usize)
+    requires { ⌜ (n ≤ 1456) × (1456 * s + 1456 ≤ length (now bytes)) × (at + n ≤ length (now out)) ⌝ }
+    ensures { λ _. ⌜ now (out .exit) ≡ paste (now (out .entry)) at (payloadAt (now (bytes .entry)) s n) n ⌝ }
+{
+    let a = 1456 * s;
+    let e = a + n;
+    crate::copy::put(out, at, &bytes[a..e]);
+}
+
+// Puts the payloads of the first `count` entries into the output, one after the other.
+fn fill(words: &[u64], bytes: &[u8], capacity: usize, start: usize, count: usize, out: &mut [u8])
+    requires { ⌜ Ring capacity start count (now words) × (1456 * capacity ≤ length (now bytes)) × (filled capacity start (now words) (now bytes) (now out) count .at ≤ length (now out)) ⌝ }
+    ensures { λ _. ⌜ now (out .exit) ≡ filled capacity start (now (words .entry)) (now (bytes .entry)) (now (out .entry)) count .out ⌝ }
+{
+    let mut i = 0;
+    let mut s = start;
+    let mut at = 0;
+    while i < count {
+        let n = length_in(slots::entry::read_at(words, s));
+        put_payload(bytes, s, n, out, at);
+        at += n;
+        i += 1;
+        s = slots::ring::next_slot(capacity, s);
+    }
 }
