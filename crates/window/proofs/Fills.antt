@@ -1,19 +1,23 @@
 -- Laws for the payloads of a message in the output: pop.rt, `put_payload` and `fill`. A message that was counted has as many bytes as its payloads. Assumes nothing.
-use mathlib.Core.Path.{_≡_, refl, ap, sym, _∙_}
+use mathlib.Core.Path.{_≡_, refl, ap, sym, _∙_, subst}
 use mathlib.Core.Bool.{true, false}
-use mathlib.Core.List.{List}
+use mathlib.Core.List.{List, []}
 use Prim.Native.Nat.{ℕ, zero, suc, _+_, _-_, _*_, _<_, _≤_}
 use native.Mathlib.Numerals.{add-one}
 use native.Mathlib.Omega.{arith}
 use borrow.Author.Needs.{needs}
 use lib.ListN.{length, take, drop, length-drop}
 use lib.Seq.{paste, length-take-le, length-paste}
+use Rattle.numbers.proofs.Flags.{by-test}
 use Rattle.slots.specs.Words.{entryAt}
 use Rattle.slots.specs.Ring.{slotOf, payloadAt}
 use Rattle.slots.specs.declared.entry.Entry.{Entry}
-use Rattle.window.specs.Pop.{lengthIn, filled}
+use Rattle.window.specs.Window.{entryIn}
+use Rattle.window.specs.declared.Window.{Window}
+use Rattle.window.specs.declared.pop.Message.{Message}
+use Rattle.window.specs.Pop.{lengthIn, messageIn, isFirst, isLast, inMessage, runFrom, messageOf, filled}
 use Rattle.window.proofs.Walks.{walk-words, walk-bytes, walk-slot, walk-on}
-use Rattle.window.proofs.Pops.{length-read, walk-start, run-bytes, run-fits}
+use Rattle.window.proofs.Runs.{length-read, walk-start, run-bytes, run-fits}
 
 -- put_payload: the part of the area is the slot's payload
 payload-long : (bs : List ℕ) (s n : ℕ) → n ≤ 1456 → 1456 * s + 1456 ≤ length bs → length (payloadAt bs s n) ≡ n
@@ -97,6 +101,40 @@ module _ (capacity start : ℕ) (ws bs out : List ℕ) where
       → out₁ ≡ filled capacity start ws bs out i .out → filled capacity start ws bs out count .at ≤ length out → i ≤ count → start < capacity → 1456 * capacity ≤ length bs
       → length out₁ ≡ length out
   fill-same i count f k h hs hb = let p = at-within h in ap length f ∙ fill-length i (omega arith) hs hb
+
+  -- a run that was counted: no more entries than there are, and the bytes of its payloads
+  abbrev Whole : ℕ → Message → Type 0
+  Whole top m = 0 < m .packets → (m .packets ≤ top) × (filled capacity start ws bs out (m .packets) .at ≡ m .bytes)
+
+  run-whole : (message top n i total : ℕ) → i + n ≤ top → total ≡ filled capacity start ws bs out i .at → Whole top (runFrom capacity start ws message i total n)
+  unfolding runFrom
+  run-whole message top zero i total h a = λ p. absurd (omega arith)
+  run-whole message top (suc n) i total h a =
+      let e = entryAt ws (slotOf capacity start i) in
+      by-test (Whole top) (inMessage message e) _ _
+      (λ t.
+      by-test (Whole top) (isLast e) _ _
+      (λ u p. (omega arith, sym (at-after i a refl refl refl)))
+      (λ u. run-whole message top n (i + 1) (total + lengthIn e) (omega arith) (at-after i a refl refl refl)))
+      (λ t p. absurd (omega arith))
+
+-- a whole message in front
+module _ (w : Window) (ws bs out : List ℕ) {m : Message} (c : m ≡ messageOf w ws) (h : 0 < m .packets) where
+  front-whole : (m .packets ≤ w .held) × (filled (w .capacity) (w .start) ws bs out (m .packets) .at ≡ m .bytes)
+  unfolding messageOf
+  front-whole =
+      let e = entryIn w ws 0 in
+      subst (Whole (w .capacity) (w .start) ws bs out (w .held)) (sym c)
+      (by-test (Whole (w .capacity) (w .start) ws bs out (w .held)) (isFirst e) _ _
+      (λ t. run-whole (w .capacity) (w .start) ws bs out (messageIn e) (w .held) (w .held) 0 0 (omega arith) (at-start (w .capacity) (w .start) ws bs out))
+      (λ t p. absurd (omega arith)))
+      h
+
+  pub front-room : m .bytes ≤ length out → filled (w .capacity) (w .start) ws bs out (m .packets) .at ≤ length out
+  front-room k = omega (arith, front-whole .1)
+
+pub front-held : (w : Window) (ws : List ℕ) {m : Message} → m ≡ messageOf w ws → 0 < m .packets → m .packets ≤ w .held
+front-held w ws c h = front-whole w ws [] [] c h .0
 
 pub read-most : (ws : List ℕ) (s : ℕ) {n : ℕ} {e : Entry} → n ≡ lengthIn e → e ≡ entryAt ws s → n ≤ 1456
 read-most ws s d c = omega (arith, d ∙ ap lengthIn c, length-read ws s)

@@ -1,5 +1,6 @@
 -- The laws of the window.
 pub mod Walks
 pub mod Copies
-pub mod Pops
+pub mod Runs
 pub mod Fills
+pub mod Lates

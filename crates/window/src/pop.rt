@@ -6,8 +6,9 @@ ghost use lib.ListN.{length};
 ghost use lib.Seq.{paste};
 ghost use Rattle.slots.specs.Ring.{payloadAt};
 ghost use Rattle.window.specs.Window.{Ring, Good, Bytes};
-ghost use Rattle.window.specs.Pop.{lengthIn, stampIn, messageIn, isFirst, isLast, inMessage, popEnded, runFrom, messageOf, filled, isLate, walkedTo, walkFrom, discarded, lateOf, releasedOf, frontOf, popOf};
+ghost use Rattle.window.specs.Pop.{lengthIn, stampIn, messageIn, isFirst, isLast, inMessage, popEnded, runFrom, messageOf, filled, isLate, walkedTo, walkFrom, discarded, lateOf, releasedOf, frontOf, popOf, dueOf, limitOf, PopReady};
 use crate::Window;
+use clock::base::TimeBase;
 use clock::time::SynchronizedRemoteClock;
 use slots::entry::Entry;
 
@@ -208,4 +209,20 @@ fn fill(words: &[u64], bytes: &[u8], capacity: usize, start: usize, count: usize
         i += 1;
         s = slots::ring::next_slot(capacity, s);
     }
+}
+
+// An entry's time + latency.
+fn due(base: TimeBase, latency: u32, stamp: u32) -> i64
+    requires { ⌜ (natAbs (base .time) ≤ 2 ^ 61) × (latency ≤ 65535000) ⌝ }
+    ensures { λ r. ⌜ r ≡ dueOf base latency stamp ⌝ }
+{
+    base.instant_from(stamp) + latency as i64
+}
+
+// An entry with a time up to this one is late.
+fn late_limit(time: i64, latency: u32) -> i64
+    requires { ⌜ (natAbs time < 2 ^ 60) × (latency ≤ 65535000) ⌝ }
+    ensures { λ r. ⌜ r ≡ limitOf time latency ⌝ }
+{
+    time - latency as i64 - 5_000
 }

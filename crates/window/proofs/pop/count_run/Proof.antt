@@ -2,7 +2,7 @@ use mathlib.Core.Path.{_≡_}
 use Prim.Native.Nat.{_-_, _*_, _≤_}
 use Rattle.slots.specs.Ring.{slotOf}
 use Rattle.window.specs.Pop.{runFrom}
-use Rattle.window.proofs.Pops.{pops}
+use Rattle.window.proofs.Runs.{runs}
 use Rattle.window.proofs.pop.count_run.Statement.{statement}
 use Rattle.window.proofs.pop.count_run.Tie as tie
 
@@ -19,16 +19,16 @@ count-run-spec =
     (tie.spec
     Inv-loop
     μ-loop
-    (λ c. search pops)
-    (λ c κs. search pops)
-    (λ c κs. search pops)
-    (λ c κs. search pops)
-    (λ c. search pops)
-    (λ c. search pops)
-    (λ c κs. search pops)
-    (λ c. search pops)
-    (λ c κs. search pops)
-    (λ c. search pops)
-    (λ c. search pops)
-    (λ c. search pops)
-    (λ c. search pops))
+    (λ c. search runs)
+    (λ c κs. search runs)
+    (λ c κs. search runs)
+    (λ c κs. search runs)
+    (λ c. search runs)
+    (λ c. search runs)
+    (λ c κs. search runs)
+    (λ c. search runs)
+    (λ c κs. search runs)
+    (λ c. search runs)
+    (λ c. search runs)
+    (λ c. search runs)
+    (λ c. search runs))

@@ -1,4 +1,4 @@
-use Rattle.window.proofs.Pops.{pops}
+use Rattle.window.proofs.Runs.{runs}
 use Rattle.window.proofs.pop.in_message.Statement.{statement}
 use Rattle.window.proofs.pop.in_message.Tie as tie
 
@@ -6,9 +6,9 @@ pub in-message-spec : {M : Type 1} → statement M
 in-message-spec =
     tie.close
     (tie.spec
-    (λ c. search pops)
-    (λ c. search pops)
-    (λ c. search pops)
-    (λ c. search pops)
-    (λ c. search pops)
-    (λ c. search pops))
+    (λ c. search runs)
+    (λ c. search runs)
+    (λ c. search runs)
+    (λ c. search runs)
+    (λ c. search runs)
+    (λ c. search runs))

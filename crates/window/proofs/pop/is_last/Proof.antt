@@ -1,4 +1,4 @@
-use Rattle.window.proofs.Pops.{pops}
+use Rattle.window.proofs.Runs.{runs}
 use Rattle.window.proofs.pop.is_last.Statement.{statement}
 use Rattle.window.proofs.pop.is_last.Tie as tie
 
@@ -6,9 +6,9 @@ pub is-last-spec : {M : Type 1} → statement M
 is-last-spec =
     tie.close
     (tie.spec
-    (λ c. search pops)
-    (λ c. search pops)
-    (λ c. search pops)
-    (λ c. search pops)
-    (λ c. search pops)
-    (λ c. search pops))
+    (λ c. search runs)
+    (λ c. search runs)
+    (λ c. search runs)
+    (λ c. search runs)
+    (λ c. search runs)
+    (λ c. search runs))

@@ -1,4 +1,4 @@
--- What the code of pop.rt does at each turn and return, as laws over plain values; the proof files hand them to `search`. Assumes nothing.
+-- Laws for what an entry holds and for the count of a message: pop.rt, as far as `message_in_front`. Assumes nothing.
 use mathlib.Core.Path.{_≡_, refl, ap, sym, _∙_, subst}
 use mathlib.Core.Bool.{Bool, true, false, cond}
 use mathlib.Core.List.{List}
@@ -102,7 +102,7 @@ module _ (w : Window) (ws : List ℕ) {e : Entry} {t : Bool} (c : e ≡ entryAt 
   unfolding messageOf
   front-none f = rw (← front-entry w ws c h, ← d, f)
 
-pub ruleset pops = (
+pub ruleset runs = (
   first-flag,
   last-flag,
   message-flag,
