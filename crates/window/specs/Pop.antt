@@ -105,6 +105,17 @@ isLate base limit e = leZ (instantOf base (stampIn e)) limit || not (isFirst e)
 abbrev pub walkedTo : Walk → ℕ → Entry → Walk
 walkedTo k i e = record { count = i + 1; first = cond (eqb (k .count) 0) (stampIn e) (k .first) }
 
+-- no received entry walked
+abbrev pub noWalk : Walk
+noWalk = record { count = 0; first = 0 }
+
+-- an entry that ends the walk, and the walk after one that does not: entry i
+unfoldable pub isKept : TimeBase → ℤ → Entry → Bool
+isKept base limit e = isReceived e && not (isLate base limit e)
+
+unfoldable pub walkPast : Walk → ℕ → Entry → Walk
+walkPast k i e = cond (isReceived e) (walkedTo k i e) k
+
 -- the walk over entries not received, or late: how many entries go through the last received one walked, and the stamp of the first
 unfoldable pub walkFrom : TimeBase → ℤ → ℕ → ℕ → List ℕ → ℕ → Walk → ℕ → Walk
 walkFrom base limit capacity start ws i k zero = k
@@ -154,7 +165,7 @@ module _ (k : SynchronizedRemoteClock) (latency : ℕ) (drop : Bool) (w : Window
   unfoldable pub lateOf : Popped
   lateOf =
       cond drop
-      (discarded k latency w ws now (walkFrom (k .base) (limitOf now latency) (w .capacity) (w .start) ws 0 (record { count = 0; first = 0 }) (w .held)))
+      (discarded k latency w ws now (walkFrom (k .base) (limitOf now latency) (w .capacity) (w .start) ws 0 noWalk (w .held)))
       (nothing k w)
 
   module _ (bs out : List ℕ) where

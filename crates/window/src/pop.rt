@@ -6,7 +6,7 @@ ghost use lib.ListN.{length};
 ghost use lib.Seq.{paste};
 ghost use Rattle.slots.specs.Ring.{payloadAt};
 ghost use Rattle.window.specs.Window.{Ring, Good, Bytes};
-ghost use Rattle.window.specs.Pop.{lengthIn, stampIn, messageIn, isFirst, isLast, inMessage, popEnded, runFrom, messageOf, filled, isLate, walkedTo, walkFrom, discarded, lateOf, releasedOf, frontOf, popOf, dueOf, limitOf, PopReady};
+ghost use Rattle.window.specs.Pop.{lengthIn, stampIn, messageIn, isFirst, isLast, inMessage, popEnded, runFrom, messageOf, filled, isLate, isKept, walkPast, walkFrom, noWalk, discarded, lateOf, releasedOf, frontOf, popOf, dueOf, limitOf, PopReady};
 use crate::Window;
 use clock::base::TimeBase;
 use clock::time::SynchronizedRemoteClock;
@@ -225,4 +225,75 @@ fn late_limit(time: i64, latency: u32) -> i64
     ensures { λ r. ⌜ r ≡ limitOf time latency ⌝ }
 {
     time - latency as i64 - 5_000
+}
+
+fn is_late(base: TimeBase, limit: i64, e: Entry) -> bool
+    requires { ⌜ natAbs (base .time) ≤ 2 ^ 61 ⌝ }
+    ensures { λ r. ⌜ r ≡ isLate base limit e ⌝ }
+{
+    if is_first(e) {
+        return base.instant_from(stamp_in(e)) <= limit;
+    }
+    true
+}
+
+// A received entry that is not late ends the walk.
+fn is_kept(base: TimeBase, limit: i64, e: Entry) -> bool
+    requires { ⌜ natAbs (base .time) ≤ 2 ^ 61 ⌝ }
+    ensures { λ r. ⌜ r ≡ isKept base limit e ⌝ }
+{
+    if slots::entry::is_received(e) {
+        if is_late(base, limit, e) {
+            return false;
+        }
+        return true;
+    }
+    false
+}
+
+// The walk after entry i.
+fn walk_past(k: Walk, i: usize, e: Entry) -> Walk
+    requires { ⌜ i < 8192 ⌝ }
+    ensures { λ r. ⌜ r ≡ walkPast k i e ⌝ }
+{
+    if slots::entry::is_received(e) {
+        if k.count == 0 {
+            return Walk {
+                count: i + 1,
+                first: stamp_in(e),
+            };
+        }
+        return Walk {
+            count: i + 1,
+            first: k.first,
+        };
+    }
+    k
+}
+
+// The walk from the front over entries not received, or late.
+fn walk_late(
+    words: &[u64],
+    capacity: usize,
+    start: usize,
+    held: usize,
+    base: TimeBase,
+    limit: i64,
+) -> Walk
+    requires { ⌜ Ring capacity start held (now words) × (natAbs (base .time) ≤ 2 ^ 61) ⌝ }
+    ensures { λ r. ⌜ r ≡ walkFrom base limit capacity start (now (words .entry)) 0 noWalk held ⌝ }
+{
+    let mut i = 0;
+    let mut s = start;
+    let mut k = Walk { count: 0, first: 0 };
+    while i < held {
+        let e = slots::entry::read_at(words, s);
+        if is_kept(base, limit, e) {
+            return k;
+        }
+        k = walk_past(k, i, e);
+        i += 1;
+        s = slots::ring::next_slot(capacity, s);
+    }
+    k
 }
