@@ -4,3 +4,4 @@ pub mod Copies
 pub mod Runs
 pub mod Fills
 pub mod Lates
+pub mod Pops

@@ -136,13 +136,17 @@ limitOf now latency = now -ℤ pos latency -ℤ pos 5000
 abbrev pub nothing : SynchronizedRemoteClock → Window → Popped
 nothing k w = record { window = w; clock = k; answer = answers.Nothing }
 
--- discard through the last received one walked (none: nothing); lrsn is searched from the new front
+-- n entries are discarded; lrsn is searched from the new front
+unfoldable pub discardFront : Window → List ℕ → ℕ → Window
+discardFront w ws n = withLrsn (cut w n) (lrsnFrom (cut w n) ws 0)
+
+-- discard through the last received one walked (none: nothing)
 unfoldable pub discarded : SynchronizedRemoteClock → ℕ → Window → List ℕ → ℤ → Walk → Popped
 discarded k latency w ws now walk =
     cond (eqb (walk .count) 0)
     (nothing k w)
     (record {
-      window = withLrsn (cut w (walk .count)) (lrsnFrom (cut w (walk .count)) ws 0);
+      window = discardFront w ws (walk .count);
       clock = k;
       answer = answers.Late (w .seqno0) (numberIn w (walk .count)) (intervalOf (dueOf (k .base) latency (walk .first)) now);
     })

@@ -6,7 +6,7 @@ ghost use lib.ListN.{length};
 ghost use lib.Seq.{paste};
 ghost use Rattle.slots.specs.Ring.{payloadAt};
 ghost use Rattle.window.specs.Window.{Ring, Good, Bytes};
-ghost use Rattle.window.specs.Pop.{lengthIn, stampIn, messageIn, isFirst, isLast, inMessage, popEnded, runFrom, messageOf, filled, isLate, isKept, walkPast, walkFrom, noWalk, discarded, lateOf, releasedOf, frontOf, popOf, dueOf, limitOf, PopReady};
+ghost use Rattle.window.specs.Pop.{lengthIn, stampIn, messageIn, isFirst, isLast, inMessage, popEnded, runFrom, messageOf, filled, isLate, isKept, walkPast, walkFrom, noWalk, discardFront, discarded, lateOf, releasedOf, frontOf, popOf, dueOf, limitOf, PopReady};
 use crate::Window;
 use clock::base::TimeBase;
 use clock::time::SynchronizedRemoteClock;
@@ -296,4 +296,54 @@ fn walk_late(
         s = slots::ring::next_slot(capacity, s);
     }
     k
+}
+
+// The window without its first n entries; lrsn is searched from the new front.
+fn discard_front(w: Window, words: &[u64], n: usize) -> Window
+    requires { ⌜ Good w (now words) × (n ≤ w .held) ⌝ }
+    ensures { λ r. ⌜ r ≡ discardFront w (now (words .entry)) n ⌝ }
+{
+    let c = crate::cut_front(w, n);
+    let lrsn = crate::search_lrsn(c, words, 0);
+    Window {
+        capacity: c.capacity,
+        start: c.start,
+        held: c.held,
+        seqno0: c.seqno0,
+        lrsn,
+    }
+}
+
+// Discards through the last received entry walked.
+fn discard(
+    w: Window,
+    clock: SynchronizedRemoteClock,
+    latency: u32,
+    words: &[u64],
+    time: i64,
+    walk: Walk,
+) -> Popped
+    requires { ⌜ Good w (now words) × (walk .count ≤ w .held) × (natAbs (clock .base .time) ≤ 2 ^ 61) × (latency ≤ 65535000) ⌝ }
+    ensures { λ r. ⌜ r ≡ discarded clock latency w (now (words .entry)) time walk ⌝ }
+{
+    if walk.count == 0 {
+        return Popped {
+            window: w,
+            clock,
+            answer: PopAnswer::Nothing,
+        };
+    }
+    let base = clock.base;
+    let delay = numbers::instant::interval(due(base, latency, walk.first), time);
+    let window = discard_front(w, words, walk.count);
+    let answer = PopAnswer::Late {
+        first: w.seqno0,
+        end: window.seqno0,
+        delay,
+    };
+    Popped {
+        window,
+        clock,
+        answer,
+    }
 }
