@@ -19,7 +19,7 @@ use Rattle.clock.specs.declared.time.SynchronizedRemoteClock.{SynchronizedRemot
 use Rattle.slots.specs.Words.{isReceived, entryAt}
 use Rattle.slots.specs.declared.entry.Entry.{Entry}
 use Rattle.slots.proofs.Laws.{slot-lt}
-use Rattle.window.specs.Window.{Good, Bytes, lrsnFrom, cut}
+use Rattle.window.specs.Window.{Good, Ring, lrsnFrom, cut}
 use Rattle.window.specs.Pop.{stampIn, popEnded, messageOf, filled, walkFrom, noWalk, dueOf, limitOf, nothing, discardFront, discarded, releasedOf, lateOf, frontOf, popOf}
 use Rattle.window.specs.declared.Window.{Window}
 use Rattle.window.specs.declared.pop.Message.{Message}
@@ -59,4 +59,36 @@ module _ (k : SynchronizedRemoteClock) (latency : ℕ) (w : Window) (ws : List �
   unfolding discarded discardFront
   discard-some h e a b p q o = rw (ne-eqb (walk .count) 0 h, o, b, p, q, a, e)
 
-pub ruleset pops = (cut-good, front-discarded, discard-none, discard-some, needs)
+-- drop_late
+pub walk-within : (w : Window) (ws : List ℕ) (base : TimeBase) (limit : ℤ) {walk : Walk}
+    → walk ≡ walkFrom base limit (w .capacity) (w .start) ws 0 noWalk (w .held) → walk .count ≤ w .held
+walk-within w ws base limit e = rw e (walk-held base limit (w .capacity) (w .start) ws (w .held) (w .held) 0 noWalk (omega arith) (omega arith))
+
+module _ (k : SynchronizedRemoteClock) (latency : ℕ) (drop : Bool) (w : Window) (ws : List ℕ) (now : ℤ) where
+  pub drop-off : drop ≡ false → popped w k answers.Nothing ≡ lateOf k latency drop w ws now
+  unfolding lateOf
+  drop-off h = rw h
+
+  pub drop-on : {z n l m : ℤ} {walk : Walk} {r : Popped}
+      → drop ≡ true → r ≡ discarded k latency w ws n walk → n ≡ now → walk ≡ walkFrom (k .base) m (w .capacity) (w .start) ws 0 noWalk (w .held) → m ≡ l → l ≡ limitOf z latency → z ≡ now
+      → r ≡ lateOf k latency drop w ws now
+  unfolding lateOf
+  drop-on h a p b q c o = rw h (a ∙ rw (p, b, q, c, o))
+
+-- release
+pub front-ring : (w : Window) (ws : List ℕ) {m : Message} → m ≡ messageOf w ws → 0 < m .packets → Good w ws → Ring (w .capacity) (w .start) (m .packets) ws
+front-ring w ws c h g =
+    record { most = g .most; starts = g .starts; holds = omega (arith, front-held w ws c h, g .holds); words = g .words }
+
+module _ (k : SynchronizedRemoteClock) (w : Window) (ws bs out : List ℕ) (stamp : ℕ) (m : Message) where
+  pub release-short : length out < m .bytes → popEnded (popped w k answers.OutShort) out ≡ releasedOf k w ws bs out stamp m
+  unfolding releasedOf
+  release-short h = rw (lt-ltb _ _ h)
+
+  pub release-whole : {r : Release} {t : ℤ} {c : Window} {out₁ : List ℕ}
+      → m .bytes ≤ length out → r ≡ releaseOf k stamp → c ≡ cut w (m .packets) → out₁ ≡ filled (w .capacity) (w .start) ws bs out (m .packets) .out → t ≡ r .time
+      → popEnded (popped c (r .clock) (answers.Message t (m .bytes) (m .packets))) out₁ ≡ releasedOf k w ws bs out stamp m
+  unfolding releasedOf
+  release-whole h a b e p = rw (le-ltb _ _ h, p, a, b, e)
+
+pub ruleset pops = (cut-good, front-discarded, discard-none, discard-some, walk-within, drop-off, drop-on, front-ring, front-room, front-held, release-short, release-whole, needs)

@@ -347,3 +347,64 @@ fn discard(
         answer,
     }
 }
+
+// The late walk, if late dropping is on.
+fn drop_late(
+    w: Window,
+    clock: SynchronizedRemoteClock,
+    latency: u32,
+    late_drop: bool,
+    words: &[u64],
+    time: i64,
+) -> Popped
+    requires { ⌜ Good w (now words) × (natAbs (clock .base .time) ≤ 2 ^ 61) × (natAbs time < 2 ^ 60) × (latency ≤ 65535000) ⌝ }
+    ensures { λ r. ⌜ r ≡ lateOf clock latency «late_drop» w (now (words .entry)) time ⌝ }
+{
+    if late_drop {
+        let base = clock.base;
+        let limit = late_limit(time, latency);
+        let walk = walk_late(words, w.capacity, w.start, w.held, base, limit);
+        return discard(w, clock, latency, words, time, walk);
+    }
+    Popped {
+        window: w,
+        clock,
+        answer: PopAnswer::Nothing,
+    }
+}
+
+// A whole message is due: its payloads go to the output, if they fit.
+fn release(
+    w: Window,
+    clock: SynchronizedRemoteClock,
+    words: &[u64],
+    bytes: &[u8],
+    out: &mut [u8],
+    stamp: u32,
+    m: Message,
+) -> Popped
+    requires { ⌜ Good w (now words) × Bytes w (now bytes) × (natAbs (clock .base .time) ≤ 2 ^ 61) × (m ≡ messageOf w (now words)) × (0 < m .packets) ⌝ }
+    ensures { λ r. ⌜ popEnded r (now (out .exit)) ≡ releasedOf clock w (now (words .entry)) (now (bytes .entry)) (now (out .entry)) stamp m ⌝ }
+{
+    if out.len() < m.bytes {
+        return Popped {
+            window: w,
+            clock,
+            answer: PopAnswer::OutShort,
+        };
+    }
+    fill(words, bytes, w.capacity, w.start, m.packets, out);
+    let window = crate::cut_front(w, m.packets);
+    let released = clock.monotonic_instant_from(stamp);
+    let next = released.clock;
+    let answer = PopAnswer::Message {
+        time: released.time,
+        bytes: m.bytes,
+        packets: m.packets,
+    };
+    Popped {
+        window,
+        clock: next,
+        answer,
+    }
+}
