@@ -1,16 +1,18 @@
 -- What the code of pop.rt does at each return, from `discard_front` on, as laws over plain values; the proof files hand them to `search`. A signed number
 -- stands twice, as it is and as the machine reads it back. Assumes nothing.
 use mathlib.Core.Path.{_≡_, refl, ap, sym, _∙_}
-use mathlib.Core.Bool.{Bool, true, false}
+use mathlib.Core.Bool.{Bool, true, false, _&&_}
 use mathlib.Core.List.{List}
 use Prim.Native.Nat.{ℕ, _+_, _-_, _*_, _^_, _<_, _≤_}
 use native.Mathlib.Omega.{arith}
 use borrow.Author.Needs.{needs}
 use borrow.Author.Tests.{lt-ltb, le-ltb, eq-eqb, ne-eqb}
-use lib.IntN.{ℤ, natAbs}
+use lib.Dec.{ltb, eqb}
+use lib.IntN.{ℤ}
 use lib.ListN.{length}
 use lib.Signed.{ltZ}
 use Rattle.numbers.specs.Whole.{intervalOf}
+use Rattle.numbers.proofs.Flags.{impossible, by-test, by-order}
 use Rattle.numbers.proofs.Circle.{sum-below}
 use Rattle.clock.specs.Release.{releaseOf}
 use Rattle.clock.specs.declared.base.TimeBase.{TimeBase}
@@ -18,9 +20,10 @@ use Rattle.clock.specs.declared.time.Release.{Release}
 use Rattle.clock.specs.declared.time.SynchronizedRemoteClock.{SynchronizedRemoteClock}
 use Rattle.slots.specs.Words.{isReceived, entryAt}
 use Rattle.slots.specs.declared.entry.Entry.{Entry}
+use Rattle.slots.specs.declared.entry.Entry.the-variants.{GivenUp}
 use Rattle.slots.proofs.Laws.{slot-lt}
-use Rattle.window.specs.Window.{Good, Ring, lrsnFrom, cut}
-use Rattle.window.specs.Pop.{stampIn, popEnded, messageOf, filled, walkFrom, noWalk, dueOf, limitOf, nothing, discardFront, discarded, releasedOf, lateOf, frontOf, popOf}
+use Rattle.window.specs.Window.{Good, Ring, entryIn, lrsnFrom, cut}
+use Rattle.window.specs.Pop.{stampIn, popEnded, messageOf, filled, walkFrom, noWalk, frontIn, dueOf, limitOf, nothing, discardFront, discarded, releasedOf, lateOf, frontOf, popOf}
 use Rattle.window.specs.declared.Window.{Window}
 use Rattle.window.specs.declared.pop.Message.{Message}
 use Rattle.window.specs.declared.pop.Walk.{Walk}
@@ -91,4 +94,78 @@ module _ (k : SynchronizedRemoteClock) (w : Window) (ws bs out : List ℕ) (stam
   unfolding releasedOf
   release-whole h a b e p = rw (le-ltb _ _ h, p, a, b, e)
 
-pub ruleset pops = (cut-good, front-discarded, discard-none, discard-some, walk-within, drop-off, drop-on, front-ring, front-room, front-held, release-short, release-whole, needs)
+-- front
+pub no-front : (w : Window) (ws : List ℕ) → w .held ≡ 0 → GivenUp ≡ frontIn w ws
+unfolding frontIn
+no-front w ws h = rw (eq-eqb (w .held) 0 h)
+
+pub some-front : (w : Window) (ws : List ℕ) {e : Entry} → (w .held ≡ 0 → ⊥) → e ≡ entryAt ws (w .start) → w .start < w .capacity → e ≡ frontIn w ws
+unfolding frontIn
+some-front w ws h c g = rw (ne-eqb (w .held) 0 h) (front-entry w ws c g)
+
+-- a window that holds nothing has no received front; one that holds some has it in the start slot
+front-test : (w : Window) (ws : List ℕ) → (ltb 0 (w .held) && isReceived (entryIn w ws 0)) ≡ isReceived (frontIn w ws)
+unfolding frontIn
+front-test w ws =
+    by-order 0 (w .held)
+    (λ h. rw (lt-ltb 0 (w .held) h, ne-eqb (w .held) 0 (λ e. omega arith)))
+    (λ h. rw (le-ltb 0 (w .held) h, eq-eqb (w .held) 0 (omega arith)))
+
+front-same : (w : Window) (ws : List ℕ) → isReceived (frontIn w ws) ≡ true → frontIn w ws ≡ entryIn w ws 0
+unfolding frontIn
+front-same w ws =
+    by-test (λ (e : Entry). isReceived e ≡ true → e ≡ entryIn w ws 0) (eqb (w .held) 0) GivenUp (entryIn w ws 0) (λ t f. impossible (sym f)) (λ t f. refl)
+
+-- pop_front
+module _ (k : SynchronizedRemoteClock) (latency : ℕ) (drop : Bool) (w : Window) (ws : List ℕ) (now : ℤ) (bs out : List ℕ) where
+  module _ (stamp : ℕ) {d d₁ n : ℤ} (a : d ≡ dueOf (k .base) latency stamp) (p : d₁ ≡ d) (q : n ≡ now) where
+    pub front-early : ltZ n d₁ ≡ true → popEnded (popped w k answers.Nothing) out ≡ frontOf k latency drop w ws now bs out stamp
+    unfolding frontOf
+    front-early h = rw (← a, ← p, ← q, h)
+
+    module _ {m : Message} (h : ltZ n d₁ ≡ false) (b : m ≡ messageOf w ws) where
+      pub front-released : {r : Popped} {out₁ : List ℕ}
+          → 0 < m .packets → popEnded r out₁ ≡ releasedOf k w ws bs out stamp m → popEnded r out₁ ≡ frontOf k latency drop w ws now bs out stamp
+      unfolding frontOf
+      front-released l e = rw (← a, ← p, ← q, h, ← b, lt-ltb _ _ l) e
+
+      pub front-late : {r : Popped} {z : ℤ}
+          → m .packets ≤ 0 → r ≡ lateOf k latency drop w ws z → z ≡ now → popEnded r out ≡ frontOf k latency drop w ws now bs out stamp
+      unfolding frontOf
+      front-late l e o = rw (← a, ← p, ← q, h, ← b, le-ltb _ _ l) (rw e (rw (o ∙ sym q)))
+
+  -- pop
+  module _ {e : Entry} {t : Bool} (c : e ≡ frontIn w ws) (d : t ≡ isReceived e) where
+    pub pop-received : {stamp : ℕ} {z : ℤ} {r : Popped} {out₁ : List ℕ}
+        → t ≡ true → stamp ≡ stampIn e → popEnded r out₁ ≡ frontOf k latency drop w ws z bs out stamp → z ≡ now → popEnded r out₁ ≡ popOf k latency drop w ws now bs out
+    unfolding popOf
+    pop-received f a b o =
+        let g : isReceived (frontIn w ws) ≡ true = rw (← c, ← d) f in
+        rw (front-test w ws, g, ← front-same w ws g, ← c, ← a, ← o) b
+
+    pub pop-gap : {r : Popped} {z : ℤ} → t ≡ false → r ≡ lateOf k latency drop w ws z → z ≡ now → popEnded r out ≡ popOf k latency drop w ws now bs out
+    unfolding popOf
+    pop-gap f a o = rw (front-test w ws, ← c, ← d, f, a, o)
+
+pub ruleset pops = (
+  cut-good,
+  front-discarded,
+  discard-none,
+  discard-some,
+  walk-within,
+  drop-off,
+  drop-on,
+  front-ring,
+  front-room,
+  front-held,
+  release-short,
+  release-whole,
+  front-early,
+  front-released,
+  front-late,
+  no-front,
+  some-front,
+  pop-received,
+  pop-gap,
+  needs,
+)

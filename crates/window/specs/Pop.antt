@@ -186,6 +186,10 @@ module _ (k : SynchronizedRemoteClock) (latency : ℕ) (drop : Bool) (w : Window
         (frontOf (stampIn (entryIn w ws 0)))
         (popEnded lateOf out)
 
+-- the front, or given up where there is none: `popOf` by one test, as the code has it
+unfoldable pub frontIn : Window → List ℕ → Entry
+frontIn w ws = cond (eqb (w .held) 0) GivenUp (entryIn w ws 0)
+
 -- what the tests of head, areas and reading have shown
 pub record PopReady (k : SynchronizedRemoteClock) (latency : ℕ) (w : Window) (ws bs : List ℕ) (now : ℤ) : Type 0 where
   pub good : Good w ws

@@ -6,7 +6,7 @@ ghost use lib.ListN.{length};
 ghost use lib.Seq.{paste};
 ghost use Rattle.slots.specs.Ring.{payloadAt};
 ghost use Rattle.window.specs.Window.{Ring, Good, Bytes};
-ghost use Rattle.window.specs.Pop.{lengthIn, stampIn, messageIn, isFirst, isLast, inMessage, popEnded, runFrom, messageOf, filled, isLate, isKept, walkPast, walkFrom, noWalk, discardFront, discarded, lateOf, releasedOf, frontOf, popOf, dueOf, limitOf, PopReady};
+ghost use Rattle.window.specs.Pop.{lengthIn, stampIn, messageIn, isFirst, isLast, inMessage, popEnded, runFrom, messageOf, filled, isLate, isKept, walkPast, walkFrom, noWalk, frontIn, discardFront, discarded, lateOf, releasedOf, frontOf, popOf, dueOf, limitOf, PopReady};
 use crate::Window;
 use clock::base::TimeBase;
 use clock::time::SynchronizedRemoteClock;
@@ -407,4 +407,76 @@ fn release(
         clock: next,
         answer,
     }
+}
+
+// The front is received: nothing before its time + latency, else its message if that is whole.
+fn pop_front(
+    w: Window,
+    clock: SynchronizedRemoteClock,
+    latency: u32,
+    late_drop: bool,
+    words: &[u64],
+    bytes: &[u8],
+    out: &mut [u8],
+    time: i64,
+    stamp: u32,
+) -> Popped
+    requires { ⌜ PopReady clock latency w (now words) (now bytes) time ⌝ }
+    ensures { λ r. ⌜ popEnded r (now (out .exit)) ≡ frontOf clock latency «late_drop» w (now (words .entry)) time (now (bytes .entry)) (now (out .entry)) stamp ⌝ }
+{
+    let base = clock.base;
+    if time < due(base, latency, stamp) {
+        return Popped {
+            window: w,
+            clock,
+            answer: PopAnswer::Nothing,
+        };
+    }
+    let m = message_in_front(w, words);
+    if 0 < m.packets {
+        return release(w, clock, words, bytes, out, stamp, m);
+    }
+    drop_late(w, clock, latency, late_drop, words, time)
+}
+
+// The front, or given up where there is none.
+fn front(w: Window, words: &[u64]) -> Entry
+    requires { ⌜ Good w (now words) ⌝ }
+    ensures { λ r. ⌜ r ≡ frontIn w (now (words .entry)) ⌝ }
+{
+    if w.held == 0 {
+        return Entry::GivenUp;
+    }
+    slots::entry::read_at(words, w.start)
+}
+
+// A pop at a reading of the clock.
+pub fn pop(
+    w: Window,
+    clock: SynchronizedRemoteClock,
+    latency: u32,
+    late_drop: bool,
+    words: &[u64],
+    bytes: &[u8],
+    out: &mut [u8],
+    time: i64,
+) -> Popped
+    requires { ⌜ PopReady clock latency w (now words) (now bytes) time ⌝ }
+    ensures { λ r. ⌜ popEnded r (now (out .exit)) ≡ popOf clock latency «late_drop» w (now (words .entry)) time (now (bytes .entry)) (now (out .entry)) ⌝ }
+{
+    let e = front(w, words);
+    if slots::entry::is_received(e) {
+        return pop_front(
+            w,
+            clock,
+            latency,
+            late_drop,
+            words,
+            bytes,
+            out,
+            time,
+            stamp_in(e),
+        );
+    }
+    drop_late(w, clock, latency, late_drop, words, time)
 }
