@@ -5,3 +5,4 @@ pub mod Runs
 pub mod Fills
 pub mod Lates
 pub mod Pops
+pub mod PopLaws
