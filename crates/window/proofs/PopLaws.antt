@@ -13,7 +13,9 @@ use Rattle.numbers.specs.Whole.{intervalOf}
 use Rattle.numbers.proofs.Flags.{by-test}
 use Rattle.numbers.proofs.Circle.{sum-below}
 use Rattle.clock.specs.Release.{releaseOf}
+use Rattle.clock.specs.Ranges.{clockOk}
 use Rattle.clock.specs.declared.time.SynchronizedRemoteClock.{SynchronizedRemoteClock}
+use Rattle.clock.proofs.Kept.{release-kept}
 use Rattle.slots.specs.Words.{isReceived}
 use Rattle.window.specs.Window.{Good, Bytes, entryIn, numberIn, cut}
 use Rattle.window.specs.Pop.{stampIn, PopOutcome, popEnded, messageOf, filled, walkFrom, noWalk, dueOf, limitOf, nothing, discardFront, discarded, releasedOf, lateOf, frontOf, popOf}
@@ -31,6 +33,23 @@ unfolding discardFront
 discard-good w ws n g h =
     let c : Good (cut w n) ws = cut-good n refl g h in
     record { some = c .some; most = c .most; starts = c .starts; holds = c .holds; first = c .first; next = sum-below 31 _ _; words = c .words }
+
+-- what a message and a late drop leave
+pub record Delivered (w : Window) (out : List ℕ) (x : PopOutcome) (bytes packets : ℕ) : Type 0 where
+  pub some : 0 < packets
+  pub held : packets ≤ w .held
+  pub fits : bytes ≤ length out
+  pub window : x .popped .window ≡ cut w packets
+
+pub record Dropped (k : SynchronizedRemoteClock) (w : Window) (ws out : List ℕ) (x : PopOutcome) (first end : ℕ) : Type 0 where
+  pub count : ℕ
+  pub some : 0 < count
+  pub held : count ≤ w .held
+  pub begins : first ≡ w .seqno0
+  pub ends : end ≡ numberIn w count
+  pub window : x .popped .window ≡ discardFront w ws count
+  pub clock : x .popped .clock ≡ k
+  pub output : x .output ≡ out
 
 module _ (k : SynchronizedRemoteClock) (latency : ℕ) (drop : Bool) (w : Window) (ws : List ℕ) (now : ℤ) where
   -- the first n entries go, the first received one of them has this stamp
@@ -93,7 +112,7 @@ module _ (k : SynchronizedRemoteClock) (latency : ℕ) (drop : Bool) (w : Window
     abbrev outcome : PopOutcome
     outcome = popOf k latency drop w ws now bs out
 
-    -- a good window stays one, and the output keeps its length
+    -- a good window stays one, a clock in range too, and the output keeps its length
     pub pop-good : Good w ws → Good (outcome .popped .window) ws
     pop-good g =
         pop-cases (λ (x : PopOutcome). Good (x .popped .window) ws)
@@ -101,6 +120,14 @@ module _ (k : SynchronizedRemoteClock) (latency : ℕ) (drop : Bool) (w : Window
         g
         (λ some held fits. cut-good (messageOf w ws .packets) refl g held)
         (λ n stamp some held. discard-good w ws n g held)
+
+    pub pop-clock : clockOk k ≡ true → clockOk (outcome .popped .clock) ≡ true
+    pop-clock g =
+        pop-cases (λ (x : PopOutcome). clockOk (x .popped .clock) ≡ true)
+        g
+        g
+        (λ some held fits. release-kept k (stampIn (entryIn w ws 0)) g)
+        (λ n stamp some held. g)
 
     pub pop-length : w .start < w .capacity → Bytes w bs → length (outcome .output) ≡ length out
     pop-length h hb =
@@ -126,3 +153,27 @@ module _ (k : SynchronizedRemoteClock) (latency : ℕ) (drop : Bool) (w : Window
         (λ e. absurd (let z : _≡_ {A = ℕ} 0 1 = cc in omega arith))
         (λ some held fits e. absurd (let z : _≡_ {A = ℕ} 0 1 = cc in omega arith))
         (λ n stamp some held e. absurd (let z : _≡_ {A = ℕ} 0 1 = cc in omega arith))
+
+    -- a message takes its packets off the front, one at least, and its bytes fit the output
+    pub pop-message : {time : ℤ} {bytes packets : ℕ} → outcome .popped .answer ≡ answers.Message time bytes packets → Delivered w out outcome bytes packets
+    pop-message {time} {bytes} {packets} =
+        pop-cases (λ (x : PopOutcome). x .popped .answer ≡ answers.Message time bytes packets → Delivered w out x bytes packets)
+        (λ e. absurd (let z : _≡_ {A = ℕ} 0 1 = cc in omega arith))
+        (λ e. absurd (let z : _≡_ {A = ℕ} 0 1 = cc in omega arith))
+        (λ some held fits e.
+        let b : messageOf w ws .bytes ≡ bytes = cc in
+        let p : messageOf w ws .packets ≡ packets = cc in
+        record { some = omega arith; held = omega arith; fits = omega arith; window = ap (cut w) p })
+        (λ n stamp some held e. absurd (let z : _≡_ {A = ℕ} 0 1 = cc in omega arith))
+
+    -- a late drop takes one entry at least off the front, and says which
+    pub pop-late : {first end : ℕ} {delay : ℤ} → outcome .popped .answer ≡ answers.Late first end delay → Dropped k w ws out outcome first end
+    pop-late {first} {end} {delay} =
+        pop-cases (λ (x : PopOutcome). x .popped .answer ≡ answers.Late first end delay → Dropped k w ws out x first end)
+        (λ e. absurd (let z : _≡_ {A = ℕ} 0 1 = cc in omega arith))
+        (λ e. absurd (let z : _≡_ {A = ℕ} 0 1 = cc in omega arith))
+        (λ some held fits e. absurd (let z : _≡_ {A = ℕ} 0 1 = cc in omega arith))
+        (λ n stamp some held e.
+        let f : first ≡ w .seqno0 = cc in
+        let l : end ≡ numberIn w n = cc in
+        record { count = n; some = some; held = held; begins = f; ends = l; window = refl; clock = refl; output = refl })
