@@ -16,7 +16,7 @@ use Rattle.slots.specs.Words.{isReceived, entryAt}
 use Rattle.slots.specs.Ring.{slotOf, payloadAt}
 use Rattle.slots.specs.declared.entry.Entry.{Entry}
 use Rattle.slots.specs.declared.entry.Entry.the-variants.{Lost, Received, GivenUp}
-use Rattle.window.specs.Window.{entryIn, numberIn, lrsnFrom, cut, withLrsn}
+use Rattle.window.specs.Window.{Good, Bytes, entryIn, numberIn, lrsnFrom, cut, withLrsn}
 use Rattle.window.specs.declared.Window.{Window}
 use Rattle.window.specs.declared.pop.Message.{Message}
 use Rattle.window.specs.declared.pop.Walk.{Walk}
@@ -98,12 +98,23 @@ filled capacity start ws bs out (suc n) =
     record { out = paste (f .out) (f .at) (payloadAt bs s len) len; at = f .at + len }
 
 -- walked over: time at most now - latency - 5,000, or without FIRST
-abbrev pub isLate : TimeBase → ℤ → Entry → Bool
+unfoldable pub isLate : TimeBase → ℤ → Entry → Bool
 isLate base limit e = leZ (instantOf base (stampIn e)) limit || not (isFirst e)
 
 -- one more received entry walked: entry i
 abbrev pub walkedTo : Walk → ℕ → Entry → Walk
 walkedTo k i e = record { count = i + 1; first = cond (eqb (k .count) 0) (stampIn e) (k .first) }
+
+-- no received entry walked
+abbrev pub noWalk : Walk
+noWalk = record { count = 0; first = 0 }
+
+-- an entry that ends the walk, and the walk after one that does not: entry i
+unfoldable pub isKept : TimeBase → ℤ → Entry → Bool
+isKept base limit e = isReceived e && not (isLate base limit e)
+
+unfoldable pub walkPast : Walk → ℕ → Entry → Walk
+walkPast k i e = cond (isReceived e) (walkedTo k i e) k
 
 -- the walk over entries not received, or late: how many entries go through the last received one walked, and the stamp of the first
 unfoldable pub walkFrom : TimeBase → ℤ → ℕ → ℕ → List ℕ → ℕ → Walk → ℕ → Walk
@@ -115,57 +126,74 @@ walkFrom base limit capacity start ws i k (suc n) =
     (walkFrom base limit capacity start ws (i + 1) k n)
 
 -- time + latency
-abbrev pub dueOf : TimeBase → ℕ → ℕ → ℤ
+unfoldable pub dueOf : TimeBase → ℕ → ℕ → ℤ
 dueOf base latency stamp = instantOf base stamp +ℤ pos latency
 
-abbrev pub limitOf : ℤ → ℕ → ℤ
+unfoldable pub limitOf : ℤ → ℕ → ℤ
 limitOf now latency = now -ℤ pos latency -ℤ pos 5000
 
+-- window and clock stay
+abbrev pub nothing : SynchronizedRemoteClock → Window → Popped
+nothing k w = record { window = w; clock = k; answer = answers.Nothing }
+
+-- n entries are discarded; lrsn is searched from the new front
+unfoldable pub discardFront : Window → List ℕ → ℕ → Window
+discardFront w ws n = withLrsn (cut w n) (lrsnFrom (cut w n) ws 0)
+
+-- discard through the last received one walked (none: nothing)
+unfoldable pub discarded : SynchronizedRemoteClock → ℕ → Window → List ℕ → ℤ → Walk → Popped
+discarded k latency w ws now walk =
+    cond (eqb (walk .count) 0)
+    (nothing k w)
+    (record {
+      window = discardFront w ws (walk .count);
+      clock = k;
+      answer = answers.Late (w .seqno0) (numberIn w (walk .count)) (intervalOf (dueOf (k .base) latency (walk .first)) now);
+    })
+
+-- refusal 11 if the message is longer than the output; else its payloads in order, and the release time
+unfoldable pub releasedOf : SynchronizedRemoteClock → Window → List ℕ → List ℕ → List ℕ → ℕ → Message → PopOutcome
+releasedOf k w ws bs out stamp m =
+    cond (ltb (length out) (m .bytes))
+    (popEnded (record { window = w; clock = k; answer = answers.OutShort }) out)
+    (popEnded
+    (record {
+      window = cut w (m .packets);
+      clock = releaseOf k stamp .clock;
+      answer = answers.Message (releaseOf k stamp .time) (m .bytes) (m .packets);
+    })
+    (filled (w .capacity) (w .start) ws bs out (m .packets) .out))
+
 module _ (k : SynchronizedRemoteClock) (latency : ℕ) (drop : Bool) (w : Window) (ws : List ℕ) (now : ℤ) where
-  abbrev pub nothing : Popped
-  nothing = record { window = w; clock = k; answer = answers.Nothing }
-
-  -- discard through the last received one walked (none: nothing); lrsn is searched from the new front
-  unfoldable pub discarded : Walk → Popped
-  discarded walk =
-      cond (eqb (walk .count) 0)
-      nothing
-      (record {
-        window = withLrsn (cut w (walk .count)) (lrsnFrom (cut w (walk .count)) ws 0);
-        clock = k;
-        answer = answers.Late (w .seqno0) (numberIn w (walk .count)) (intervalOf (dueOf (k .base) latency (walk .first)) now);
-      })
-
   -- nothing if late dropping is off; if on, walk from the front
   unfoldable pub lateOf : Popped
   lateOf =
       cond drop
-      (discarded (walkFrom (k .base) (limitOf now latency) (w .capacity) (w .start) ws 0 (record { count = 0; first = 0 }) (w .held)))
-      nothing
+      (discarded k latency w ws now (walkFrom (k .base) (limitOf now latency) (w .capacity) (w .start) ws 0 noWalk (w .held)))
+      (nothing k w)
 
   module _ (bs out : List ℕ) where
-    -- refusal 11 if the message is longer than the output; else its payloads in order, and the release time
-    unfoldable pub releasedOf : ℕ → Message → PopOutcome
-    releasedOf stamp m =
-        cond (ltb (length out) (m .bytes))
-        (popEnded (record { window = w; clock = k; answer = answers.OutShort }) out)
-        (popEnded
-        (record {
-          window = cut w (m .packets);
-          clock = releaseOf k stamp .clock;
-          answer = answers.Message (releaseOf k stamp .time) (m .bytes) (m .packets);
-        })
-        (filled (w .capacity) (w .start) ws bs out (m .packets) .out))
-
     -- the front is received: nothing if now is before its time + latency; if complete, release; otherwise the late walk
     unfoldable pub frontOf : ℕ → PopOutcome
     frontOf stamp =
         cond (ltZ now (dueOf (k .base) latency stamp))
-        (popEnded nothing out)
-        (cond (ltb 0 (messageOf w ws .packets)) (releasedOf stamp (messageOf w ws)) (popEnded lateOf out))
+        (popEnded (nothing k w) out)
+        (cond (ltb 0 (messageOf w ws .packets)) (releasedOf k w ws bs out stamp (messageOf w ws)) (popEnded lateOf out))
 
     unfoldable pub popOf : PopOutcome
     popOf =
         cond (ltb 0 (w .held) && isReceived (entryIn w ws 0))
         (frontOf (stampIn (entryIn w ws 0)))
         (popEnded lateOf out)
+
+-- the front, or given up where there is none: `popOf` by one test, as the code has it
+unfoldable pub frontIn : Window → List ℕ → Entry
+frontIn w ws = cond (eqb (w .held) 0) GivenUp (entryIn w ws 0)
+
+-- what the tests of head, areas and reading have shown
+pub record PopReady (k : SynchronizedRemoteClock) (latency : ℕ) (w : Window) (ws bs : List ℕ) (now : ℤ) : Type 0 where
+  pub good : Good w ws
+  pub payloads : Bytes w bs
+  pub reference : natAbs (k .base .time) ≤ 2 ^ 61
+  pub reading : natAbs now < 2 ^ 60
+  pub setting : latency ≤ 65535000
