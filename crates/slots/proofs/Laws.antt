@@ -11,7 +11,7 @@ use lib.Dec.{eqb}
 use lib.ListN.{length, getD, set, take, drop, length-set, length-drop, take-append-drop}
 use lib.Seq.{getD-set-same, getD-set-other, length-paste, length-take-le, take-length, take-at, drop-at, drop-drop, drop-paste, take-append-le, drop-append-le, drop-set-lt}
 use Rattle.numbers.proofs.Flags.{impossible, by-test, by-order}
-use Rattle.slots.specs.Words.{markOf, entryOf, Fit, wordsOf, isLost, entryAt, writeAt, writeReport}
+use Rattle.slots.specs.Words.{markOf, entryOf, Fit, wordsOf, isLost, entryAt, writeAt, writeReport, lengthIn}
 use Rattle.slots.specs.Ring.{slotOf, nextSlot, payloadAt, withPayload}
 use Rattle.slots.specs.declared.entry.Entry.{Entry}
 use Rattle.slots.specs.declared.entry.Entry.the-variants.{Lost, Received, GivenUp}
@@ -57,6 +57,15 @@ entry-fit ws s =
 
 pub received-fit : (ws : List ℕ) (s : ℕ) {n l m t : ℕ} {e : Entry} → e ≡ entryAt ws s → e ≡ Received n l m t → n ≤ 1456
 received-fit ws s p q = omega (arith, subst Fit (sym p ∙ q) (entry-fit ws s))
+
+-- a payload is at most 1,456 bytes
+length-most : (e : Entry) → Fit e → lengthIn e ≤ 1456
+length-most (Lost k f) h = omega arith
+length-most (Received n l m t) h = omega arith
+length-most GivenUp h = omega arith
+
+pub length-read : (ws : List ℕ) (s : ℕ) → lengthIn (entryAt ws s) ≤ 1456
+length-read ws s = length-most (entryAt ws s) (entry-fit ws s)
 
 lost-mark : (a b c : ℕ) → isLost (entryOf a b c) ≡ true → a % 4 ≡ 0
 unfolding entryOf

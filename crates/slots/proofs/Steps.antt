@@ -6,8 +6,9 @@ use native.Mathlib.Nat.{mod-eq-of-lt, mod-eq-sub-mod}
 use native.Mathlib.Omega.{arith}
 use borrow.Author.Needs.{needs}
 use borrow.Author.Tests.{eq-eqb, ne-eqb, lt-ltb, le-ltb}
+use lib.Dec.{eqb, leb}
 use lib.ListN.{length, getD, set, length-set}
-use Rattle.slots.specs.Words.{lengthRead, entryOf, wordsOf, entryAt, writeAt, writeReport}
+use Rattle.slots.specs.Words.{lengthRead, entryOf, wordsOf, entryAt, writeAt, writeReport, isFirst, isLast, inMessage}
 use Rattle.slots.specs.Ring.{slotOf, nextSlot}
 use Rattle.slots.specs.declared.entry.Entry.{Entry}
 use Rattle.slots.specs.declared.entry.Entry.the-variants.{Lost, Received, GivenUp}
@@ -26,6 +27,17 @@ module _ (a b c : ℕ) where
   pub given-words : (a % 4 ≡ 0 → ⊥) → (a % 4 ≡ 1 → ⊥) → GivenUp ≡ entryOf a b c
   unfolding entryOf
   given-words h k = rw (ne-eqb _ _ h, ne-eqb _ _ k)
+
+-- is_first, is_last, in_message
+module _ {e : Entry} {n l m t : ℕ} (h : e ≡ Received n l m t) where
+  pub first-flag : leb 2 l ≡ isFirst e
+  first-flag = rw h
+
+  pub last-flag : eqb (l % 2) 1 ≡ isLast e
+  last-flag = rw h
+
+  pub message-flag : (message : ℕ) → eqb m message ≡ inMessage message e
+  message-flag message = rw h
 
 -- read_at
 pub reads : (ws : List ℕ) (s : ℕ) {e : Entry} → e ≡ entryOf (getD ws (3 * s) 0) (getD ws (3 * s + 1) 0) (getD ws (3 * s + 2) 0) → e ≡ entryAt ws s
@@ -80,6 +92,9 @@ pub ruleset steps = (
   slot-low,
   slot-high,
   next-low,
+  first-flag,
+  last-flag,
+  message-flag,
   next-high,
   needs,
 )

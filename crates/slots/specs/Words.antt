@@ -2,7 +2,7 @@
 use mathlib.Core.Bool.{Bool, true, false, cond}
 use mathlib.Core.List.{List}
 use Prim.Native.Nat.{ℕ, _+_, _*_, _/_, _%_, _^_, _<_, _≤_, min}
-use lib.Dec.{eqb}
+use lib.Dec.{eqb, leb}
 use lib.ListN.{getD, set}
 use Rattle.slots.specs.declared.entry.Entry.{Entry}
 use Rattle.slots.specs.declared.entry.Entry.the-variants.{Lost, Received, GivenUp}
@@ -65,3 +65,34 @@ writeAt ws s e = set (set (set ws (3 * s) (wordsOf e .a)) (3 * s + 1) (wordsOf e
 -- a report names words 1 and 2 only
 unfoldable pub writeReport : List ℕ → ℕ → ℕ → ℕ → List ℕ
 writeReport ws s k f = set (set ws (3 * s + 1) k) (3 * s + 2) f
+
+-- what an entry holds, if it is received; location 0 to 3: 2 = FIRST, 1 = LAST
+abbrev pub lengthIn : Entry → ℕ
+lengthIn (Lost k f) = 0
+lengthIn (Received n l m t) = n
+lengthIn GivenUp = 0
+
+abbrev pub stampIn : Entry → ℕ
+stampIn (Lost k f) = 0
+stampIn (Received n l m t) = t
+stampIn GivenUp = 0
+
+abbrev pub messageIn : Entry → ℕ
+messageIn (Lost k f) = 0
+messageIn (Received n l m t) = m
+messageIn GivenUp = 0
+
+abbrev pub isFirst : Entry → Bool
+isFirst (Lost k f) = false
+isFirst (Received n l m t) = leb 2 l
+isFirst GivenUp = false
+
+abbrev pub isLast : Entry → Bool
+isLast (Lost k f) = false
+isLast (Received n l m t) = eqb (l % 2) 1
+isLast GivenUp = false
+
+abbrev pub inMessage : ℕ → Entry → Bool
+inMessage message (Lost k f) = false
+inMessage message (Received n l m t) = eqb m message
+inMessage message GivenUp = false

@@ -2,7 +2,7 @@
 ghost use mathlib.Core.Path.{_≡_};
 ghost use Prim.Native.Nat.{_+_, _*_, _<_, _≤_};
 ghost use lib.ListN.{length};
-ghost use Rattle.slots.specs.Words.{Fit, isLost, isReceived, entryOf, entryAt, writeAt, writeReport, wordsOf, lengthRead};
+ghost use Rattle.slots.specs.Words.{Fit, isLost, isReceived, entryOf, entryAt, writeAt, writeReport, wordsOf, lengthRead, lengthIn, stampIn, messageIn, isFirst, isLast, inMessage};
 
 pub enum Entry {
     Lost {
@@ -137,4 +137,95 @@ pub fn write_report(words: &mut [u64], s: usize, k: u32, feedback: u64)
     let i = 3 * s;
     words[i + 1] = k as u64;
     words[i + 2] = feedback;
+}
+
+// What an entry holds, if it is received.
+pub fn length_in(e: Entry) -> usize
+    ensures { λ r. ⌜ r ≡ lengthIn e ⌝ }
+{
+    match e {
+        Entry::Lost { k: _, feedback: _ } => 0,
+        Entry::Received {
+            length,
+            location: _,
+            message: _,
+            stamp: _,
+        } => length,
+        Entry::GivenUp => 0,
+    }
+}
+
+pub fn stamp_in(e: Entry) -> u32
+    ensures { λ r. ⌜ r ≡ stampIn e ⌝ }
+{
+    match e {
+        Entry::Lost { k: _, feedback: _ } => 0,
+        Entry::Received {
+            length: _,
+            location: _,
+            message: _,
+            stamp,
+        } => stamp,
+        Entry::GivenUp => 0,
+    }
+}
+
+pub fn message_in(e: Entry) -> u32
+    ensures { λ r. ⌜ r ≡ messageIn e ⌝ }
+{
+    match e {
+        Entry::Lost { k: _, feedback: _ } => 0,
+        Entry::Received {
+            length: _,
+            location: _,
+            message,
+            stamp: _,
+        } => message,
+        Entry::GivenUp => 0,
+    }
+}
+
+pub fn is_first(e: Entry) -> bool
+    ensures { λ r. ⌜ r ≡ isFirst e ⌝ }
+{
+    match e {
+        Entry::Lost { k: _, feedback: _ } => false,
+        Entry::Received {
+            length: _,
+            location,
+            message: _,
+            stamp: _,
+        } => 2 <= location,
+        Entry::GivenUp => false,
+    }
+}
+
+pub fn is_last(e: Entry) -> bool
+    ensures { λ r. ⌜ r ≡ isLast e ⌝ }
+{
+    match e {
+        Entry::Lost { k: _, feedback: _ } => false,
+        Entry::Received {
+            length: _,
+            location,
+            message: _,
+            stamp: _,
+        } => location % 2 == 1,
+        Entry::GivenUp => false,
+    }
+}
+
+pub fn in_message(number: u32, e: Entry) -> bool
+    ensures { λ r. ⌜ r ≡ inMessage number e ⌝ }
+{
+    match e {
+        Entry::Lost { k: _, feedback: _ } => false,
+        Entry::Received {
+            length: _,
+            location: _,
+            message,
+            stamp: _,
+        } => message == number,
+        Entry::GivenUp => false,
+    }
 }

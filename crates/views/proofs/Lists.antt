@@ -1,15 +1,15 @@
 -- Laws of the list of entries itself. Assumes nothing.
 use mathlib.Core.Path.{_≡_, refl, ap, sym, _∙_}
 use mathlib.Core.List.{List, [], _∷_, _++_}
-use Prim.Native.Nat.{ℕ, zero, suc, _+_, _-_, _*_, _^_, _<_, _≤_}
+use Prim.Native.Nat.{ℕ, zero, suc, _+_, _-_, _*_, _<_, _≤_}
 use native.Mathlib.Nat.{add-zero}
 use native.Mathlib.Omega.{arith}
-use lib.ListN.{length, getD, set, take, drop}
-use Rattle.slots.specs.Words.{Fit, entryAt, writeAt, writeReport}
+use lib.ListN.{length, getD, set, drop}
+use Rattle.slots.specs.Words.{Fit, entryAt, writeAt}
 use Rattle.slots.specs.Ring.{slotOf, withPayload}
 use Rattle.slots.specs.declared.entry.Entry.{Entry}
 use Rattle.slots.specs.declared.entry.Entry.the-variants.{Lost, Received, GivenUp}
-use Rattle.slots.proofs.Laws.{entry-fit, read-same, read-other, payload-same, payload-other, slot-from}
+use Rattle.slots.proofs.Laws.{entry-fit, read-other, payload-other, slot-from}
 use Rattle.window.specs.Window.{cut}
 use Rattle.window.specs.declared.Window.{Window}
 use Rattle.views.specs.View.{Seen, seenOf, seenAt, entriesFrom, entries}

@@ -1,30 +1,27 @@
 -- A push keeps the window in range and lrsn right. Assumes nothing.
-use mathlib.Core.Path.{_≡_, refl, ap, sym, _∙_}
-use mathlib.Core.Bool.{Bool, true, false, cond}
-use mathlib.Core.List.{List, [], _∷_, _++_, append-assoc}
-use Prim.Native.Nat.{ℕ, zero, suc, _+_, _-_, _*_, _^_, _<_, _≤_}
+use mathlib.Core.Path.{_≡_}
+use mathlib.Core.List.{List}
+use Prim.Native.Nat.{ℕ, _+_, _-_, _^_, _<_}
 use native.Mathlib.Omega.{arith}
-use borrow.Author.Tests.{eqb-true, eqb-false, ltb-false, eq-eqb, ne-eqb}
+use borrow.Author.Tests.{eqb-false, ltb-false}
 use lib.Dec.{eqb, ltb}
-use lib.ListN.{length, getD, set, drop, replicate}
-use Rattle.numbers.specs.Circular.{distance, before, sum, successor}
+use lib.ListN.{length}
+use Rattle.numbers.specs.Circular.{distance, before, successor}
 use Rattle.numbers.specs.Order.{order}
 use Rattle.numbers.specs.declared.seq.Order.{Order}
 use Rattle.numbers.specs.declared.seq.Order.the-variants.{Before, Equal, After}
-use Rattle.numbers.proofs.Flags.{impossible, by-test, by-bool, by-order}
-use Rattle.numbers.proofs.Circle.{sum-below, sum-sum, within, order-before, distance-zero}
-use Rattle.numbers.proofs.Places.{place-one}
+use Rattle.numbers.proofs.Flags.{by-test}
+use Rattle.numbers.proofs.Circle.{sum-below}
 use Rattle.slots.specs.Words as words
-use Rattle.slots.specs.Words.{entryAt, writeAt}
-use Rattle.slots.specs.Ring.{slotOf, withPayload}
+use Rattle.slots.specs.Words.{writeAt}
+use Rattle.slots.specs.Ring.{withPayload}
 use Rattle.slots.proofs.Laws.{length-write, length-payload, slot-lt}
-use Rattle.window.specs.Window.{Good, Bytes, slotIn, entryIn, nextOf, numberIn, withLrsn, roomOf, firstGap, lrsnFrom}
+use Rattle.window.specs.Window.{Good, Bytes, slotIn, entryIn, nextOf, roomOf, firstGap}
 use Rattle.window.specs.Push as push
-use Rattle.window.specs.Push.{PushOutcome, Right, withLost, grown, movedPast, recoveredLrsn, appendNextOf, appendWithLossOf, recoveredOf, recoverOf, pushOf}
+use Rattle.window.specs.Push.{PushOutcome, Right, withLost, movedPast, recoveredLrsn, appendNextOf, appendWithLossOf, recoveredOf, recoverOf, pushOf}
 use Rattle.window.specs.declared.Window.{Window}
 use Rattle.window.specs.declared.push.Packet.{Packet}
 use Rattle.window.proofs.Pushes.{length-lost}
-use Rattle.views.specs.View.{Seen, entries, LrsnRight}
 
 module _ (w : Window) (ws bs : List ℕ) (time : ℕ) (p : Packet) (payload : List ℕ) (g : Good w ws) (gb : Bytes w bs) (r : Right p payload) where
   abbrev Kept : PushOutcome → Type 0

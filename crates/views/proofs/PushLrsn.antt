@@ -1,28 +1,28 @@
 -- A push keeps lrsn right: the number of the first held entry not received, else the next expected. Assumes nothing.
 use mathlib.Core.Path.{_≡_, refl, ap, sym, _∙_}
-use mathlib.Core.Bool.{Bool, true, false, cond}
+use mathlib.Core.Bool.{true, false}
 use mathlib.Core.List.{List, [], _∷_, _++_, append-assoc}
-use Prim.Native.Nat.{ℕ, zero, suc, _+_, _-_, _*_, _^_, _<_, _≤_}
+use Prim.Native.Nat.{ℕ, zero, suc, _+_, _-_, _^_, _<_, _≤_}
 use native.Mathlib.Nat.{mod-eq-of-lt}
 use native.Mathlib.Omega.{arith}
 use borrow.Author.Tests.{eqb-true, eqb-false, ltb-false, eq-eqb, ne-eqb}
 use lib.Dec.{eqb, ltb}
-use lib.ListN.{length, getD, set, drop, replicate}
+use lib.ListN.{length, set, drop, replicate}
 use Rattle.numbers.specs.Circular.{distance, before, sum, successor}
 use Rattle.numbers.specs.Order.{order}
 use Rattle.numbers.specs.declared.seq.Order.{Order}
 use Rattle.numbers.specs.declared.seq.Order.the-variants.{Before, Equal, After}
-use Rattle.numbers.proofs.Flags.{impossible, by-test, by-bool, by-order}
+use Rattle.numbers.proofs.Flags.{impossible, by-test, by-order}
 use Rattle.numbers.proofs.Circle.{sum-below, sum-sum, stepped, within, order-before, order-equal, order-after, distance-zero}
 use Rattle.numbers.proofs.Places.{place-one}
 use Rattle.slots.specs.Words as words
-use Rattle.slots.specs.Words.{entryAt, writeAt}
-use Rattle.slots.specs.Ring.{slotOf, withPayload}
+use Rattle.slots.specs.Words.{writeAt}
+use Rattle.slots.specs.Ring.{withPayload}
 use Rattle.slots.specs.declared.entry.Entry.{Entry}
 use Rattle.slots.specs.declared.entry.Entry.the-variants.{Lost, Received, GivenUp}
-use Rattle.window.specs.Window.{Good, Bytes, slotIn, entryIn, nextOf, numberIn, withLrsn, roomOf, firstGap, lrsnFrom}
+use Rattle.window.specs.Window.{Good, Bytes, slotIn, entryIn, nextOf, numberIn, roomOf, lrsnFrom}
 use Rattle.window.specs.Push as push
-use Rattle.window.specs.Push.{PushOutcome, Right, withLost, grown, movedPast, recoveredLrsn, appendNextOf, appendWithLossOf, recoveredOf, recoverOf, pushOf}
+use Rattle.window.specs.Push.{PushOutcome, Right, movedPast, appendNextOf, appendWithLossOf, recoveredOf, recoverOf, pushOf}
 use Rattle.window.specs.declared.Window.{Window}
 use Rattle.window.specs.declared.push.Packet.{Packet}
 use Rattle.views.specs.View.{Seen, lost, givenUp, seenOf, seenAt, isReceived, entriesFrom, entries, gapIn, LrsnRight, packetSeen}

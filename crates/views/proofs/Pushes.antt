@@ -1,14 +1,14 @@
 -- What a push does to the list of entries, to the ranges and to lrsn. Assumes nothing.
 use mathlib.Core.Path.{_≡_, refl, ap, sym, _∙_}
-use mathlib.Core.Bool.{Bool, true, false, cond}
+use mathlib.Core.Bool.{true, false}
 use mathlib.Core.List.{List, [], _∷_, _++_, append-assoc, append-nil}
 use Prim.Native.Nat.{ℕ, zero, suc, _+_, _-_, _*_, _^_, _<_, _≤_}
 use native.Mathlib.Nat.{mod-eq-of-lt}
 use native.Mathlib.Numerals.{add-one}
 use native.Mathlib.Omega.{arith}
-use borrow.Author.Tests.{eqb-true, eqb-false, ltb-true, ltb-false}
+use borrow.Author.Tests.{eqb-false, ltb-false}
 use lib.Dec.{eqb, ltb}
-use lib.ListN.{length, getD, set, replicate, replicate-append-replicate}
+use lib.ListN.{length, set, replicate, replicate-append-replicate}
 use Rattle.numbers.specs.Circular.{distance, before, sum}
 use Rattle.numbers.specs.Order.{order}
 use Rattle.numbers.specs.declared.seq.Order.{Order}
@@ -18,21 +18,20 @@ use Rattle.numbers.proofs.Circle.{stepped, around, before-not, within, order-be
 use Rattle.numbers.proofs.Places.{place-distance}
 use Rattle.numbers.proofs.Steps.{is-before}
 use Rattle.slots.specs.Words as words
-use Rattle.slots.specs.Words.{Fit, entryAt, writeAt}
-use Rattle.slots.specs.Ring.{slotOf, withPayload}
+use Rattle.slots.specs.Words.{Fit, writeAt}
+use Rattle.slots.specs.Ring.{withPayload}
 use Rattle.slots.specs.declared.entry.Entry.{Entry}
-use Rattle.slots.specs.declared.entry.Entry.the-variants.{Lost, Received, GivenUp}
-use Rattle.slots.proofs.Laws.{length-write, length-payload, read-same, payload-same, slot-lt, slot-apart}
-use Rattle.window.specs.Window.{Good, Bytes, slotIn, entryIn, nextOf, numberIn, withLrsn, roomOf}
+use Rattle.slots.specs.declared.entry.Entry.the-variants.{Lost}
+use Rattle.slots.proofs.Laws.{read-same, payload-same, slot-lt, slot-apart}
+use Rattle.window.specs.Window.{Good, Bytes, slotIn, entryIn, nextOf, numberIn, roomOf}
 use Rattle.window.specs.Push as push
-use Rattle.window.specs.Push.{PushOutcome, Right, withLost, grown, appendNextOf, appendWithLossOf, recoveredOf, recoverOf, pushOf}
+use Rattle.window.specs.Push.{PushOutcome, Right, withLost, appendNextOf, appendWithLossOf, recoveredOf, recoverOf, pushOf}
 use Rattle.window.specs.declared.Window.{Window}
 use Rattle.window.specs.declared.push.Packet.{Packet}
-use Rattle.window.specs.declared.push.PushAnswer.{PushAnswer}
 use Rattle.window.specs.declared.push.PushAnswer.the-variants as answers
 use Rattle.window.proofs.Pushes.{length-lost}
-use Rattle.views.specs.View.{Seen, lost, seenOf, seenAt, entriesFrom, entries, packetSeen, afterPush}
-use Rattle.views.proofs.Lists.{seen-other, seen-words, entries-length, entries-at, one-more, one-changed}
+use Rattle.views.specs.View.{Seen, lost, seenAt, entriesFrom, entries, packetSeen, afterPush}
+use Rattle.views.proofs.Lists.{seen-other, seen-words, one-more, one-changed}
 
 module _ (w : Window) (ws bs : List ℕ) (time : ℕ) (p : Packet) (payload : List ℕ) (g : Good w ws) (gb : Bytes w bs) (r : Right p payload) (ht : time < 2 ^ 60) (hs : p .stamp < 2 ^ 32) where
   abbrev pub es : List Seen

@@ -1,8 +1,8 @@
 -- What the code of push.rt does at each return and each turn, as laws over plain values. Assumes nothing.
-use mathlib.Core.Path.{_≡_, refl, ap, sym, _∙_}
-use mathlib.Core.Bool.{Bool, true, false, cond}
+use mathlib.Core.Path.{_≡_, refl, sym, _∙_}
+use mathlib.Core.Bool.{Bool, true, false}
 use mathlib.Core.List.{List}
-use Prim.Native.Nat.{ℕ, zero, suc, _+_, _-_, _*_, _^_, _<_, _≤_}
+use Prim.Native.Nat.{ℕ, zero, suc, _+_, _-_, _^_, _<_, _≤_}
 use native.Mathlib.Numerals.{add-one}
 use native.Mathlib.Omega.{arith}
 use borrow.Author.Needs.{needs}
@@ -17,7 +17,7 @@ use Rattle.slots.specs.Words.{isLost, entryAt, writeAt}
 use Rattle.slots.specs.Ring.{slotOf, nextSlot, withPayload}
 use Rattle.slots.specs.declared.entry.Entry.{Entry}
 use Rattle.slots.specs.declared.entry.Entry.the-variants.{Lost}
-use Rattle.slots.proofs.Laws.{length-write, slot-lt, slot-next}
+use Rattle.slots.proofs.Laws.{length-write, slot-next}
 use Rattle.window.specs.Window.{Good, slotIn, nextOf, lrsnFrom, roomOf}
 use Rattle.window.specs.Push.{PushOutcome, pushEnded, received, movedPast, withLost, recoveredLrsn, refused, appendNextOf, appendWithLossOf, recoveredOf, recoverOf, pushOf}
 use Rattle.window.specs.declared.Window.{Window}

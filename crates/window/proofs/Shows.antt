@@ -1,25 +1,23 @@
 -- What the code of show.rt does at each return, as laws over plain values. Assumes nothing.
-use mathlib.Core.Path.{_≡_, refl, ap, sym, _∙_, subst}
-use mathlib.Core.Bool.{Bool, true, false, _&&_, cond}
+use mathlib.Core.Path.{_≡_, subst}
+use mathlib.Core.Bool.{true, _&&_}
 use mathlib.Core.List.{List}
-use Prim.Native.Nat.{ℕ, _+_, _-_, _*_, _^_, _<_, _≤_}
+use Prim.Native.Nat.{ℕ, _+_, _*_, _<_, _≤_}
 use native.Mathlib.Omega.{arith}
 use borrow.Author.Needs.{needs}
 use borrow.Author.Tests.{lt-ltb, le-ltb}
 use denote.Ref.{RefT}
 use lib.Dec.{ltb}
-use lib.ListN.{length}
 use mir.Syntax.{w64}
 use mir.Val.{Fits}
 use Rattle.numbers.specs.Circular.{distance}
-use Rattle.numbers.proofs.Flags.{and-left, by-test}
-use Rattle.slots.specs.Words.{Fit, isReceived, entryAt}
+use Rattle.numbers.proofs.Flags.{by-test}
+use Rattle.slots.specs.Words.{isReceived, entryAt}
 use Rattle.slots.specs.Ring.{slotOf}
 use Rattle.slots.specs.declared.entry.Entry.{Entry}
 use Rattle.slots.specs.declared.entry.Entry.the-variants.{Lost, Received, GivenUp}
-use Rattle.slots.proofs.Laws.{slot-lt, entry-fit}
-use Rattle.window.specs.Window.{Good, Bytes, slotIn, entryIn}
-use Rattle.window.specs.Pop.{lengthIn}
+use Rattle.slots.proofs.Laws.{slot-lt, length-read}
+use Rattle.window.specs.Window.{Good, slotIn, entryIn}
 use Rattle.window.specs.Show.{PartOf, ShownAt, nowhere, shownOf}
 use Rattle.window.specs.declared.Window.{Window}
 use Rattle.window.specs.declared.show.Place.{Place}
@@ -50,18 +48,13 @@ pub index-fits : (w : Window) {i : ℕ} → i < w .held → w .held ≤ w .capac
 index-fits w h k = omega arith
 
 -- what is shown lies within the area
-length-most : (e : Entry) → Fit e → lengthIn e ≤ 1456
-length-most (Lost k f) h = omega arith
-length-most (Received n l m t) h = omega arith
-length-most GivenUp h = omega arith
-
 pub shown-within : (w : Window) (ws : List ℕ) (number : ℕ) {n : ℕ} {p : Place} → p ≡ shownOf w ws number → Good w ws → 1456 * w .capacity ≤ n → p .at + p .len ≤ n
 unfolding shownOf
 shown-within w ws number {n} e g h =
     let i = distance 31 number (w .seqno0) in
     rw e
     (by-test (λ (q : Place). q .at + q .len ≤ n) (ltb i (w .held) && isReceived (entryIn w ws i)) _ _
-    (λ t. let l = slot-lt (w .capacity) (w .start) i (g .some) in let m = length-most (entryIn w ws i) (entry-fit ws (slotIn w i)) in omega arith)
+    (λ t. let l = slot-lt (w .capacity) (w .start) i (g .some) in let m = length-read ws (slotIn w i) in omega arith)
     (λ t. omega arith))
 
 -- show: the part that `part` gives is the one that was found

@@ -1,11 +1,10 @@
 -- Laws for the loops that walk the ring, one entry a turn. Assumes nothing.
-use mathlib.Core.Path.{_≡_, refl, ap, sym, _∙_}
-use mathlib.Core.Bool.{Bool, true, false, cond}
+use mathlib.Core.Path.{_≡_, ap, sym, _∙_}
+use mathlib.Core.Bool.{Bool, true, false}
 use mathlib.Core.List.{List}
 use Prim.Native.Nat.{ℕ, zero, suc, _+_, _-_, _*_, _<_, _≤_}
 use native.Mathlib.Omega.{arith}
 use borrow.Author.Needs.{needs}
-use lib.ListN.{length}
 use Rattle.numbers.proofs.Flags.{by-test}
 use Rattle.slots.specs.Words.{isReceived, entryAt}
 use Rattle.slots.specs.Ring.{slotOf, nextSlot}

@@ -1,7 +1,4 @@
 -- The definitions of the window, in the order of 01, "Window".
 pub mod Window
 pub mod Push
-pub mod Drop
-pub mod Pop
-pub mod Report
 pub mod Show

@@ -1,5 +1,5 @@
 -- Push: 01, "Window", from "Next expected" to "else next expected", with refusals 7 to 10.
-use mathlib.Core.Bool.{Bool, true, false, cond}
+use mathlib.Core.Bool.{true, false, cond}
 use mathlib.Core.List.{List}
 use Prim.Native.Nat.{ℕ, zero, suc, _+_, _-_, _^_, _<_, _≤_}
 use lib.Dec.{ltb, eqb}

@@ -1,16 +1,15 @@
 -- Show: 01, "Window", "The payload of any held received entry can be shown where it lies in the lent area, asked for by number".
 use mathlib.Core.Path.{_≡_}
-use mathlib.Core.Bool.{Bool, true, false, _&&_, cond}
+use mathlib.Core.Bool.{true, false, _&&_, cond}
 use mathlib.Core.List.{List}
-use Prim.Native.Nat.{ℕ, _+_, _*_}
+use Prim.Native.Nat.{ℕ, _+_}
 use denote.Ref.{RefT, ptr, now}
 use lib.Dec.{ltb}
 use lib.ListN.{take, drop}
 use Rattle.numbers.specs.Circular.{distance}
-use Rattle.slots.specs.Words.{isReceived}
+use Rattle.slots.specs.Words.{isReceived, lengthIn}
 use Rattle.slots.specs.Ring.{placeOf}
 use Rattle.window.specs.Window.{slotIn, entryIn}
-use Rattle.window.specs.Pop.{lengthIn}
 use Rattle.window.specs.declared.Window.{Window}
 use Rattle.window.specs.declared.show.Place.{Place}
 

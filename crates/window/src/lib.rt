@@ -1,14 +1,11 @@
 // The window over lent areas, buffer.rs: 01, "Window". The numbers of the window are a value, its entries lie in lent words and bytes.
 pub mod copy;
-pub mod drop_request;
-pub mod pop;
 pub mod push;
-pub mod report;
 pub mod show;
 
 ghost use mathlib.Core.Path.{_≡_};
 ghost use Prim.Native.Nat.{_-_, _<_, _≤_};
-ghost use Rattle.window.specs.Window.{Ring, Good, nextOf, numberIn, firstGap, lrsnFrom, cut, roomOf};
+ghost use Rattle.window.specs.Window.{Ring, Good, numberIn, firstGap, lrsnFrom, cut, roomOf};
 
 // Entry i, under held, has the number seqno0 + i and lies in slot (start + i) mod capacity.
 pub struct Window {

@@ -1,0 +1,6 @@
+-- The laws of pop: for its loops and returns, and (`PopLaws`) for the layers above.
+pub mod Runs
+pub mod Fills
+pub mod Lates
+pub mod Pops
+pub mod PopLaws

@@ -1,0 +1,2 @@
+-- The definitions of pop.
+pub mod Pop

@@ -1,0 +1,237 @@
+-- Laws of the loss report: 01, "Window". Assumes nothing.
+use mathlib.Core.Path.{_≡_, refl, sym, _∙_}
+use mathlib.Core.Bool.{Bool, true, false, cond}
+use mathlib.Core.List.{List}
+use Prim.Native.Nat.{ℕ, zero, suc, _+_, _*_, _^_, _<_, _≤_}
+use native.Mathlib.Numerals.{add-one}
+use native.Mathlib.Omega.{arith}
+use borrow.Author.Tests.{ne-eqb}
+use lib.Dec.{ltb, eqb}
+use lib.ListN.{length, drop, length-set}
+use Rattle.numbers.proofs.Flags.{by-test, by-bool, by-order, impossible}
+use Rattle.slots.specs.Words.{isLost, entryAt, writeReport}
+use Rattle.slots.specs.declared.entry.Entry.{Entry}
+use Rattle.slots.specs.declared.entry.Entry.the-variants.{Lost, Received, GivenUp}
+use Rattle.slots.proofs.Laws.{length-report, read-report, report-other, report-outside, slot-lt, slot-words, slot-apart}
+use Rattle.window.specs.Window.{Good}
+use Rattle.window_report.specs.Report.{isDue, kAfter, runWords, runsAfter, Within, slotNo, dueAt, slotsTo, runsTo, runPut, listTo, needed, reporting, reportOne, listAll, reportedTo, ReportOutcome, reportEnded, reportOf}
+use Rattle.window.specs.declared.Window.{Window}
+use Rattle.window_report.specs.declared.report.Runs.{Runs}
+use Rattle.window_report.specs.declared.report.ReportAnswer.the-variants as answers
+
+-- a run has at most two words
+pub words-most : (r : Runs) (i : ℕ) → runWords r i ≤ 2
+words-most r i =
+    by-test (λ (n : ℕ). n ≤ 2) (r .going) _ _
+    (λ t. by-test (λ (n : ℕ). n ≤ 2) (eqb (r .first + 1) i) _ _ (λ u. omega arith) (λ u. omega arith))
+    (λ t. omega arith)
+
+run-some : (r : Runs) (i : ℕ) → r .going ≡ true → 0 < runWords r i
+run-some r i t =
+    rw t (by-test (λ (n : ℕ). 0 < n) (eqb (r .first + 1) i) _ _ (λ u. omega arith) (λ u. omega arith))
+
+-- an entry more keeps the bounds of the walk
+within-after : (r : Runs) (i : ℕ) (d : Bool) → Within r i → Within (runsAfter r i d) (suc i)
+within-after r i true h =
+    by-test (λ (f : ℕ). Within (record { words = r .words; going = true; first = f }) (suc i)) (r .going) (r .first) i
+    (λ t. record { words = omega arith; first = omega arith; before = λ u. omega arith })
+    (λ t. record { words = omega arith; first = omega arith; before = λ u. omega arith })
+within-after r i false h =
+    let l = words-most r i in
+    record { words = omega arith; first = omega arith; before = λ u. impossible (sym u) }
+
+-- closing the run after entry i takes no fewer words than closing it before
+words-grow : (r : Runs) (i : ℕ) (d : Bool) → Within r i → r .words + runWords r i ≤ runsAfter r i d .words + runWords (runsAfter r i d) (suc i)
+words-grow r i true h =
+    by-bool (r .going)
+    (λ t.
+    let l = h .before t in
+    let n : (r .first + 1 ≡ suc i → ⊥) = omega arith in
+    let m = words-most r i in
+    rw (t, ne-eqb _ _ n) (omega (arith, rw t at m)))
+    (λ t. rw t (omega arith))
+words-grow r i false h = omega arith
+
+length-put : (w : Window) (list : List ℕ) (r : Runs) (i : ℕ) → length (runPut w list r i) ≡ length list
+unfolding runPut
+length-put w list r i =
+    by-test (λ (l : List ℕ). length l ≡ length list) (r .going) _ _
+    (λ t. by-test (λ (l : List ℕ). length l ≡ length list) (eqb (r .first + 1) i) _ _ (λ u. simp length-set) (λ u. simp length-set))
+    (λ t. refl)
+
+-- the three parts of a report go by the same test
+one-is : (d : Bool) (a b l m : List ℕ) (r : Runs) (i : ℕ)
+    → cond d (reporting a l (runsAfter r i true)) (reporting b m (runsAfter r i false)) ≡ reporting (cond d a b) (cond d l m) (runsAfter r i d)
+one-is true a b l m r i = refl
+one-is false a b l m r i = refl
+
+-- a due entry is lost, and its k stays within 16 bits
+due-lost : (time mean : ℕ) (e : Entry) → isDue time mean e ≡ true → isLost e ≡ true
+due-lost time mean (Lost k f) t = refl
+due-lost time mean (Received n l m s) t = t
+due-lost time mean GivenUp t = t
+
+k-small : (e : Entry) → kAfter e < 2 ^ 16
+k-small (Lost k f) = omega arith
+k-small (Received n l m s) = omega arith
+k-small GivenUp = omega arith
+
+-- a slot just reported
+same : (time mean : ℕ) (ws : List ℕ) (s : ℕ) (e : Entry) → 3 * s + 3 ≤ length ws → time < 2 ^ 60 → entryAt ws s ≡ e
+    → entryAt (cond (isDue time mean e) (writeReport ws s (kAfter e) time) ws) s ≡ cond (isDue time mean e) (Lost (kAfter e) time) e
+same time mean ws s e h k p =
+    by-bool (isDue time mean e)
+    (λ t. rw t (read-report ws s (kAfter e) time h (rw p (due-lost time mean e t)) (k-small e) k))
+    (λ t. rw t p)
+
+module _ (w : Window) (ws : List ℕ) (time mean : ℕ) where
+  pub runs-more : (i : ℕ) → runsTo w ws time mean (i + 1) ≡ runsAfter (runsTo w ws time mean i) i (dueAt w ws time mean i)
+  unfolding runsTo
+  runs-more i = rw (add-one i)
+
+  pub runs-within : (i : ℕ) → Within (runsTo w ws time mean i) i
+  unfolding runsTo
+  runs-within zero = record { words = omega arith; first = omega arith; before = λ u. impossible (sym u) }
+  runs-within (suc i) = within-after (runsTo w ws time mean i) i (dueAt w ws time mean i) (runs-within i)
+
+  -- the words only grow, up to what the report needs
+  abbrev pub words-to : ℕ → ℕ
+  words-to i = runsTo w ws time mean i .words + runWords (runsTo w ws time mean i) i
+
+  words-on : (i : ℕ) → words-to i ≤ words-to (suc i)
+  unfolding runsTo
+  words-on i = words-grow (runsTo w ws time mean i) i (dueAt w ws time mean i) (runs-within i)
+
+  pub words-rise : (i j : ℕ) → i ≤ j → words-to i ≤ words-to j
+  words-rise i zero h = let e : i ≡ 0 = omega arith in rw e (omega arith)
+  words-rise i (suc j) h =
+      by-order j i
+      (λ l. let e : i ≡ suc j = omega arith in rw e (omega arith))
+      (λ l. let a = words-rise i j l in let b = words-on j in omega arith)
+
+  -- the areas keep their lengths
+  pub length-slots : (i : ℕ) → length (slotsTo w ws time mean i) ≡ length ws
+  unfolding slotsTo
+  length-slots zero = refl
+  length-slots (suc i) =
+      by-test (λ (l : List ℕ). length l ≡ length ws) (dueAt w ws time mean i) _ _
+      (λ t. length-report _ _ _ _ ∙ length-slots i)
+      (λ t. length-slots i)
+
+  pub length-list : (list : List ℕ) (i : ℕ) → length (listTo w ws time mean list i) ≡ length list
+  unfolding listTo
+  length-list list zero = refl
+  length-list list (suc i) =
+      by-test (λ (l : List ℕ). length l ≡ length list) (dueAt w ws time mean i) _ _
+      (λ t. length-list list i)
+      (λ t. length-put w _ _ i ∙ length-list list i)
+
+  -- an entry is read as it was before the report
+  pub slots-ahead : (i j : ℕ) → w .start < w .capacity → i ≤ j → j < w .capacity → entryAt (slotsTo w ws time mean i) (slotNo w ws time mean j) ≡ entryAt ws (slotNo w ws time mean j)
+  unfolding slotsTo
+  slots-ahead zero j hs h k = refl
+  slots-ahead (suc i) j hs h k =
+      let l = slots-ahead i j hs (omega arith) k in
+      let n : (i ≡ j → ⊥) = omega arith in
+      by-test (λ (x : List ℕ). entryAt x (slotNo w ws time mean j) ≡ entryAt ws (slotNo w ws time mean j)) (dueAt w ws time mean i) _ _
+      (λ t. report-other _ _ _ (λ e. slot-apart (w .capacity) (w .start) hs i j (omega arith) k n (sym e)) _ _ ∙ l)
+      (λ t. l)
+
+  -- one entry more
+  pub report-more : (list : List ℕ) (i : ℕ) → w .start < w .capacity → i < w .capacity
+      → reportOne w time mean (slotNo w ws time mean i) i (reportedTo w ws time mean list i) ≡ reportedTo w ws time mean list (i + 1)
+  unfolding reportOne slotsTo listTo runsTo
+  report-more list i hs h =
+      rw (slots-ahead i i hs (omega arith) h, add-one i) (one-is (dueAt w ws time mean i) _ _ _ _ (runsTo w ws time mean i) i)
+
+  -- an entry after the report: if it was due, with k + 1 and feedback now; else as it was
+  abbrev pub entryAfter : ℕ → Entry
+  entryAfter j =
+      let e = entryAt ws (slotNo w ws time mean j) in
+      cond (dueAt w ws time mean j) (Lost (kAfter e) time) e
+
+  slots-behind : (i j : ℕ) → Good w ws → time < 2 ^ 60 → j < i → i ≤ w .capacity → entryAt (slotsTo w ws time mean i) (slotNo w ws time mean j) ≡ entryAfter j
+  unfolding slotsTo
+  slots-behind zero j g ht h k = absurd (omega arith)
+  slots-behind (suc i) j g ht h k =
+      by-order j i
+      (λ l.
+      let ih = slots-behind i j g ht l (omega arith) in
+      let n : (j ≡ i → ⊥) = omega arith in
+      by-test (λ (x : List ℕ). entryAt x (slotNo w ws time mean j) ≡ entryAfter j) (dueAt w ws time mean i) _ _
+      (λ t. report-other _ _ _ (slot-apart (w .capacity) (w .start) (g .starts) j i (omega arith) (omega arith) n) _ _ ∙ ih)
+      (λ t. ih))
+      (λ l.
+      let e : j ≡ i = omega arith in
+      rw e
+      (same time mean (slotsTo w ws time mean i) (slotNo w ws time mean i) (entryAt ws (slotNo w ws time mean i))
+      (rw (length-slots i) (slot-words (w .capacity) (w .start) i (g .some) refl (g .words)))
+      ht
+      (slots-ahead i i (g .starts) (omega arith) (omega arith))))
+
+  -- a report changes only k and feedback time of due entries: those held, those that are not, and the words past the capacity
+  pub report-held : (j : ℕ) → Good w ws → time < 2 ^ 60 → j < w .held → entryAt (slotsTo w ws time mean (w .held)) (slotNo w ws time mean j) ≡ entryAfter j
+  report-held j g ht h = slots-behind (w .held) j g ht h (g .holds)
+
+  pub report-not-held : (j : ℕ) → Good w ws → w .held ≤ j → j < w .capacity → entryAt (slotsTo w ws time mean (w .held)) (slotNo w ws time mean j) ≡ entryAt ws (slotNo w ws time mean j)
+  report-not-held j g h k = slots-ahead (w .held) j (g .starts) h k
+
+  pub report-past : (i : ℕ) → 0 < w .capacity → drop (3 * w .capacity) (slotsTo w ws time mean i) ≡ drop (3 * w .capacity) ws
+  unfolding slotsTo
+  report-past zero h = refl
+  report-past (suc i) h =
+      by-test (λ (x : List ℕ). drop (3 * w .capacity) x ≡ drop (3 * w .capacity) ws) (dueAt w ws time mean i) _ _
+      (λ t. report-outside _ _ (w .capacity) (slot-lt (w .capacity) (w .start) i h) _ _ ∙ report-past i h)
+      (λ t. report-past i h)
+
+  -- no entry, no report: nothing is needed exactly if no held entry is due
+  runs-none : (i : ℕ) → ((j : ℕ) → j < i → dueAt w ws time mean j ≡ false) → runsTo w ws time mean i ≡ record { words = 0; going = false; first = 0 }
+  unfolding runsTo
+  runs-none zero f = refl
+  runs-none (suc i) f = rw (runs-none i (λ j h. f j (omega arith)), f i (omega arith))
+
+  pub none-due : ((j : ℕ) → j < w .held → dueAt w ws time mean j ≡ false) → needed w ws time mean ≡ 0
+  none-due f = rw (runs-none (w .held) f)
+
+  pub some-due : (j : ℕ) → j < w .held → dueAt w ws time mean j ≡ true → 0 < needed w ws time mean
+  unfolding runsTo
+  some-due j h t =
+      let g : runsTo w ws time mean (suc j) .going ≡ true = rw t in
+      omega (arith, words-rise (suc j) (w .held) (omega arith), run-some (runsTo w ws time mean (suc j)) (suc j) g)
+
+  -- refusal 12, and no report, change nothing; a report leaves what the definitions above say
+  module _ (list : List ℕ) where
+    abbrev pub outcome : ReportOutcome
+    outcome = reportOf w ws time mean list
+
+    by-outcome : (P : ReportOutcome → Type 0) → P (reportEnded answers.Nothing ws list) → P (reportEnded answers.ListShort ws list)
+        → P (reportEnded (answers.Report (needed w ws time mean)) (slotsTo w ws time mean (w .held)) (listAll w ws time mean list)) → P outcome
+    unfolding reportOf
+    by-outcome P a b c =
+        by-test P (eqb (needed w ws time mean) 0) _ _
+        (λ t. a)
+        (λ t. by-test P (ltb (length list) (needed w ws time mean)) _ _ (λ u. b) (λ u. c))
+
+    pub nothing-stays : outcome .answer ≡ answers.Nothing → outcome ≡ reportEnded answers.Nothing ws list
+    nothing-stays =
+        by-outcome (λ (x : ReportOutcome). x .answer ≡ answers.Nothing → x ≡ reportEnded answers.Nothing ws list)
+        (λ e. refl)
+        (λ e. absurd (let z : _≡_ {A = ℕ} 0 1 = cc in omega arith))
+        (λ e. absurd (let z : _≡_ {A = ℕ} 0 1 = cc in omega arith))
+
+    pub short-stays : outcome .answer ≡ answers.ListShort → outcome ≡ reportEnded answers.ListShort ws list
+    short-stays =
+        by-outcome (λ (x : ReportOutcome). x .answer ≡ answers.ListShort → x ≡ reportEnded answers.ListShort ws list)
+        (λ e. absurd (let z : _≡_ {A = ℕ} 0 1 = cc in omega arith))
+        (λ e. refl)
+        (λ e. absurd (let z : _≡_ {A = ℕ} 0 1 = cc in omega arith))
+
+    pub slots-keep : length (outcome .slots) ≡ length ws
+    slots-keep = by-outcome (λ (x : ReportOutcome). length (x .slots) ≡ length ws) refl refl (length-slots (w .held))
+
+    pub list-keeps : length (outcome .list) ≡ length list
+    list-keeps =
+        by-outcome (λ (x : ReportOutcome). length (x .list) ≡ length list)
+        refl
+        refl
+        (length-put w _ _ (w .held) ∙ length-list list (w .held))

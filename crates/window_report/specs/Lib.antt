@@ -1,0 +1,3 @@
+-- The definitions of the loss report and the drop request.
+pub mod Drop
+pub mod Report
