@@ -4,3 +4,4 @@ pub mod Gaps
 pub mod Pushes
 pub mod PushKeeps
 pub mod PushLrsn
+pub mod Pops

@@ -3,7 +3,7 @@ use mathlib.Core.Path.{_≡_}
 use mathlib.Core.Bool.{Bool, true, false, cond}
 use mathlib.Core.List.{List, [], _∷_, _++_}
 use Prim.Native.Nat.{ℕ, zero, suc}
-use lib.ListN.{set, replicate}
+use lib.ListN.{set, drop, replicate}
 use Rattle.numbers.specs.Circular.{distance}
 use Rattle.slots.specs.Words.{entryAt}
 use Rattle.slots.specs.Ring.{slotOf, payloadAt}
@@ -14,6 +14,8 @@ use Rattle.window.specs.declared.Window.{Window}
 use Rattle.window.specs.declared.push.Packet.{Packet}
 use Rattle.window.specs.declared.push.PushAnswer.{PushAnswer}
 use Rattle.window.specs.declared.push.PushAnswer.the-variants as answers
+use Rattle.window_pop.specs.declared.pop.PopAnswer.{PopAnswer}
+use Rattle.window_pop.specs.declared.pop.PopAnswer.the-variants as pops
 
 -- an entry with its bytes
 pub data Seen : Type 0 where
@@ -63,3 +65,20 @@ afterPush w time p payload es answers.BufferFull = es
 afterPush w time p payload es (answers.PacketTooEarly room need) = es
 afterPush w time p payload es answers.PacketTooLate = es
 afterPush w time p payload es answers.DiscardedDuplicate = es
+
+-- what a pop does to the list, by its answer: a message takes its packets off the front, a late drop its range
+abbrev pub afterPop : List Seen → PopAnswer → List Seen
+afterPop es pops.Nothing = es
+afterPop es (pops.Message time bytes packets) = drop packets es
+afterPop es (pops.Late first end delay) = drop (distance 31 end first) es
+afterPop es pops.OutShort = es
+
+-- the bytes of entries, one after the other
+abbrev pub bytesIn : Seen → List ℕ
+bytesIn (lost k f) = []
+bytesIn (received l m t b) = b
+bytesIn givenUp = []
+
+unfoldable pub joined : List Seen → List ℕ
+joined [] = []
+joined (e ∷ es) = bytesIn e ++ joined es

@@ -120,7 +120,7 @@ module _ (capacity start : ℕ) (ws bs out : List ℕ) where
 
 -- a whole message in front
 module _ (w : Window) (ws bs out : List ℕ) {m : Message} (c : m ≡ messageOf w ws) (h : 0 < m .packets) where
-  front-whole : (m .packets ≤ w .held) × (filled (w .capacity) (w .start) ws bs out (m .packets) .at ≡ m .bytes)
+  pub front-whole : (m .packets ≤ w .held) × (filled (w .capacity) (w .start) ws bs out (m .packets) .at ≡ m .bytes)
   unfolding messageOf
   front-whole =
       let e = entryIn w ws 0 in

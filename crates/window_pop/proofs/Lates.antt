@@ -53,15 +53,15 @@ module _ (latency : ℕ) {z z₁ l : ℤ} (p : z₁ ≡ z) (q : l ≡ pos latenc
   pub limit-fits : SFits w64 (z₁ -ℤ l)
   limit-fits = fits-size w64 (z₁ -ℤ l) (omega (arith, limit-size))
 
-  pub limit-fits-on : {y : ℤ} → y ≡ z₁ -ℤ l → SFits w64 (y -ℤ pos 5000)
-  limit-fits-on e = rw e (fits-size w64 (z₁ -ℤ l -ℤ pos 5000) (omega (arith, size-- (z₁ -ℤ l) (pos 5000), limit-size)))
+  pub limit-fits-on : (n : ℤ) {y : ℤ} → y ≡ z₁ -ℤ l → natAbs n ≤ 65535000 → SFits w64 (y -ℤ n)
+  limit-fits-on n e j = rw e (fits-size w64 (z₁ -ℤ l -ℤ n) (omega (arith, size-- (z₁ -ℤ l) n, limit-size)))
 
 pub limit-is : (z : ℤ) (latency : ℕ) → natAbs z < 2 ^ 60 → latency ≤ 65535000
     → toZ w64 (ofZ w64 (toZ w64 (ofZ w64 (toZ w64 (ofZ w64 z) -ℤ toZ w64 latency)) -ℤ pos 5000)) ≡ limitOf z latency
 unfolding limitOf
 limit-is z latency h k =
     rw (toZ-ofZ (fits-size w64 z (omega arith)), latency-reads latency k)
-    (rw (toZ-ofZ (limit-fits latency {z = z} refl refl h k)) (rw (toZ-ofZ (limit-fits-on latency {z = z} refl refl h k refl))))
+    (rw (toZ-ofZ (limit-fits latency {z = z} refl refl h k)) (rw (toZ-ofZ (limit-fits-on latency {z = z} refl refl h k (pos 5000) refl (omega arith)))))
 
 -- is_late
 or-false : (x : Bool) → (x || false) ≡ x

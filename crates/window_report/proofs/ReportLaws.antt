@@ -2,12 +2,13 @@
 use mathlib.Core.Path.{_≡_, refl, sym, _∙_}
 use mathlib.Core.Bool.{Bool, true, false, cond}
 use mathlib.Core.List.{List}
-use Prim.Native.Nat.{ℕ, zero, suc, _+_, _*_, _^_, _<_, _≤_}
+use Prim.Native.Nat.{ℕ, zero, suc, _+_, _-_, _*_, _^_, _<_, _≤_}
 use native.Mathlib.Numerals.{add-one}
 use native.Mathlib.Omega.{arith}
 use borrow.Author.Tests.{ne-eqb}
 use lib.Dec.{ltb, eqb}
 use lib.ListN.{length, drop, length-set}
+use lib.Seq.{drop-set-lt}
 use Rattle.numbers.proofs.Flags.{by-test, by-bool, by-order, impossible}
 use Rattle.slots.specs.Words.{isLost, entryAt, writeReport}
 use Rattle.slots.specs.declared.entry.Entry.{Entry}
@@ -58,6 +59,19 @@ length-put w list r i =
     by-test (λ (l : List ℕ). length l ≡ length list) (r .going) _ _
     (λ t. by-test (λ (l : List ℕ). length l ≡ length list) (eqb (r .first + 1) i) _ _ (λ u. simp length-set) (λ u. simp length-set))
     (λ t. refl)
+
+put-beyond : (w : Window) (list : List ℕ) (r : Runs) (i n : ℕ) → r .words + runWords r i ≤ n → drop n (runPut w list r i) ≡ drop n list
+unfolding runPut
+put-beyond w list r i n h =
+    by-bool (r .going)
+    (λ t.
+    by-bool (eqb (r .first + 1) i)
+    (λ u. let l : r .words < n = omega (arith, rw (t, u) at h) in rw (t, u) (simp drop-set-lt))
+    (λ u.
+    let l : r .words < n = omega (arith, rw (t, u) at h) in
+    let m : r .words + 1 < n = omega (arith, rw (t, u) at h) in
+    rw (t, u) (simp drop-set-lt)))
+    (λ t. rw t)
 
 -- the three parts of a report go by the same test
 one-is : (d : Bool) (a b l m : List ℕ) (r : Runs) (i : ℕ)
@@ -125,6 +139,21 @@ module _ (w : Window) (ws : List ℕ) (time mean : ℕ) where
       by-test (λ (l : List ℕ). length l ≡ length list) (dueAt w ws time mean i) _ _
       (λ t. length-list list i)
       (λ t. length-put w _ _ i ∙ length-list list i)
+
+  list-past : (list : List ℕ) (i n : ℕ) → words-to i ≤ n → drop n (listTo w ws time mean list i) ≡ drop n list
+  unfolding listTo
+  list-past list zero n h = refl
+  list-past list (suc i) n h =
+      let k : words-to i ≤ n = omega (arith, words-on i) in
+      by-test (λ (l : List ℕ). drop n l ≡ drop n list) (dueAt w ws time mean i) _ _
+      (λ t. list-past list i n k)
+      (λ t. put-beyond w _ (runsTo w ws time mean i) i n k ∙ list-past list i n k)
+
+  -- what the list has past the words of the report stays
+  pub list-beyond : (list : List ℕ) → drop (needed w ws time mean) (listAll w ws time mean list) ≡ drop (needed w ws time mean) list
+  list-beyond list =
+      put-beyond w _ (runsTo w ws time mean (w .held)) (w .held) (needed w ws time mean) (omega arith)
+      ∙ list-past list (w .held) (needed w ws time mean) (omega arith)
 
   -- an entry is read as it was before the report
   pub slots-ahead : (i j : ℕ) → w .start < w .capacity → i ≤ j → j < w .capacity → entryAt (slotsTo w ws time mean i) (slotNo w ws time mean j) ≡ entryAt ws (slotNo w ws time mean j)

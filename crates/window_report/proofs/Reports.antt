@@ -114,9 +114,9 @@ module _ (r : Runs) (i : ℕ) where
       (λ t u v. let l = h .before t in omega arith)
 
   module _ (w : Window) (list : List ℕ) {n : ℕ} (e : n ≡ runWords r i) where
-    pub put-none : {x : List ℕ} → x ≡ list → n ≡ 0 → x ≡ runPut w list r i
+    pub put-none : n ≡ 0 → list ≡ runPut w list r i
     unfolding runPut
-    put-none f z = by-words (λ t u. rw t f) (λ t u v. absurd (omega arith)) (λ t u v. absurd (omega arith))
+    put-none z = by-words (λ t u. rw t) (λ t u v. absurd (omega arith)) (λ t u v. absurd (omega arith))
 
     pub put-one : {m : ℕ} → n ≡ 1 → m ≡ numberIn w (r .first) → set list (r .words) m ≡ runPut w list r i
     unfolding runPut

@@ -20,7 +20,7 @@ pub enum ReportAnswer {
     ListShort,
 }
 
-// A lost entry whose feedback is k mean round trips old; a younger one waits.
+// A lost entry whose feedback time is more than k mean round trips ago.
 fn is_due(e: Entry, time: u64, mean: u32) -> bool
     requires { ⌜ Fit e × (mean < 2 ^ 31) ⌝ }
     ensures { λ r. ⌜ r ≡ isDue time mean e ⌝ }

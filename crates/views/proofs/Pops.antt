@@ -1,0 +1,96 @@
+-- What a pop does to the list of entries, which bytes a message has, and that lrsn stays right. Assumes nothing.
+use mathlib.Core.Path.{_≡_, refl, ap, sym, _∙_}
+use mathlib.Core.Bool.{Bool, true, false, cond}
+use mathlib.Core.List.{List, [], _∷_, _++_, append-assoc, append-nil}
+use Prim.Native.Nat.{ℕ, zero, suc, _+_, _-_, _*_, _^_, _<_, _≤_}
+use native.Mathlib.Numerals.{add-one}
+use native.Mathlib.Omega.{arith}
+use lib.IntN.{ℤ}
+use lib.ListN.{length, getD, take, drop, length-append, length-take, length-drop}
+use lib.Seq.{take-suc, take-at, drop-append-add, drop-drop, length-take-le}
+use Rattle.numbers.specs.Circular.{distance, sum}
+use Rattle.numbers.proofs.Flags.{impossible, by-test}
+use Rattle.numbers.proofs.Circle.{distance-sum, sum-sum}
+use Rattle.clock.specs.declared.time.SynchronizedRemoteClock.{SynchronizedRemoteClock}
+use Rattle.slots.specs.Words as words
+use Rattle.slots.specs.Words.{Fit, entryAt, lengthIn, isLast, inMessage, messageIn, isFirst}
+use Rattle.slots.specs.Ring.{slotOf, payloadAt}
+use Rattle.slots.specs.declared.entry.Entry.{Entry}
+use Rattle.slots.specs.declared.entry.Entry.the-variants.{Lost, Received, GivenUp}
+use Rattle.slots.proofs.Laws.{entry-fit, length-read, slot-lt}
+use Rattle.window.specs.Window.{Good, Bytes, slotIn, entryIn, numberIn, cut, withLrsn, lrsnFrom, firstGap}
+use Rattle.window.specs.declared.Window.{Window}
+use Rattle.window_pop.specs.Pop.{PopOutcome, runFrom, messageOf, filled, discardFront, popOf}
+use Rattle.window_pop.specs.declared.pop.Message.{Message}
+use Rattle.window_pop.proofs.PopLaws.{pop-cases}
+use Rattle.views.specs.View.{Seen, received, seenOf, seenAt, isReceived, entriesFrom, entries, gapIn, LrsnRight, afterPop, bytesIn, joined}
+use Rattle.views.proofs.Lists.{entries-length, entries-at, entries-cut}
+use Rattle.views.proofs.Gaps.{gap-found, gap-from}
+
+-- an entry of a message is received
+in-received : (bs : List ℕ) (s message : ℕ) (e : Entry) → inMessage message e ≡ true → isReceived (seenOf bs s e) ≡ true
+in-received bs s message (Lost k f) h = impossible (sym h)
+in-received bs s message (Received n l m t) h = refl
+in-received bs s message GivenUp h = impossible (sym h)
+
+-- all entries of a whole message are received
+run-gap : (capacity start : ℕ) (ws bs : List ℕ) (message n i total : ℕ) → 0 < runFrom capacity start ws message i total n .packets
+    → runFrom capacity start ws message i total n .packets ≤ i + gapIn (entriesFrom capacity start ws bs i n)
+unfolding runFrom entriesFrom gapIn
+run-gap capacity start ws bs message zero i total = λ h. absurd (omega arith)
+run-gap capacity start ws bs message (suc n) i total =
+    let e = entryAt ws (slotOf capacity start i) in
+    let more : i + 1 ≡ suc i = omega arith in
+    let rest = gapIn (entriesFrom capacity start ws bs (suc i) n) in
+    let gap = cond (isReceived (seenAt ws bs (slotOf capacity start i))) (suc rest) 0 in
+    by-test (λ (m : Message). 0 < m .packets → m .packets ≤ i + gap) (inMessage message e) _ _
+    (λ t.
+    let one : isReceived (seenAt ws bs (slotOf capacity start i)) ≡ true = in-received bs (slotOf capacity start i) message e t in
+    rw one
+    (by-test (λ (m : Message). 0 < m .packets → m .packets ≤ i + suc rest) (isLast e) _ _
+    (λ u h. omega arith)
+    (λ u. rw more (λ h. let r = run-gap capacity start ws bs message n (suc i) (total + lengthIn e) h in omega arith))))
+    (λ t h. absurd (omega arith))
+
+-- the message in front
+front-gap : (w : Window) (ws bs : List ℕ) → 0 < messageOf w ws .packets → messageOf w ws .packets ≤ gapIn (entries w ws bs)
+unfolding messageOf
+front-gap w ws bs =
+    by-test (λ (m : Message). 0 < m .packets → m .packets ≤ gapIn (entries w ws bs)) (isFirst (entryIn w ws 0)) _ _
+    (λ t h. let r = run-gap (w .capacity) (w .start) ws bs (messageIn (entryIn w ws 0)) (w .held) 0 0 h in omega arith)
+    (λ t h. absurd (omega arith))
+
+module _ (k : SynchronizedRemoteClock) (latency : ℕ) (late : Bool) (w : Window) (ws : List ℕ) (now : ℤ) (bs out : List ℕ) (g : Good w ws) where
+  abbrev es : List Seen
+  es = entries w ws bs
+
+  abbrev outcome : PopOutcome
+  outcome = popOf k latency late w ws now bs out
+
+  -- the list, by the answer
+  pub pop-seen : entries (outcome .popped .window) ws bs ≡ afterPop es (outcome .popped .answer)
+  unfolding discardFront
+  pop-seen =
+      pop-cases k latency late w ws now bs out (λ (x : PopOutcome). entries (x .popped .window) ws bs ≡ afterPop es (x .popped .answer))
+      refl
+      refl
+      (λ some held fits. entries-cut w ws bs (messageOf w ws .packets) held)
+      (λ n stamp some held. entries-cut w ws bs n held ∙ ap (λ (x : ℕ). drop x es) (sym (distance-sum 31 (w .seqno0) {n = n} (omega arith))))
+
+  -- lrsn
+  pub pop-right : LrsnRight w es → LrsnRight (outcome .popped .window) (entries (outcome .popped .window) ws bs)
+  unfolding discardFront
+  pop-right l =
+      pop-cases k latency late w ws now bs out (λ (x : PopOutcome). LrsnRight (x .popped .window) (entries (x .popped .window) ws bs))
+      l
+      l
+      (λ some held fits.
+      let n = messageOf w ws .packets in
+      l
+      ∙ ap (numberIn w) (sym (gap-from n es (front-gap w ws bs some)))
+      ∙ sym (sum-sum 31 (w .seqno0) n (gapIn (drop n es)))
+      ∙ ap (λ (x : List Seen). numberIn (cut w n) (gapIn x)) (sym (entries-cut w ws bs n held)))
+      (λ n stamp some held.
+      let c = cut w n in
+      let z : c .held - 0 ≡ c .held = omega arith in
+      ap (numberIn c) (ap (firstGap (c .capacity) (c .start) ws 0) z ∙ gap-found (c .capacity) (c .start) ws bs (c .held) 0 ∙ omega arith))
