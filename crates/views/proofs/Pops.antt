@@ -7,7 +7,7 @@ use native.Mathlib.Numerals.{add-one}
 use native.Mathlib.Omega.{arith}
 use lib.IntN.{ℤ}
 use lib.ListN.{length, getD, take, drop, length-append, length-take, length-drop}
-use lib.Seq.{take-suc, take-at, drop-append-add, drop-drop, length-take-le}
+use lib.Seq.{paste, take-length, take-suc, take-at, drop-append-add, drop-drop, length-take-le}
 use Rattle.numbers.specs.Circular.{distance, sum}
 use Rattle.numbers.proofs.Flags.{impossible, by-test}
 use Rattle.numbers.proofs.Circle.{distance-sum, sum-sum}
@@ -20,10 +20,13 @@ use Rattle.slots.specs.declared.entry.Entry.the-variants.{Lost, Received, Given
 use Rattle.slots.proofs.Laws.{entry-fit, length-read, slot-lt}
 use Rattle.window.specs.Window.{Good, Bytes, slotIn, entryIn, numberIn, cut, withLrsn, lrsnFrom, firstGap}
 use Rattle.window.specs.declared.Window.{Window}
-use Rattle.window_pop.specs.Pop.{PopOutcome, runFrom, messageOf, filled, discardFront, popOf}
+use Rattle.window_pop.specs.Pop.{PopOutcome, Filled, runFrom, messageOf, filled, discardFront, popOf}
 use Rattle.window_pop.specs.declared.pop.Message.{Message}
+use Rattle.window_pop.specs.declared.pop.PopAnswer.{PopAnswer}
+use Rattle.window_pop.specs.declared.pop.PopAnswer.the-variants as pops
+use Rattle.window_pop.proofs.Fills.{front-whole}
 use Rattle.window_pop.proofs.PopLaws.{pop-cases}
-use Rattle.views.specs.View.{Seen, received, seenOf, seenAt, isReceived, entriesFrom, entries, gapIn, LrsnRight, afterPop, bytesIn, joined}
+use Rattle.views.specs.View.{Seen, received, givenUp, seenOf, seenAt, isReceived, entriesFrom, entries, gapIn, LrsnRight, afterPop, bytesIn, joined}
 use Rattle.views.proofs.Lists.{entries-length, entries-at, entries-cut}
 use Rattle.views.proofs.Gaps.{gap-found, gap-from}
 
@@ -60,6 +63,55 @@ front-gap w ws bs =
     (λ t h. let r = run-gap (w .capacity) (w .start) ws bs (messageIn (entryIn w ws 0)) (w .held) 0 0 h in omega arith)
     (λ t h. absurd (omega arith))
 
+-- the bytes of one more entry
+joined-snoc : (es : List Seen) (e : Seen) → joined (es ++ (e ∷ [])) ≡ joined es ++ bytesIn e
+unfolding joined
+joined-snoc [] e = append-nil (bytesIn e)
+joined-snoc (x ∷ es) e = rw (joined-snoc es e) (sym (append-assoc (bytesIn x) (joined es) (bytesIn e)))
+
+-- an entry's bytes are the payload in its slot, none if it is not received
+slot-bytes : (bs : List ℕ) (s : ℕ) (e : Entry) → bytesIn (seenOf bs s e) ≡ payloadAt bs s (lengthIn e)
+slot-bytes bs s (Lost k f) = refl
+slot-bytes bs s (Received n l m t) = refl
+slot-bytes bs s GivenUp = refl
+
+-- a payload put behind what is laid already
+laid : (js q out : List ℕ) (at len : ℕ) → at ≡ length js → len ≡ length q → paste (js ++ drop at out) at q len ≡ js ++ q ++ drop (at + len) out
+laid js q out at len a b =
+    let head : take at (js ++ drop at out) ≡ js = take-at js (drop at out) at (sym a) in
+    let body : take len q ≡ q = rw b (take-length q) in
+    let tail : drop (at + len) (js ++ drop at out) ≡ drop (at + len) out =
+        ap (λ (x : ℕ). drop (x + len) (js ++ drop at out)) a ∙ drop-append-add js (drop at out) len ∙ drop-drop len at out in
+    rw (head, body, tail)
+
+-- the output after n entries: their bytes, one after the other, and then what the output had
+module _ (w : Window) (ws bs out : List ℕ) (g : Good w ws) (gb : Bytes w bs) where
+  abbrev front : ℕ → List ℕ
+  front n = joined (take n (entries w ws bs))
+
+  abbrev Laid : Filled → ℕ → Type 0
+  Laid f n = (f .at ≡ length (front n)) × (f .out ≡ front n ++ drop (f .at) out)
+
+  pub filled-joined : (n : ℕ) → n ≤ w .held → Laid (filled (w .capacity) (w .start) ws bs out n) n
+  unfolding filled joined
+  filled-joined zero h = (refl, refl)
+  filled-joined (suc n) h =
+      let es = entries w ws bs in
+      let s = slotIn w n in
+      let len = lengthIn (entryIn w ws n) in
+      let q = payloadAt bs s len in
+      let f = filled (w .capacity) (w .start) ws bs out n in
+      let i = filled-joined n (omega arith) in
+      let room : len ≤ length (drop (1456 * s) bs) = rw length-drop (omega (arith, length-read ws s, slot-lt (w .capacity) (w .start) n (g .some))) in
+      let long : length q ≡ len = length-take-le len (drop (1456 * s) bs) room in
+      let z : 0 + n ≡ n = omega arith in
+      let one : bytesIn (getD es n givenUp) ≡ q = ap bytesIn (entries-at (w .capacity) (w .start) ws bs 0 (w .held) n givenUp (omega arith) ∙ ap (λ (x : ℕ). seenAt ws bs (slotIn w x)) z) ∙ slot-bytes bs s (entryIn w ws n) in
+      let next : front (suc n) ≡ front n ++ q = ap joined (take-suc es n givenUp (omega (arith, entries-length (w .capacity) (w .start) ws bs 0 (w .held)))) ∙ joined-snoc (take n es) (getD es n givenUp) ∙ ap (λ (x : List ℕ). front n ++ x) one in
+      (ap (λ (x : ℕ). x + len) (i .0) ∙ ap (λ (x : ℕ). length (front n) + x) (sym long) ∙ sym (length-append (front n) q) ∙ ap length (sym next),
+      ap (λ (x : List ℕ). paste x (f .at) q len) (i .1)
+      ∙ laid (front n) q out (f .at) len (i .0) (sym long)
+      ∙ ap (λ (x : List ℕ). x ++ drop (f .at + len) out) (sym next))
+
 module _ (k : SynchronizedRemoteClock) (latency : ℕ) (late : Bool) (w : Window) (ws : List ℕ) (now : ℤ) (bs out : List ℕ) (g : Good w ws) where
   abbrev es : List Seen
   es = entries w ws bs
@@ -94,3 +146,31 @@ module _ (k : SynchronizedRemoteClock) (latency : ℕ) (late : Bool) (w : Window
       let c = cut w n in
       let z : c .held - 0 ≡ c .held = omega arith in
       ap (numberIn c) (ap (firstGap (c .capacity) (c .start) ws 0) z ∙ gap-found (c .capacity) (c .start) ws bs (c .held) 0 ∙ omega arith))
+
+  -- a message's output is the bytes of its entries, one after the other, all of them received; past them the output stays
+  pub record Handed (x : PopOutcome) (bytes packets : ℕ) : Type 0 where
+    pub some : 0 < packets
+    pub held : packets ≤ w .held
+    pub whole : packets ≤ gapIn es
+    pub long : bytes ≡ length (joined (take packets es))
+    pub output : x .output ≡ joined (take packets es) ++ drop bytes out
+
+  pub pop-handed : Bytes w bs → (time : ℤ) (bytes packets : ℕ) → outcome .popped .answer ≡ pops.Message time bytes packets → Handed outcome bytes packets
+  pop-handed gb time bytes packets =
+      pop-cases k latency late w ws now bs out (λ (x : PopOutcome). x .popped .answer ≡ pops.Message time bytes packets → Handed x bytes packets)
+      (λ e. absurd (let z : _≡_ {A = ℕ} 0 1 = cc in omega arith))
+      (λ e. absurd (let z : _≡_ {A = ℕ} 0 1 = cc in omega arith))
+      (λ some held fits e.
+      let m = messageOf w ws in
+      let f = filled-joined w ws bs out g gb (m .packets) held in
+      let at = front-whole w ws bs out refl some .1 in
+      let b : m .bytes ≡ bytes = cc in
+      let n : m .packets ≡ packets = cc in
+      record {
+        some = omega arith;
+        held = omega arith;
+        whole = omega (arith, front-gap w ws bs some);
+        long = sym b ∙ sym at ∙ f .0 ∙ ap (λ (x : ℕ). length (joined (take x es))) n;
+        output = f .1 ∙ ap (λ (x : ℕ). joined (take (m .packets) es) ++ drop x out) (at ∙ b) ∙ ap (λ (x : ℕ). joined (take x es) ++ drop bytes out) n;
+      })
+      (λ n stamp some held e. absurd (let z : _≡_ {A = ℕ} 0 1 = cc in omega arith))
