@@ -5,3 +5,4 @@ pub mod Pushes
 pub mod PushKeeps
 pub mod PushLrsn
 pub mod Pops
+pub mod Marks

@@ -1,32 +1,29 @@
 -- What a pop does to the list of entries, which bytes a message has, and that lrsn stays right. Assumes nothing.
 use mathlib.Core.Path.{_≡_, refl, ap, sym, _∙_}
-use mathlib.Core.Bool.{Bool, true, false, cond}
+use mathlib.Core.Bool.{Bool, true, cond}
 use mathlib.Core.List.{List, [], _∷_, _++_, append-assoc, append-nil}
-use Prim.Native.Nat.{ℕ, zero, suc, _+_, _-_, _*_, _^_, _<_, _≤_}
-use native.Mathlib.Numerals.{add-one}
+use Prim.Native.Nat.{ℕ, zero, suc, _+_, _-_, _*_, _<_, _≤_}
 use native.Mathlib.Omega.{arith}
 use lib.IntN.{ℤ}
-use lib.ListN.{length, getD, take, drop, length-append, length-take, length-drop}
+use lib.ListN.{length, getD, take, drop, length-append, length-drop}
 use lib.Seq.{paste, take-length, take-suc, take-at, drop-append-add, drop-drop, length-take-le}
-use Rattle.numbers.specs.Circular.{distance, sum}
 use Rattle.numbers.proofs.Flags.{impossible, by-test}
 use Rattle.numbers.proofs.Circle.{distance-sum, sum-sum}
 use Rattle.clock.specs.declared.time.SynchronizedRemoteClock.{SynchronizedRemoteClock}
 use Rattle.slots.specs.Words as words
-use Rattle.slots.specs.Words.{Fit, entryAt, lengthIn, isLast, inMessage, messageIn, isFirst}
+use Rattle.slots.specs.Words.{entryAt, lengthIn, isLast, inMessage, messageIn, isFirst}
 use Rattle.slots.specs.Ring.{slotOf, payloadAt}
 use Rattle.slots.specs.declared.entry.Entry.{Entry}
 use Rattle.slots.specs.declared.entry.Entry.the-variants.{Lost, Received, GivenUp}
-use Rattle.slots.proofs.Laws.{entry-fit, length-read, slot-lt}
-use Rattle.window.specs.Window.{Good, Bytes, slotIn, entryIn, numberIn, cut, withLrsn, lrsnFrom, firstGap}
+use Rattle.slots.proofs.Laws.{length-read, slot-lt}
+use Rattle.window.specs.Window.{Good, Bytes, slotIn, entryIn, numberIn, cut, firstGap}
 use Rattle.window.specs.declared.Window.{Window}
 use Rattle.window_pop.specs.Pop.{PopOutcome, Filled, runFrom, messageOf, filled, discardFront, popOf}
 use Rattle.window_pop.specs.declared.pop.Message.{Message}
-use Rattle.window_pop.specs.declared.pop.PopAnswer.{PopAnswer}
 use Rattle.window_pop.specs.declared.pop.PopAnswer.the-variants as pops
 use Rattle.window_pop.proofs.Fills.{front-whole}
 use Rattle.window_pop.proofs.PopLaws.{pop-cases}
-use Rattle.views.specs.View.{Seen, received, givenUp, seenOf, seenAt, isReceived, entriesFrom, entries, gapIn, LrsnRight, afterPop, bytesIn, joined}
+use Rattle.views.specs.View.{Seen, givenUp, seenOf, seenAt, isReceived, entriesFrom, entries, gapIn, LrsnRight, afterPop, bytesIn, joined}
 use Rattle.views.proofs.Lists.{entries-length, entries-at, entries-cut}
 use Rattle.views.proofs.Gaps.{gap-found, gap-from}
 
@@ -81,7 +78,7 @@ laid js q out at len a b =
     let head : take at (js ++ drop at out) ≡ js = take-at js (drop at out) at (sym a) in
     let body : take len q ≡ q = rw b (take-length q) in
     let tail : drop (at + len) (js ++ drop at out) ≡ drop (at + len) out =
-        ap (λ (x : ℕ). drop (x + len) (js ++ drop at out)) a ∙ drop-append-add js (drop at out) len ∙ drop-drop len at out in
+    ap (λ (x : ℕ). drop (x + len) (js ++ drop at out)) a ∙ drop-append-add js (drop at out) len ∙ drop-drop len at out in
     rw (head, body, tail)
 
 -- the output after n entries: their bytes, one after the other, and then what the output had
@@ -106,11 +103,12 @@ module _ (w : Window) (ws bs out : List ℕ) (g : Good w ws) (gb : Bytes w bs) w
       let long : length q ≡ len = length-take-le len (drop (1456 * s) bs) room in
       let z : 0 + n ≡ n = omega arith in
       let one : bytesIn (getD es n givenUp) ≡ q = ap bytesIn (entries-at (w .capacity) (w .start) ws bs 0 (w .held) n givenUp (omega arith) ∙ ap (λ (x : ℕ). seenAt ws bs (slotIn w x)) z) ∙ slot-bytes bs s (entryIn w ws n) in
-      let next : front (suc n) ≡ front n ++ q = ap joined (take-suc es n givenUp (omega (arith, entries-length (w .capacity) (w .start) ws bs 0 (w .held)))) ∙ joined-snoc (take n es) (getD es n givenUp) ∙ ap (λ (x : List ℕ). front n ++ x) one in
-      (ap (λ (x : ℕ). x + len) (i .0) ∙ ap (λ (x : ℕ). length (front n) + x) (sym long) ∙ sym (length-append (front n) q) ∙ ap length (sym next),
-      ap (λ (x : List ℕ). paste x (f .at) q len) (i .1)
-      ∙ laid (front n) q out (f .at) len (i .0) (sym long)
-      ∙ ap (λ (x : List ℕ). x ++ drop (f .at + len) out) (sym next))
+      let next : front (suc n) ≡ front n ++ q = ap joined (take-suc es n givenUp (omega (arith, entries-length (w .capacity) (w .start) ws bs 0 (w .held)))) ∙ joined-snoc (take n es) (getD es n givenUp) ∙ ap (λ (x : List ℕ). front n ++ x) one in (
+        ap (λ (x : ℕ). x + len) (i .0) ∙ ap (λ (x : ℕ). length (front n) + x) (sym long) ∙ sym (length-append (front n) q) ∙ ap length (sym next),
+        ap (λ (x : List ℕ). paste x (f .at) q len) (i .1)
+            ∙ laid (front n) q out (f .at) len (i .0) (sym long)
+            ∙ ap (λ (x : List ℕ). x ++ drop (f .at + len) out) (sym next),
+      )
 
 module _ (k : SynchronizedRemoteClock) (latency : ℕ) (late : Bool) (w : Window) (ws : List ℕ) (now : ℤ) (bs out : List ℕ) (g : Good w ws) where
   abbrev es : List Seen

@@ -1,8 +1,9 @@
 -- The entries of a window as a list, front first: what a reader of 01, "Window", thinks of.
 use mathlib.Core.Path.{_≡_}
-use mathlib.Core.Bool.{Bool, true, false, cond}
-use mathlib.Core.List.{List, [], _∷_, _++_}
-use Prim.Native.Nat.{ℕ, zero, suc}
+use mathlib.Core.Bool.{Bool, true, false, _&&_, cond}
+use mathlib.Core.List.{List, [], _∷_, _++_, map}
+use Prim.Native.Nat.{ℕ, zero, suc, _+_, _*_, min}
+use lib.Dec.{ltb, leb}
 use lib.ListN.{set, drop, replicate}
 use Rattle.numbers.specs.Circular.{distance}
 use Rattle.slots.specs.Words.{entryAt}
@@ -16,6 +17,8 @@ use Rattle.window.specs.declared.push.PushAnswer.{PushAnswer}
 use Rattle.window.specs.declared.push.PushAnswer.the-variants as answers
 use Rattle.window_pop.specs.declared.pop.PopAnswer.{PopAnswer}
 use Rattle.window_pop.specs.declared.pop.PopAnswer.the-variants as pops
+use Rattle.window_report.specs.declared.report.ReportAnswer.{ReportAnswer}
+use Rattle.window_report.specs.declared.report.ReportAnswer.the-variants as reports
 
 -- an entry with its bytes
 pub data Seen : Type 0 where
@@ -82,3 +85,24 @@ bytesIn givenUp = []
 unfoldable pub joined : List Seen → List ℕ
 joined [] = []
 joined (e ∷ es) = bytesIn e ++ joined es
+
+-- what a loss report does to the list: only k and feedback of lost entries that are due change
+abbrev pub reportedSeen : ℕ → ℕ → Seen → Seen
+reportedSeen time mean (lost k f) = cond (ltb (f + k * mean) time) (lost (min (k + 1) 65535) time) (lost k f)
+reportedSeen time mean (received l m t b) = received l m t b
+reportedSeen time mean givenUp = givenUp
+
+abbrev pub afterReport : ℕ → ℕ → List Seen → ReportAnswer → List Seen
+afterReport time mean es reports.Nothing = es
+afterReport time mean es (reports.Report words) = map (reportedSeen time mean) es
+afterReport time mean es reports.ListShort = es
+
+-- what a drop request does to the list: lost entries in its range, counted from the front, are given up; the first of the list is entry i
+abbrev pub gaveUp : Seen → Seen
+gaveUp (lost k f) = givenUp
+gaveUp (received l m t b) = received l m t b
+gaveUp givenUp = givenUp
+
+unfoldable pub givenIn : ℕ → ℕ → ℕ → List Seen → List Seen
+givenIn from to i [] = []
+givenIn from to i (e ∷ es) = cond (leb from i && ltb i to) (gaveUp e) e ∷ givenIn from to (suc i) es

@@ -2,7 +2,7 @@
 use mathlib.Core.Path.{_≡_, refl, sym, _∙_}
 use mathlib.Core.Bool.{Bool, true, false, cond}
 use mathlib.Core.List.{List}
-use Prim.Native.Nat.{ℕ, zero, suc, _+_, _-_, _*_, _^_, _<_, _≤_}
+use Prim.Native.Nat.{ℕ, zero, suc, _+_, _*_, _^_, _<_, _≤_}
 use native.Mathlib.Numerals.{add-one}
 use native.Mathlib.Omega.{arith}
 use borrow.Author.Tests.{ne-eqb}
@@ -233,7 +233,7 @@ module _ (w : Window) (ws : List ℕ) (time mean : ℕ) where
     abbrev pub outcome : ReportOutcome
     outcome = reportOf w ws time mean list
 
-    by-outcome : (P : ReportOutcome → Type 0) → P (reportEnded answers.Nothing ws list) → P (reportEnded answers.ListShort ws list)
+    pub by-outcome : (P : ReportOutcome → Type 0) → P (reportEnded answers.Nothing ws list) → P (reportEnded answers.ListShort ws list)
         → P (reportEnded (answers.Report (needed w ws time mean)) (slotsTo w ws time mean (w .held)) (listAll w ws time mean list)) → P outcome
     unfolding reportOf
     by-outcome P a b c =
