@@ -1,0 +1,2 @@
+-- The definitions of the ACKs, the round trip and the rates, in the order of 01, "ACKs, RTT, rates".
+pub mod Rtt

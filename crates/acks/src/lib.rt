@@ -1,0 +1,2 @@
+// ACKs, round trip and rates: 01, "ACKs, RTT, rates". history.rs, rtt.rs, and the two windows of arq.rs.
+pub mod rtt;
