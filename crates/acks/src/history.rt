@@ -1,0 +1,109 @@
+// The history of full ACKs, history.rs: 01, "ACKs, RTT, rates". Its numbers are a value, its entries lie in a lent area of 2,048 words.
+ghost use mathlib.Core.Path.{_≡_};
+ghost use Prim.Native.Nat.{_+_, _-_, _*_, _<_, _≤_, _^_};
+ghost use lib.ListN.{length};
+ghost use Rattle.acks.specs.History.{Right, numberAt, departureAt, since, writeAck, freshHistory, isRecent, noneDue, isWorn, firstKept, leaving, nextAck, firstAfter, ackEnded, appendOf, fullAckOf, ack2Of, lightAckOf, clearedOf, historyOk};
+
+// Entry i, under count, has the ACK number first + i and lies at (start + i) mod 1,024. `largest` is largest_ack2_dsn, `lastack` last_ack_dsn.
+pub struct History {
+    pub start: usize,
+    pub count: usize,
+    pub first: u32,
+    pub largest: u32,
+    pub lastack: u32,
+}
+
+pub enum AckAnswer {
+    Nothing,
+    Worn,
+    Ack(u32),
+}
+
+pub struct Acked {
+    pub history: History,
+    pub answer: AckAnswer,
+}
+
+pub enum Ack2Answer {
+    NotHeld,
+    Held { r: u32 },
+}
+
+pub struct Answered {
+    pub history: History,
+    pub answer: Ack2Answer,
+}
+
+pub struct LightAcked {
+    pub history: History,
+    pub light: bool,
+}
+
+// The data number of the entry at p.
+fn number_at(area: &[u64], p: usize) -> u32
+    requires { ⌜ 2 * p + 2 ≤ length (now area) ⌝ }
+    ensures { λ r. ⌜ r ≡ numberAt (now (area .entry)) p ⌝ }
+{
+    let i = 2 * p;
+    (area[i] % 0x8000_0000) as u32
+}
+
+// Its departure, as a call at `time` reads it.
+fn departure_at(area: &[u64], p: usize, time: u64) -> u64
+    requires { ⌜ 2 * p + 2 ≤ length (now area) ⌝ }
+    ensures { λ r. ⌜ r ≡ departureAt (now (area .entry)) p time ⌝ }
+{
+    let i = 2 * p + 1;
+    let departure = area[i] % 0x1000_0000_0000_0000;
+    if departure < time { departure } else { time }
+}
+
+// The interval since a departure that is not after `time`.
+fn since(time: u64, departure: u64) -> u32
+    requires { ⌜ departure ≤ time ⌝ }
+    ensures { λ r. ⌜ r ≡ since time departure ⌝ }
+{
+    let d = time - departure;
+    if d < 0x7fff_ffff {
+        return d as u32;
+    }
+    0x7fff_ffff
+}
+
+// Puts an entry at p; every other word stays.
+fn write_ack(area: &mut [u64], p: usize, number: u32, time: u64)
+    requires { ⌜ 2 * p + 2 ≤ length (now area) ⌝ }
+    ensures { λ _. ⌜ now (area .exit) ≡ writeAck (now (area .entry)) p number time ⌝ }
+{
+    let i = 2 * p;
+    area[i] = number as u64;
+    area[i + 1] = time;
+}
+
+// Whether the newest entry, at p, is too recent for another ACK.
+fn is_recent(area: &[u64], p: usize, time: u64, mean: u32, lrsn: u32) -> bool
+    requires { ⌜ 2 * p + 2 ≤ length (now area) ⌝ }
+    ensures { λ r. ⌜ r ≡ isRecent (now (area .entry)) p time mean lrsn ⌝ }
+{
+    let newest = number_at(area, p);
+    let interval = since(time, departure_at(area, p, time));
+    let before = numbers::seq::is_before(lrsn, newest);
+    before | ((lrsn == newest) & ((interval as u64) < 2 * (mean as u64)))
+}
+
+// Of the entries but the newest, the first that is not expired, else the newest.
+fn first_kept(area: &[u64], start: usize, count: usize, time: u64, wait: u64) -> usize
+    requires { ⌜ (start < 1024) × (count ≤ 1024) × (2048 ≤ length (now area)) × (wait < 2 ^ 34) ⌝ }
+    ensures { λ r. ⌜ r ≡ firstKept (now (area .entry)) start time wait 0 (count - 1) ⌝ }
+{
+    let mut i = 0;
+    while i + 1 < count {
+        let departure = departure_at(area, (start + i) % 1024, time);
+        if departure + wait < time {
+            i += 1;
+        } else {
+            return i;
+        }
+    }
+    i
+}
