@@ -107,3 +107,79 @@ fn first_kept(area: &[u64], start: usize, count: usize, time: u64, wait: u64) ->
     }
     i
 }
+
+// How many entries leave the front before one is appended.
+fn leaving(area: &[u64], start: usize, count: usize, time: u64, wait: u64) -> usize
+    requires { ⌜ (start < 1024) × (count ≤ 1024) × (2048 ≤ length (now area)) × (wait < 2 ^ 34) ⌝ }
+    ensures { λ r. ⌜ r ≡ leaving (now (area .entry)) start count time wait ⌝ }
+{
+    let gone = first_kept(area, start, count, time, wait);
+    if count - gone == 1024 {
+        return gone + 1;
+    }
+    gone
+}
+
+impl History {
+    pub const LIGHT_ACK_PACKET_INTERVAL: u32 = 64;
+
+    pub fn new(number: u32) -> Self
+        ensures { λ r. ⌜ r ≡ freshHistory number ⌝ }
+    {
+        History {
+            start: 0,
+            count: 0,
+            first: 1,
+            largest: number,
+            lastack: number,
+        }
+    }
+
+    fn none_due(self, area: &[u64], time: u64, mean: u32, lrsn: u32) -> bool
+        requires { ⌜ Right self (now area) ⌝ }
+        ensures { λ r. ⌜ r ≡ noneDue self (now (area .entry)) time mean lrsn ⌝ }
+    {
+        if self.largest == lrsn {
+            return true;
+        }
+        if self.count == 0 {
+            return false;
+        }
+        is_recent(
+            area,
+            (self.start + (self.count - 1)) % 1024,
+            time,
+            mean,
+            lrsn,
+        )
+    }
+
+    fn is_worn(self) -> bool
+        requires { ⌜ (1 ≤ self .first) × (self .count ≤ 1024) ⌝ }
+        ensures { λ r. ⌜ r ≡ isWorn self ⌝ }
+    {
+        let newest = (self.first as u64) + (self.count as u64) - 1;
+        (0 < self.count) & (newest == 0xffff_ffff)
+    }
+
+    fn next_number(self) -> u32
+        requires { ⌜ (1 ≤ self .first) × (self .first + self .count < 2 ^ 32) ⌝ }
+        ensures { λ r. ⌜ r ≡ nextAck self ⌝ }
+    {
+        if self.count == 0 {
+            return 1;
+        }
+        self.first + (self.count as u32)
+    }
+
+    // The first ACK number after n have left the front; an empty history begins again at 1.
+    fn first_after(self, n: usize) -> u32
+        requires { ⌜ self .first + n < 2 ^ 32 ⌝ }
+        ensures { λ r. ⌜ r ≡ firstAfter self n ⌝ }
+    {
+        if self.count == 0 {
+            return 1;
+        }
+        self.first + (n as u32)
+    }
+}
