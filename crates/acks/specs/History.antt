@@ -148,8 +148,8 @@ clearedOf h lrsn = record { start = h .start; count = 0; first = h .first; large
 -- history start (0..1,023), count (0..1,024), first ACK number (1 or more; it and the newest at most 4,294,967,295), largest_ack2_dsn, last_ack_dsn
 unfoldable pub historyOk : History → Bool
 historyOk h =
-    leb (h .count) 1024
-    && ltb (h .start) 1024
+    ltb (h .start) 1024
+    && leb (h .count) 1024
     && leb 1 (h .first)
     && leb (newestOf h) 4294967295
     && ltb (h .largest) (2 ^ 31)

@@ -182,4 +182,138 @@ impl History {
         }
         self.first + (n as u32)
     }
+    // Removes what leaves the front, then appends an ACK of lrsn.
+    fn append(self, area: &mut [u64], time: u64, wait: u64, lrsn: u32) -> Acked
+        requires { ⌜ Right self (now area) × (wait < 2 ^ 34) × (self .first + self .count < 2 ^ 32) ⌝ }
+        ensures { λ r. ⌜ ackEnded r (now (area .exit)) ≡ appendOf self (now (area .entry)) time wait lrsn ⌝ }
+    {
+        let number = self.next_number();
+        let n = leaving(area, self.start, self.count, time, wait);
+        let first = self.first_after(n);
+        let start = (self.start + n) % 1024;
+        let left = self.count - n;
+        write_ack(area, (start + left) % 1024, lrsn, time);
+        Acked {
+            history: History {
+                start,
+                count: left + 1,
+                first,
+                largest: self.largest,
+                lastack: lrsn,
+            },
+            answer: AckAnswer::Ack(number),
+        }
+    }
+
+    // A full ACK of lrsn, if one is due; the room is the caller's question. Whether it is due is asked before anything is removed.
+    pub fn next_full_ack(
+        self,
+        area: &mut [u64],
+        time: u64,
+        mean: u32,
+        latency: u32,
+        lrsn: u32,
+    ) -> Acked
+        requires { ⌜ Right self (now area) ⌝ }
+        ensures { λ r. ⌜ ackEnded r (now (area .exit)) ≡ fullAckOf self (now (area .entry)) time mean latency lrsn ⌝ }
+    {
+        let wait = (latency as u64) + 2 * (mean as u64);
+        if self.none_due(area, time, mean, lrsn) {
+            return Acked {
+                history: self,
+                answer: AckAnswer::Nothing,
+            };
+        }
+        if self.is_worn() {
+            return Acked {
+                history: self,
+                answer: AckAnswer::Worn,
+            };
+        }
+        self.append(area, time, wait, lrsn)
+    }
+
+    // The ACK2 of a full ACK: its data number, and the interval since it left.
+    pub fn calculate_ack2(self, area: &[u64], time: u64, number: u32) -> Answered
+        requires { ⌜ Right self (now area) ⌝ }
+        ensures { λ r. ⌜ r ≡ ack2Of self (now (area .entry)) time number ⌝ }
+    {
+        if number < self.first {
+            return Answered {
+                history: self,
+                answer: Ack2Answer::NotHeld,
+            };
+        }
+        let i = (number - self.first) as usize;
+        if self.count <= i {
+            return Answered {
+                history: self,
+                answer: Ack2Answer::NotHeld,
+            };
+        }
+        let p = (self.start + i) % 1024;
+        let departure = departure_at(area, p, time);
+        let r = since(time, departure);
+        let largest = number_at(area, p);
+        Answered {
+            history: History {
+                start: self.start,
+                count: self.count,
+                first: self.first,
+                largest,
+                lastack: self.lastack,
+            },
+            answer: Ack2Answer::Held { r },
+        }
+    }
+
+    // A light ACK of lrsn, if it is far enough past the last ACK.
+    pub fn next_light_ack(self, lrsn: u32) -> LightAcked
+        ensures { λ r. ⌜ r ≡ lightAckOf self lrsn ⌝ }
+    {
+        let at = numbers::seq::sum(self.lastack, History::LIGHT_ACK_PACKET_INTERVAL);
+        if numbers::seq::is_before(lrsn, at) {
+            return LightAcked {
+                history: self,
+                light: false,
+            };
+        }
+        LightAcked {
+            history: History {
+                start: self.start,
+                count: self.count,
+                first: self.first,
+                largest: self.largest,
+                lastack: lrsn,
+            },
+            light: true,
+        }
+    }
+
+    pub fn clear(self, lrsn: u32) -> Self
+        ensures { λ r. ⌜ r ≡ clearedOf self lrsn ⌝ }
+    {
+        History {
+            start: self.start,
+            count: 0,
+            first: self.first,
+            largest: lrsn,
+            lastack: self.lastack,
+        }
+    }
+
+    // The count is tested first, so that the newest number can be summed.
+    pub fn in_range(self) -> bool
+        ensures { λ r. ⌜ r ≡ historyOk self ⌝ }
+    {
+        if 1024 < self.count {
+            return false;
+        }
+        let newest = (self.first as u64) + (self.count as u64);
+        (self.start < 1024)
+            & (1 <= self.first)
+            & (newest <= 0x1_0000_0000)
+            & (self.largest < 0x8000_0000)
+            & (self.lastack < 0x8000_0000)
+    }
 }
