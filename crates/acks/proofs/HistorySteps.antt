@@ -84,6 +84,13 @@ module _ (a : List ℕ) (start count now wait : ℕ) where
       let l : g ≤ 0 + (count - 1) = kept-le a start now wait (count - 1) 0 in
       by-test (λ (x : ℕ). x ≤ count - 1) (eqb (count - g) 1024) _ _ (λ t. omega (arith, eqb-true (count - g) 1024 t)) (λ t. omega arith)
 
+  -- and there is room for one more
+  pub leaving-room : count ≤ 1024 → count - leaving a start count now wait + 1 ≤ 1024
+  unfolding leaving
+  leaving-room h =
+      let g = firstKept a start now wait 0 (count - 1) in
+      by-test (λ (x : ℕ). count - x + 1 ≤ 1024) (eqb (count - g) 1024) _ _ (λ t. omega (arith, eqb-true (count - g) 1024 t)) (λ t. omega (arith, eqb-false (count - g) 1024 t))
+
   module _ {n : ℕ} (e : n ≡ leaving a start count now wait) (h : count ≤ 1024) where
     pub leaving-held : n ≤ count
     leaving-held = omega (arith, leaving-le h)
