@@ -22,3 +22,28 @@ fn below(values: [u32; 16], b: u64) -> usize
     }
     n
 }
+
+// Whether v stands at index k of the sorted values.
+fn has_index(values: [u32; 16], k: usize, v: u32) -> bool
+    ensures { λ r. ⌜ r ≡ hasIndex values k v ⌝ }
+{
+    let less = below(values, v as u64);
+    let most = below(values, (v as u64) + 1);
+    (less <= k) & (k < most)
+}
+
+// The value at index k of the sorted values. One of them has it, so the last needs no test.
+pub fn median(values: [u32; 16], k: usize) -> u32
+    requires { ⌜ k < 16 ⌝ }
+    ensures { λ r. ⌜ r ≡ medianOf values k ⌝ }
+{
+    let mut i = 0;
+    while i < 15 {
+        let v = values[i];
+        if has_index(values, k, v) {
+            return v;
+        }
+        i += 1;
+    }
+    values[i]
+}
