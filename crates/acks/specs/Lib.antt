@@ -2,3 +2,4 @@
 pub mod History
 pub mod Rtt
 pub mod Median
+pub mod Rates
