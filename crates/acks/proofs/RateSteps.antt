@@ -9,14 +9,19 @@ use borrow.Author.Needs.{needs}
 use borrow.Author.Tests.{eq-eqb, ne-eqb, lt-ltb, le-ltb, le-leb, lt-leb}
 use lib.Dec.{T, eqb, ltb, leb}
 use lib.IntN.{ℤ, pos, natAbs, _-ℤ_}
+use lib.ListN.{getD, set, replicate}
 use lib.Signed.{ltZ, nonNeg}
 use mir.Syntax.{w32}
 use mir.Val.{Fits}
 use Rattle.numbers.specs.Whole.{clamp, intervalOf}
+use Rattle.numbers.specs.declared.instant.Moment.{Moment}
+use Rattle.numbers.specs.declared.instant.Moment.the-variants.{Unset, At}
 use Rattle.numbers.proofs.Flags.{by-order}
 use Rattle.numbers.proofs.Halves.{above, below, same, size, not-negative, above--, below--, lt-false}
 use Rattle.numbers.proofs.Signs.{clamp-in, clamp-high}
-use Rattle.acks.specs.Rates.{sinceTime}
+use Rattle.acks.specs.Rates.{sinceTime, nextPlace, oneMore, freshArrivals, freshLinks, arrivedFirst, arrivalOf, withProbe, pairOf, linkOf}
+use Rattle.acks.specs.declared.rates.Arrivals.{Arrivals}
+use Rattle.acks.specs.declared.rates.Links.{Links}
 
 -- since
 clamp-above : (z : ℤ) → below z ≡ 0 → (below (clamp z) ≡ 0) × (natAbs (clamp z) < 2 ^ 31)
@@ -50,4 +55,65 @@ module _ (now t : ℤ) {n u n₁ u₁ r r₁ : ℤ} (e : ltZ n u ≡ false) (p :
   pub since-fits : Fits w32 (natAbs r₁)
   since-fits = rw (g, f, p₁, q₁) (record { fits = omega (arith, interval-above t now (rw (p, q) at e) .1) })
 
-pub ruleset rates = (since-later, since-on, since-sign, since-fits, needs)
+-- the constructors
+pub fresh-arrivals : _≡_ {A = Arrivals} (record { gaps = replicate 16 0; sizes = replicate 16 0; at = 0; count = 0; last = Unset }) freshArrivals
+unfolding freshArrivals
+fresh-arrivals = refl
+
+pub fresh-links : _≡_ {A = Links} (record { gaps = replicate 16 0; at = 0; count = 0; probe = Unset }) freshLinks
+unfolding freshLinks
+fresh-links = refl
+
+-- record of Arrivals
+module _ (a : Arrivals) (now : ℤ) (size : ℕ) where
+  pub arrives-first : {m : Moment} {n : ℤ} → m ≡ a .last → m ≡ Unset → n ≡ now → arrivedFirst a n ≡ arrivalOf a now size
+  unfolding arrivalOf
+  arrives-first e f p = rw (← e, f, p)
+
+  pub arrives : {m : Moment} {t t₁ n n₁ : ℤ} {g count : ℕ}
+      → m ≡ a .last → m ≡ At t → g ≡ sinceTime n t₁ → n ≡ now → t₁ ≡ t → n₁ ≡ now → count ≡ oneMore (a .count)
+      → _≡_ {A = Arrivals} (record { gaps = set (a .gaps) (a .at) g; sizes = set (a .sizes) (a .at) size; at = nextPlace (a .at); count = count; last = At n₁ }) (arrivalOf a now size)
+  unfolding arrivalOf
+  arrives e f g p q p₁ c = rw (← e, f, g, p, q, p₁, c)
+
+-- pair and record of Links
+module _ (l : Links) (now : ℤ) where
+  pub pairs-none : {m : Moment} → m ≡ l .probe → m ≡ Unset → withProbe l Unset ≡ pairOf l now
+  unfolding pairOf
+  pairs-none e f = rw (← e, f)
+
+  pub pairs : {m : Moment} {t t₁ n : ℤ} {g count : ℕ}
+      → m ≡ l .probe → m ≡ At t → g ≡ sinceTime n t₁ → n ≡ now → t₁ ≡ t → count ≡ oneMore (l .count)
+      → _≡_ {A = Links} (record { gaps = set (l .gaps) (l .at) g; at = nextPlace (l .at); count = count; probe = Unset }) (pairOf l now)
+  unfolding pairOf
+  pairs e f g p q c = rw (← e, f, g, p, q, c)
+
+  module _ (number : ℕ) where
+    pub probes : {n : ℤ} → number % 16 ≡ 0 → n ≡ now → withProbe l (At n) ≡ linkOf l now number
+    unfolding linkOf
+    probes h p = rw (eq-eqb _ _ h, p)
+
+    pub links : {n : ℤ} {r : Links} → (number % 16 ≡ 0 → ⊥) → number % 16 ≡ 1 → r ≡ pairOf l n → n ≡ now → r ≡ linkOf l now number
+    unfolding linkOf
+    links h k e p = rw (ne-eqb _ _ h, eq-eqb _ _ k, e, p)
+
+    pub no-link : (number % 16 ≡ 0 → ⊥) → (number % 16 ≡ 1 → ⊥) → l ≡ linkOf l now number
+    unfolding linkOf
+    no-link h k = rw (ne-eqb _ _ h, ne-eqb _ _ k)
+
+pub ruleset rates = (
+  since-later,
+  since-on,
+  since-sign,
+  since-fits,
+  fresh-arrivals,
+  fresh-links,
+  arrives-first,
+  arrives,
+  pairs-none,
+  pairs,
+  probes,
+  links,
+  no-link,
+  needs,
+)

@@ -99,9 +99,11 @@ abbrev pub pairedSince : Moment → Links → ℤ → Links
 pairedSince Unset l now = withProbe l Unset
 pairedSince (At t) l now = paired l (sinceTime now t)
 
+unfoldable pub pairOf : Links → ℤ → Links
+pairOf l now = pairedSince (l .probe) l now
+
 unfoldable pub linkOf : Links → ℤ → ℕ → Links
-linkOf l now number =
-    cond (eqb (number % 16) 0) (withProbe l (At now)) (cond (eqb (number % 16) 1) (pairedSince (l .probe) l now) l)
+linkOf l now number = cond (eqb (number % 16) 0) (withProbe l (At now)) (cond (eqb (number % 16) 1) (pairOf l now) l)
 
 -- newest 16 likewise, median index 7, 1,000,000 / median truncated; 0 gives 4,294,967,295
 unfoldable pub linkRate : ℕ → ℕ

@@ -2,7 +2,7 @@
 ghost use mathlib.Core.Path.{_≡_};
 ghost use mathlib.Core.Bool.{true};
 ghost use Prim.Native.Nat.{_+_, _*_, _<_, _≤_, _^_};
-ghost use Rattle.acks.specs.Rates.{sinceTime, oneMore, windowOf, freshArrivals, freshLinks, arrivalOf, keeps, takeIn, keptOf, rateOf, speedOf, linkOf, linkRate, capacityOf, allUnder, timeOk, arrivalsOk, linksOk};
+ghost use Rattle.acks.specs.Rates.{sinceTime, oneMore, windowOf, freshArrivals, freshLinks, arrivalOf, keeps, takeIn, keptOf, rateOf, speedOf, pairOf, linkOf, linkRate, capacityOf, allUnder, timeOk, arrivalsOk, linksOk};
 use numbers::instant::Moment;
 
 // Intervals between arrivals, with the sizes of what came; `at` is the next place to be written, `last` the last arrival.
@@ -60,4 +60,106 @@ fn keeps(ai: u32, i: u32) -> bool
     ensures { λ r. ⌜ r ≡ keeps ai i ⌝ }
 {
     (i / 8 < ai) & (ai / 8 < i)
+}
+
+impl Arrivals {
+    pub fn new() -> Self
+        ensures { λ r. ⌜ r ≡ freshArrivals ⌝ }
+    {
+        Arrivals {
+            gaps: [0; 16],
+            sizes: [0; 16],
+            at: 0,
+            count: 0,
+            last: Moment::Unset,
+        }
+    }
+
+    // An arrival: the interval since the last one enters, if there was one.
+    pub fn record(self, now: i64, size: u32) -> Self
+        requires { ⌜ (self .at < 16) × (self .count ≤ 16) ⌝ }
+        ensures { λ r. ⌜ r ≡ arrivalOf self now size ⌝ }
+    {
+        let last = self.last;
+        let mut gaps = self.gaps;
+        let mut sizes = self.sizes;
+        let Moment::At(t) = last else {
+            return Arrivals {
+                gaps,
+                sizes,
+                at: self.at,
+                count: self.count,
+                last: Moment::At(now),
+            };
+        };
+        let at = self.at;
+        gaps[at] = since(now, t);
+        sizes[at] = size;
+        Arrivals {
+            gaps,
+            sizes,
+            at: (at + 1) % 16,
+            count: one_more(self.count),
+            last: Moment::At(now),
+        }
+    }
+}
+
+impl Links {
+    pub fn new() -> Self
+        ensures { λ r. ⌜ r ≡ freshLinks ⌝ }
+    {
+        Links {
+            gaps: [0; 16],
+            at: 0,
+            count: 0,
+            probe: Moment::Unset,
+        }
+    }
+
+    // The second packet of a pair: the interval since the first enters, if there was one.
+    fn pair(self, now: i64) -> Self
+        requires { ⌜ (self .at < 16) × (self .count ≤ 16) ⌝ }
+        ensures { λ r. ⌜ r ≡ pairOf self now ⌝ }
+    {
+        let probe = self.probe;
+        let mut gaps = self.gaps;
+        let Moment::At(t) = probe else {
+            return Links {
+                gaps,
+                at: self.at,
+                count: self.count,
+                probe: Moment::Unset,
+            };
+        };
+        let at = self.at;
+        gaps[at] = since(now, t);
+        Links {
+            gaps,
+            at: (at + 1) % 16,
+            count: one_more(self.count),
+            probe: Moment::Unset,
+        }
+    }
+
+    // An append of this number: the first of a pair, the second, or neither.
+    pub fn record(self, now: i64, number: u32) -> Self
+        requires { ⌜ (self .at < 16) × (self .count ≤ 16) ⌝ }
+        ensures { λ r. ⌜ r ≡ linkOf self now number ⌝ }
+    {
+        let place = number % 16;
+        if place == 0 {
+            let gaps = self.gaps;
+            return Links {
+                gaps,
+                at: self.at,
+                count: self.count,
+                probe: Moment::At(now),
+            };
+        }
+        if place == 1 {
+            return self.pair(now);
+        }
+        self
+    }
 }
