@@ -1,0 +1,9 @@
+-- The laws of the ACKs, the round trip and the rates. The crates above cite the `Kept` files; the `Steps` files are for the code of this crate.
+pub mod HistorySteps
+pub mod HistoryKept
+pub mod Sorted
+pub mod MedianSteps
+pub mod RateSteps
+pub mod RttSteps
+pub mod RttKept
+pub mod Examples
