@@ -1,0 +1,2 @@
+-- The laws of the head and of the refusals.
+pub mod Gates
