@@ -1,0 +1,14 @@
+use Rattle.head.proofs.Gates.{chains}
+use Rattle.head.proofs.gate.refuse_history.Statement.{statement}
+use Rattle.head.proofs.gate.refuse_history.Tie as tie
+
+pub refuse-history-spec : {M : Type 1} → statement M
+refuse-history-spec =
+    tie.close
+    (tie.spec
+    (λ c κs. search chains depth 40 fits 20000)
+    (λ c κs. search chains depth 40 fits 20000)
+    (λ c κs. search chains depth 40 fits 20000)
+    (λ c κs. search chains depth 40 fits 20000)
+    (λ c κs. search chains depth 40 fits 20000)
+    (λ c. search chains depth 40 fits 20000))

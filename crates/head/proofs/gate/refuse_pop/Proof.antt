@@ -1,0 +1,17 @@
+use Rattle.head.proofs.Gates.{chains}
+use Rattle.head.proofs.gate.refuse_pop.Statement.{statement}
+use Rattle.head.proofs.gate.refuse_pop.Tie as tie
+
+pub refuse-pop-spec : {M : Type 1} → statement M
+refuse-pop-spec =
+    tie.close
+    (tie.spec
+    (λ c κs. search chains depth 40 fits 20000)
+    (λ c κs. search chains depth 40 fits 20000)
+    (λ c κs. search chains depth 40 fits 20000)
+    (λ c κs. search chains depth 40 fits 20000)
+    (λ c κs. search chains depth 40 fits 20000)
+    (λ c κs. search chains depth 40 fits 20000)
+    (λ c κs. search chains depth 40 fits 20000)
+    (λ c κs. search chains depth 40 fits 20000)
+    (λ c. search chains depth 40 fits 20000))

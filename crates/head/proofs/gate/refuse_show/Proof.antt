@@ -1,0 +1,15 @@
+use Rattle.head.proofs.Gates.{chains}
+use Rattle.head.proofs.gate.refuse_show.Statement.{statement}
+use Rattle.head.proofs.gate.refuse_show.Tie as tie
+
+pub refuse-show-spec : {M : Type 1} → statement M
+refuse-show-spec =
+    tie.close
+    (tie.spec
+    (λ c κs. search chains depth 40 fits 20000)
+    (λ c κs. search chains depth 40 fits 20000)
+    (λ c κs. search chains depth 40 fits 20000)
+    (λ c κs. search chains depth 40 fits 20000)
+    (λ c κs. search chains depth 40 fits 20000)
+    (λ c κs. search chains depth 40 fits 20000)
+    (λ c. search chains depth 40 fits 20000))
