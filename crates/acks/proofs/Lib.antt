@@ -3,6 +3,7 @@ pub mod HistorySteps
 pub mod HistoryKept
 pub mod Sorted
 pub mod MedianSteps
+pub mod Windows
 pub mod RateSteps
 pub mod RttSteps
 pub mod RttKept

@@ -1,4 +1,4 @@
-use Rattle.acks.proofs.RateSteps.{rates}
+use Rattle.acks.proofs.RateSteps.{rateSteps}
 use Rattle.acks.proofs.rates.Arrivals.new.Statement.{statement}
 use Rattle.acks.proofs.rates.Arrivals.new.Tie as tie
 
@@ -6,4 +6,4 @@ pub new-spec : {M : Type 1} → statement M
 new-spec =
     tie.close
     (tie.spec
-    (λ c. search rates))
+    (λ c. search rateSteps))

@@ -1,4 +1,4 @@
-use Rattle.acks.proofs.RateSteps.{rates}
+use Rattle.acks.proofs.RateSteps.{rateSteps}
 use Rattle.acks.proofs.rates.Links.pair.Statement.{statement}
 use Rattle.acks.proofs.rates.Links.pair.Tie as tie
 
@@ -6,12 +6,12 @@ pub pair-spec : {M : Type 1} → statement M
 pair-spec =
     tie.close
     (tie.spec
-    (λ c. search rates)
-    (λ c. search rates)
-    (λ c. search rates)
-    (λ c κs. search rates)
-    (λ c. search rates)
-    (λ c. search rates)
-    (λ c. search rates)
-    (λ c κs. search rates)
-    (λ c. search rates))
+    (λ c. search rateSteps)
+    (λ c. search rateSteps)
+    (λ c. search rateSteps)
+    (λ c κs. search rateSteps)
+    (λ c. search rateSteps)
+    (λ c. search rateSteps)
+    (λ c. search rateSteps)
+    (λ c κs. search rateSteps)
+    (λ c. search rateSteps))
