@@ -12,7 +12,7 @@ use lib.IntN.{ℤ}
 use lib.Signed.{ltZ}
 use Rattle.numbers.specs.Whole.{isReading}
 use Rattle.numbers.proofs.Flags.{by-order}
-use Rattle.head.specs.Rules.{Rule, thenOf, firstFrom, firstRefusal}
+use Rattle.head.specs.Rules.{Rule, thenOf, firstFrom, firstRefusal, judged}
 
 -- then
 pub found : {k n : ℕ} {bad : Bool} → k ≡ 0 → bad ≡ true → n ≡ thenOf k bad n
@@ -39,6 +39,13 @@ reading-by e p = rw (e, p)
 
 pub less-by : {a a₁ b b₁ : ℤ} → a₁ ≡ a → b₁ ≡ b → ltZ a₁ b₁ ≡ ltZ a b
 less-by p q = rw (p, q)
+
+-- a call by its refusal; n is the number that the code has, m the definition's
+pub taken : {A : Type 0} {n m : ℕ} (a : A) (f : ℕ → A) → n ≡ m → n ≡ 0 → judged m a f ≡ a
+taken a f e h = rw (← e, eq-eqb _ _ h)
+
+pub refused : {A : Type 0} {n m : ℕ} (a : A) (f : ℕ → A) → n ≡ m → (n ≡ 0 → ⊥) → judged m a f ≡ f n
+refused a f e h = rw (← e, ne-eqb _ _ h)
 
 -- an area is short by its quotient exactly if it is short
 short-by : (each len capacity : ℕ) → 0 < each → ltb (len / each) capacity ≡ ltb len (each * capacity)

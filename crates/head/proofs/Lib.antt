@@ -1,2 +1,3 @@
 -- The laws of the head and of the refusals.
 pub mod Gates
+pub mod Heads

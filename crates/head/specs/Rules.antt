@@ -27,6 +27,10 @@ firstFrom k (r ∷ rs) = firstFrom (thenOf k (r .bad) (r .number)) rs
 abbrev pub firstRefusal : List Rule → ℕ
 firstRefusal rs = firstFrom 0 rs
 
+-- a call by its refusal: what it does if nothing refuses, else the refusal
+abbrev pub judged : {A : Type 0} → ℕ → A → (ℕ → A) → A
+judged n taken refused = cond (eqb n 0) taken (refused n)
+
 -- 1 HeadBad: a head number is outside its range
 abbrev pub headRule : Bool → Rule
 headRule ok = rule (not ok) 1
@@ -92,3 +96,13 @@ clockRules ok now latest = headRule ok ∷ readingRule now ∷ backRule now late
 
 abbrev pub headRules : Bool → List Rule
 headRules ok = headRule ok ∷ []
+
+-- 15 BadSetting, the only test in making: a setting, start or first number is out of range
+abbrev pub makeRules : ℤ → ℕ → ℕ → ℕ → List Rule
+makeRules start latency first capacity =
+    rule (not (isReading start)) 15
+    ∷ rule (ltb 65535000 latency) 15
+    ∷ rule (leb (2 ^ 31) first) 15
+    ∷ rule (ltb capacity 1) 15
+    ∷ rule (ltb 8192 capacity) 15
+    ∷ []

@@ -1,1 +1,110 @@
-// The head.
+// The head of a receiver: 01, "Head and lent areas". It goes into a call by value and comes out of it.
+ghost use mathlib.Core.Path.{_≡_};
+ghost use Rattle.head.specs.Head.{windowOk, freshHead, headOk, madeOf};
+ghost use Rattle.head.specs.Rules.{firstRefusal, makeRules};
+use acks::history::History;
+use acks::rates::Arrivals;
+use acks::rates::Links;
+use acks::rtt::Rtt;
+use clock::time::SynchronizedRemoteClock;
+use window::Window;
+
+pub struct Head {
+    pub window: Window,
+    pub latency: u32,
+    pub dropping: bool,
+    pub clock: SynchronizedRemoteClock,
+    pub rtt: Rtt,
+    pub arrivals: Arrivals,
+    pub links: Links,
+    pub history: History,
+    pub latest: i64,
+}
+
+// A fresh head, or refusal 15 beside a head that is of no use.
+pub struct Made {
+    pub refusal: u32,
+    pub head: Head,
+}
+
+fn window_in_range(w: Window) -> bool
+    ensures { λ r. ⌜ r ≡ windowOk w ⌝ }
+{
+    (1 <= w.capacity)
+        & (w.capacity <= 8192)
+        & (w.start < w.capacity)
+        & (w.held <= w.capacity)
+        & (w.seqno0 < 0x8000_0000)
+        & (w.lrsn < 0x8000_0000)
+}
+
+fn refuse_make(start: i64, latency: u32, first: u32, capacity: usize) -> u32
+    ensures { λ r. ⌜ r ≡ firstRefusal (makeRules start latency first capacity) ⌝ }
+{
+    let a = crate::gate::then(0, !numbers::instant::is_reading(start), 15);
+    let b = crate::gate::then(a, 65535000 < latency, 15);
+    let c = crate::gate::then(b, 0x8000_0000 <= first, 15);
+    let d = crate::gate::then(c, capacity < 1, 15);
+    crate::gate::then(d, 8192 < capacity, 15)
+}
+
+impl Head {
+    fn fresh(start: i64, latency: u32, dropping: bool, first: u32, capacity: usize) -> Self
+        ensures { λ r. ⌜ r ≡ freshHead start latency dropping first capacity ⌝ }
+    {
+        Head {
+            window: Window {
+                capacity,
+                start: 0,
+                held: 0,
+                seqno0: first,
+                lrsn: first,
+            },
+            latency,
+            dropping,
+            clock: SynchronizedRemoteClock::new(start),
+            rtt: Rtt::new(),
+            arrivals: Arrivals::new(),
+            links: Links::new(),
+            history: History::new(first),
+            latest: start,
+        }
+    }
+
+    // The only test in making is of its settings; the areas are lent to each call.
+    pub fn new(start: i64, latency: u32, dropping: bool, first: u32, capacity: usize) -> Made
+        ensures { λ r. ⌜ r ≡ madeOf start latency dropping first capacity ⌝ }
+    {
+        let refusal = refuse_make(start, latency, first, capacity);
+        if refusal == 0 {
+            return Made {
+                refusal: 0,
+                head: Head::fresh(start, latency, dropping, first, capacity),
+            };
+        }
+        Made {
+            refusal,
+            head: Head::fresh(0, 0, false, 0, 1),
+        }
+    }
+
+    // Refusal 1, by parts.
+    pub fn in_range(self) -> bool
+        ensures { λ r. ⌜ r ≡ headOk self ⌝ }
+    {
+        let window = self.window;
+        let clock = self.clock;
+        let rtt = self.rtt;
+        let arrivals = self.arrivals;
+        let links = self.links;
+        let history = self.history;
+        window_in_range(window)
+            & (self.latency <= 65535000)
+            & clock.in_range()
+            & rtt.in_range()
+            & arrivals.in_range()
+            & links.in_range()
+            & history.in_range()
+            & numbers::instant::is_reading(self.latest)
+    }
+}
