@@ -1,0 +1,157 @@
+-- What a head in range, and a call that nothing refused, have shown: the facts that the layers below ask for. Assumes nothing.
+use mathlib.Core.Path.{_≡_, refl, sym, _∙_, ap}
+use mathlib.Core.Bool.{Bool, true, false, not, _&&_}
+use mathlib.Core.List.{List}
+use Prim.Native.Nat.{ℕ, _+_, _-_, _*_, _^_, _<_, _≤_}
+use native.Mathlib.Omega.{arith}
+use borrow.Author.Tests.{leb-true, leb-false, ltb-true, ltb-false, not-false}
+use lib.Dec.{leb, ltb, lit<}
+use lib.IntN.{ℤ, natAbs}
+use lib.ListN.{length}
+use lib.Signed.{ltZ}
+use Rattle.numbers.specs.Whole.{isReading}
+use Rattle.numbers.proofs.Flags.{and-left, and-right}
+use Rattle.numbers.proofs.Signs.{reading-size}
+use Rattle.clock.specs.Sync.{Ready}
+use Rattle.clock.specs.Ranges.{clockOk}
+use Rattle.clock.proofs.Ranges.{ready, ranges, reference-size}
+use Rattle.acks.specs.Rtt.{rttOk}
+use Rattle.acks.specs.Rates.{arrivalsOk, linksOk}
+use Rattle.acks.specs.History.{historyOk, newestOf, Right}
+use Rattle.window.specs.Window.{Good, Bytes}
+use Rattle.window.specs.Push as push
+use Rattle.window.specs.declared.Window.{Window}
+use Rattle.window.specs.declared.push.Packet.{Packet}
+use Rattle.window_pop.specs.Pop.{PopReady}
+use Rattle.head.specs.Rules.{Rule, firstRefusal, pushRules, popRules, timedRules, dropRules, showRules, clockRules, headRules}
+use Rattle.head.specs.Head.{windowOk, headOk}
+use Rattle.head.specs.declared.state.Head.{Head}
+use Rattle.head.proofs.Gates.{Clear, clear}
+
+-- the parts of a head in range
+pub record InRange (h : Head) : Type 0 where
+  pub window : windowOk (h .window) ≡ true
+  pub latency : h .latency ≤ 65535000
+  pub clock : clockOk (h .clock) ≡ true
+  pub rtt : rttOk (h .rtt) ≡ true
+  pub arrivals : arrivalsOk (h .arrivals) ≡ true
+  pub links : linksOk (h .links) ≡ true
+  pub history : historyOk (h .history) ≡ true
+  pub latest : isReading (h .latest) ≡ true
+
+pub in-parts : (h : Head) → headOk h ≡ true → InRange h
+unfolding headOk
+in-parts h e =
+    let a = windowOk (h .window) in
+    let b = leb (h .latency) 65535000 in
+    let c = clockOk (h .clock) in
+    let d = rttOk (h .rtt) in
+    let f = arrivalsOk (h .arrivals) in
+    let g = linksOk (h .links) in
+    let i = historyOk (h .history) in
+    let e7 = and-left (a && b && c && d && f && g && i) _ e in
+    let e6 = and-left (a && b && c && d && f && g) _ e7 in
+    let e5 = and-left (a && b && c && d && f) _ e6 in
+    let e4 = and-left (a && b && c && d) _ e5 in
+    let e3 = and-left (a && b && c) _ e4 in
+    let e2 = and-left (a && b) _ e3 in
+    record {
+      window = and-left a _ e2;
+      latency = leb-true (h .latency) 65535000 (and-right a _ e2);
+      clock = and-right (a && b) _ e3;
+      rtt = and-right (a && b && c) _ e4;
+      arrivals = and-right (a && b && c && d) _ e5;
+      links = and-right (a && b && c && d && f) _ e6;
+      history = and-right (a && b && c && d && f && g) _ e7;
+      latest = and-right (a && b && c && d && f && g && i) _ e;
+    }
+
+pub good : (w : Window) (ws : List ℕ) → windowOk w ≡ true → 3 * w .capacity ≤ length ws → Good w ws
+good w ws e h =
+    let a = leb 1 (w .capacity) in
+    let b = leb (w .capacity) 8192 in
+    let c = ltb (w .start) (w .capacity) in
+    let d = leb (w .held) (w .capacity) in
+    let f = ltb (w .seqno0) (2 ^ 31) in
+    let e5 = and-left (a && b && c && d && f) _ e in
+    let e4 = and-left (a && b && c && d) _ e5 in
+    let e3 = and-left (a && b && c) _ e4 in
+    let e2 = and-left (a && b) _ e3 in
+    record {
+      some = leb-true 1 (w .capacity) (and-left a _ e2);
+      most = leb-true (w .capacity) 8192 (and-right a _ e2);
+      starts = ltb-true (w .start) (w .capacity) (and-right (a && b) _ e3);
+      holds = leb-true (w .held) (w .capacity) (and-right (a && b && c) _ e4);
+      first = ltb-true (w .seqno0) (2 ^ 31) (and-right (a && b && c && d) _ e5);
+      next = ltb-true (w .lrsn) (2 ^ 31) (and-right (a && b && c && d && f) _ e);
+      words = h;
+    }
+
+module _ (h : Head) (now : ℤ) where
+  -- what every call with a reading has
+  pub record Timed : Type 0 where
+    pub head : InRange h
+    pub reading : isReading now ≡ true
+    pub later : ltZ now (h .latest) ≡ false
+
+  pub clock-ready : firstRefusal (clockRules (headOk h) now (h .latest)) ≡ 0 → Timed
+  clock-ready e =
+      let c = clear (clockRules (headOk h) now (h .latest)) (lit< tt, (lit< tt, (lit< tt, tt))) e in
+      record { head = in-parts h (not-false (headOk h) (c .0)); reading = not-false (isReading now) (c .1 .0); later = c .1 .1 .0 }
+
+  pub timed-ready : (len need : ℕ) → firstRefusal (timedRules (headOk h) len need now (h .latest)) ≡ 0 → Timed × (need ≤ len)
+  timed-ready len need e =
+      let c = clear (timedRules (headOk h) len need now (h .latest)) (lit< tt, (lit< tt, (lit< tt, (lit< tt, tt)))) e in
+      (record { head = in-parts h (not-false (headOk h) (c .0)); reading = not-false (isReading now) (c .1 .1 .0); later = c .1 .1 .1 .0 }, ltb-false len need (c .1 .0))
+
+  pub pop-ready : (ws bs : List ℕ) → firstRefusal (popRules (headOk h) (h .window .capacity) (length ws) (length bs) now (h .latest)) ≡ 0 → PopReady (h .clock) (h .latency) (h .window) ws bs now
+  pop-ready ws bs e =
+      let c = clear (popRules (headOk h) (h .window .capacity) (length ws) (length bs) now (h .latest)) (lit< tt, (lit< tt, (lit< tt, (lit< tt, (lit< tt, tt))))) e in
+      let r = in-parts h (not-false (headOk h) (c .0)) in
+      let k = ready (h .clock) now (r .clock) (not-false (isReading now) (c .1 .1 .1 .0)) in
+      record {
+        good = good (h .window) ws (r .window) (ltb-false (length ws) (3 * h .window .capacity) (c .1 .0));
+        payloads = ltb-false (length bs) (1456 * h .window .capacity) (c .1 .1 .0);
+        reference = k .reference;
+        reading = k .reading;
+        setting = r .latency;
+      }
+
+-- a push that nothing refused
+pub record PushReady (h : Head) (ws bs : List ℕ) (now : ℤ) (p : Packet) (payload : List ℕ) : Type 0 where
+  pub head : InRange h
+  pub reading : isReading now ≡ true
+  pub good : Good (h .window) ws
+  pub payloads : Bytes (h .window) bs
+  pub right : push.Right p payload
+
+pub push-ready : (h : Head) (ws bs : List ℕ) (now : ℤ) (p : Packet) (payload : List ℕ)
+    → firstRefusal (pushRules (headOk h) (h .window .capacity) (length ws) (length bs) now (h .latest) p (length payload)) ≡ 0 → PushReady h ws bs now p payload
+push-ready h ws bs now p payload e =
+    let c = clear (pushRules (headOk h) (h .window .capacity) (length ws) (length bs) now (h .latest) p (length payload)) (lit< tt, (lit< tt, (lit< tt, (lit< tt, (lit< tt, (lit< tt, (lit< tt, (lit< tt, (lit< tt, tt))))))))) e in
+    let r = in-parts h (not-false (headOk h) (c .0)) in
+    record {
+      head = r;
+      reading = not-false (isReading now) (c .1 .1 .1 .0);
+      good = good (h .window) ws (r .window) (ltb-false (length ws) (3 * h .window .capacity) (c .1 .0));
+      payloads = ltb-false (length bs) (1456 * h .window .capacity) (c .1 .1 .0);
+      right = record {
+        number = leb-false (2 ^ 31) (p .number) (c .1 .1 .1 .1 .1 .0);
+        message = leb-false (2 ^ 26) (p .message) (c .1 .1 .1 .1 .1 .1 .0);
+        location = leb-false 4 (p .location) (c .1 .1 .1 .1 .1 .1 .1 .0);
+        bytes = ltb-false 1456 (length payload) (c .1 .1 .1 .1 .1 .1 .1 .1 .0);
+      };
+    }
+
+-- a drop request and a show that nothing refused
+pub drop-ready : (h : Head) (ws : List ℕ) (first last : ℕ) → firstRefusal (dropRules (headOk h) (h .window .capacity) (length ws) first last) ≡ 0 → Good (h .window) ws
+drop-ready h ws first last e =
+    let c = clear (dropRules (headOk h) (h .window .capacity) (length ws) first last) (lit< tt, (lit< tt, (lit< tt, (lit< tt, tt)))) e in
+    let r = in-parts h (not-false (headOk h) (c .0)) in
+    good (h .window) ws (r .window) (ltb-false (length ws) (3 * h .window .capacity) (c .1 .0))
+
+pub show-ready : (h : Head) (ws : List ℕ) (bytes number : ℕ) → firstRefusal (showRules (headOk h) (h .window .capacity) (length ws) bytes number) ≡ 0 → Good (h .window) ws × (1456 * h .window .capacity ≤ bytes)
+show-ready h ws bytes number e =
+    let c = clear (showRules (headOk h) (h .window .capacity) (length ws) bytes number) (lit< tt, (lit< tt, (lit< tt, (lit< tt, tt)))) e in
+    let r = in-parts h (not-false (headOk h) (c .0)) in
+    (good (h .window) ws (r .window) (ltb-false (length ws) (3 * h .window .capacity) (c .1 .0)), ltb-false bytes (1456 * h .window .capacity) (c .1 .1 .0))
