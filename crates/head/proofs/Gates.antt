@@ -12,7 +12,8 @@ use lib.IntN.{ℤ}
 use lib.Signed.{ltZ}
 use Rattle.numbers.specs.Whole.{isReading}
 use Rattle.numbers.proofs.Flags.{by-order}
-use Rattle.head.specs.Rules.{Rule, thenOf, firstFrom, firstRefusal, judged}
+use Rattle.head.specs.Rules.{Rule, thenOf, firstFrom, firstRefusal, judged, pushRules, popRules, timedRules, dropRules, showRules, clockRules, headRules}
+use Rattle.window.specs.declared.push.Packet.{Packet}
 
 -- then
 pub found : {k n : ℕ} {bad : Bool} → k ≡ 0 → bad ≡ true → n ≡ thenOf k bad n
@@ -95,3 +96,34 @@ clear l ns h = clear-from 0 l ns h .1
 pub ruleset gates = (found, passed, kept, words-by, bytes-by, needs)
 
 pub ruleset chains = (link, reading-by, less-by, needs)
+
+-- the same lists of tests, by the values that the code has
+module _ (ok : Bool) {ok₁ : Bool} (a : ok₁ ≡ ok) where
+  pub push-same : (capacity words bytes : ℕ) (now latest : ℤ) (p : Packet) (len : ℕ) {t l : ℤ} {n : ℕ}
+      → n ≡ firstRefusal (pushRules ok₁ capacity words bytes t l p len) → t ≡ now → l ≡ latest → n ≡ firstRefusal (pushRules ok capacity words bytes now latest p len)
+  push-same capacity words bytes now latest p len b c d = b ∙ rw (a, c, d)
+
+  pub pop-same : (capacity words bytes : ℕ) (now latest : ℤ) {t l : ℤ} {n : ℕ}
+      → n ≡ firstRefusal (popRules ok₁ capacity words bytes t l) → t ≡ now → l ≡ latest → n ≡ firstRefusal (popRules ok capacity words bytes now latest)
+  pop-same capacity words bytes now latest b c d = b ∙ rw (a, c, d)
+
+  pub timed-same : (words need : ℕ) (now latest : ℤ) {t l : ℤ} {n : ℕ}
+      → n ≡ firstRefusal (timedRules ok₁ words need t l) → t ≡ now → l ≡ latest → n ≡ firstRefusal (timedRules ok words need now latest)
+  timed-same words need now latest b c d = b ∙ rw (a, c, d)
+
+  pub drop-same : (capacity words first last : ℕ) {n : ℕ}
+      → n ≡ firstRefusal (dropRules ok₁ capacity words first last) → n ≡ firstRefusal (dropRules ok capacity words first last)
+  drop-same capacity words first last b = b ∙ rw a
+
+  pub show-same : (capacity words bytes number : ℕ) {n : ℕ}
+      → n ≡ firstRefusal (showRules ok₁ capacity words bytes number) → n ≡ firstRefusal (showRules ok capacity words bytes number)
+  show-same capacity words bytes number b = b ∙ rw a
+
+  pub clock-same : (now latest : ℤ) {t l : ℤ} {n : ℕ}
+      → n ≡ firstRefusal (clockRules ok₁ t l) → t ≡ now → l ≡ latest → n ≡ firstRefusal (clockRules ok now latest)
+  clock-same now latest b c d = b ∙ rw (a, c, d)
+
+  pub head-same : {n : ℕ} → n ≡ firstRefusal (headRules ok₁) → n ≡ firstRefusal (headRules ok)
+  head-same b = b ∙ rw a
+
+pub ruleset sames = (push-same, pop-same, timed-same, drop-same, show-same, clock-same, head-same, needs)

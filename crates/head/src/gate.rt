@@ -54,7 +54,14 @@ pub fn refuse_push(
     then(h, 1456 < len, 6)
 }
 
-pub fn refuse_pop(ok: bool, capacity: usize, words: usize, bytes: usize, time: i64, latest: i64) -> u32
+pub fn refuse_pop(
+    ok: bool,
+    capacity: usize,
+    words: usize,
+    bytes: usize,
+    time: i64,
+    latest: i64,
+) -> u32
     ensures { λ r. ⌜ r ≡ firstRefusal (popRules ok capacity words bytes time latest) ⌝ }
 {
     let a = then(0, !ok, 1);

@@ -10,6 +10,7 @@ use clock::time::SynchronizedRemoteClock;
 use window::Window;
 
 pub struct Head {
+    pub latest: i64,
     pub window: Window,
     pub latency: u32,
     pub dropping: bool,
@@ -18,7 +19,6 @@ pub struct Head {
     pub arrivals: Arrivals,
     pub links: Links,
     pub history: History,
-    pub latest: i64,
 }
 
 // A fresh head, or refusal 15 beside a head that is of no use.

@@ -1,0 +1,2 @@
+-- The laws of the public calls.
+pub mod Syncs

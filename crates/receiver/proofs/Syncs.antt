@@ -1,0 +1,61 @@
+-- What the code of sync.rt does at each return, as laws over plain values. A signed number stands twice, as it is and as the machine reads it
+-- back. Assumes nothing.
+use mathlib.Core.Path.{_≡_, refl, sym, _∙_, ap}
+use mathlib.Core.Bool.{Bool}
+use Prim.Native.Nat.{ℕ}
+use borrow.Author.Needs.{needs}
+use lib.Ieee.{Float}
+use lib.IntN.{ℤ}
+use Rattle.clock.specs.Sync.{Ready, synchronized}
+use Rattle.clock.proofs.Ranges.{ready}
+use Rattle.clock.specs.declared.time.SynchronizedRemoteClock.{SynchronizedRemoteClock}
+use Rattle.clock.specs.declared.time.Step.{Step}
+use Rattle.clock.specs.declared.time.Synchronized.{Synchronized}
+use Rattle.clock.specs.declared.time.Synchronized.the-variants as clocks
+use Rattle.head.specs.Rules.{firstRefusal, judged, clockRules}
+use Rattle.head.specs.Head.{headOk}
+use Rattle.head.specs.declared.state.Head.{Head}
+use Rattle.head.proofs.Gates.{taken, refused}
+use Rattle.head.proofs.Ready.{Timed, clock-ready}
+use Rattle.receiver.specs.Sync.{withClock, afterSync, syncOf, clockOf}
+use Rattle.receiver.specs.declared.sync.Clocked.{Clocked}
+use Rattle.receiver.specs.declared.sync.ClockAnswer.the-variants as answers
+
+module _ (h : Head) (k : SynchronizedRemoteClock) (now : ℤ) {a : Synchronized} {g : Head} {n : ℤ} where
+  pub sync-nothing : a ≡ clocks.Nothing → g ≡ withClock h k n → n ≡ now → _≡_ {A = Clocked} (record { head = g; answer = answers.Nothing }) (afterSync h k a now)
+  sync-nothing e f p = rw (e, f, p)
+
+  pub sync-adjusted : {m m₁ : ℤ} {d : ℕ} → a ≡ clocks.Adjusted m d → m₁ ≡ m → g ≡ withClock h k n → n ≡ now → _≡_ {A = Clocked} (record { head = g; answer = answers.Adjusted m₁ d }) (afterSync h k a now)
+  sync-adjusted e q f p = rw (e, q, f, p)
+
+  pub sync-unsteady : {d : ℕ} {v : Float} → a ≡ clocks.Unsteady d v → g ≡ withClock h k n → n ≡ now → _≡_ {A = Clocked} (record { head = g; answer = answers.Unsteady d v }) (afterSync h k a now)
+  sync-unsteady e f p = rw (e, f, p)
+
+pub sync-refused : (h : Head) (k : SynchronizedRemoteClock) (now : ℤ) {a : Synchronized} → a ≡ clocks.DriftRange → _≡_ {A = Clocked} (record { head = h; answer = answers.Refused 14 }) (afterSync h k a now)
+sync-refused h k now e = rw e
+
+module _ (h : Head) (now : ℤ) where
+  pub sync-ready : {n : ℤ} → Timed h now → n ≡ now → Ready (h .clock) n
+  sync-ready t p = rw p (ready (h .clock) now (t .head .clock) (t .reading))
+
+  pub synced : (stamp : ℕ) {n n₁ : ℤ} {s : Step} {r : Clocked} → s ≡ synchronized (h .clock) n stamp → n ≡ now → r ≡ afterSync h (s .clock) (s .answer) n₁ → n₁ ≡ now → r ≡ syncOf h now stamp
+  unfolding syncOf
+  synced stamp e p f q = f ∙ rw (q, e, p)
+
+  -- the call: its refusal, as the code and the definition have it
+  pub sync-timed : {n : ℕ} → n ≡ firstRefusal (clockRules (headOk h) now (h .latest)) → n ≡ 0 → Timed h now
+  sync-timed b z = clock-ready h now (sym b ∙ z)
+
+  module _ {t : ℤ} {n : ℕ} (b : n ≡ firstRefusal (clockRules (headOk h) t (h .latest))) (p : t ≡ now) where
+    same : n ≡ firstRefusal (clockRules (headOk h) now (h .latest))
+    same = b ∙ rw p
+
+    pub clock-taken : (stamp : ℕ) {m : ℤ} {r : Clocked} → n ≡ 0 → r ≡ syncOf h m stamp → m ≡ now → r ≡ clockOf h now stamp
+    unfolding clockOf
+    clock-taken stamp z f e = f ∙ rw e (sym (taken (syncOf h now stamp) (λ n. record { head = h; answer = answers.Refused n }) same z))
+
+    pub clock-refused : (stamp : ℕ) → (n ≡ 0 → ⊥) → _≡_ {A = Clocked} (record { head = h; answer = answers.Refused n }) (clockOf h now stamp)
+    unfolding clockOf
+    clock-refused stamp z = sym (refused (syncOf h now stamp) (λ n. record { head = h; answer = answers.Refused n }) same z)
+
+pub ruleset syncs = (sync-nothing, sync-adjusted, sync-unsteady, sync-refused, sync-ready, synced, sync-timed, clock-taken, clock-refused, needs)

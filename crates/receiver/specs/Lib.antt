@@ -1,0 +1,2 @@
+-- The definitions of the public calls.
+pub mod Sync
