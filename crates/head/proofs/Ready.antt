@@ -66,8 +66,17 @@ in-parts h e =
       latest = and-right (a && b && c && d && f && g && i) _ e;
     }
 
-pub good : (w : Window) (ws : List ℕ) → windowOk w ≡ true → 3 * w .capacity ≤ length ws → Good w ws
-good w ws e h =
+-- the parts of a window in range
+pub record InWindow (w : Window) : Type 0 where
+  pub some : 0 < w .capacity
+  pub most : w .capacity ≤ 8192
+  pub starts : w .start < w .capacity
+  pub holds : w .held ≤ w .capacity
+  pub first : w .seqno0 < 2 ^ 31
+  pub next : w .lrsn < 2 ^ 31
+
+pub in-window : (w : Window) → windowOk w ≡ true → InWindow w
+in-window w e =
     let a = leb 1 (w .capacity) in
     let b = leb (w .capacity) 8192 in
     let c = ltb (w .start) (w .capacity) in
@@ -84,8 +93,13 @@ good w ws e h =
       holds = leb-true (w .held) (w .capacity) (and-right (a && b && c) _ e4);
       first = ltb-true (w .seqno0) (2 ^ 31) (and-right (a && b && c && d) _ e5);
       next = ltb-true (w .lrsn) (2 ^ 31) (and-right (a && b && c && d && f) _ e);
-      words = h;
     }
+
+pub good : (w : Window) (ws : List ℕ) → windowOk w ≡ true → 3 * w .capacity ≤ length ws → Good w ws
+good w ws e h = let i = in-window w e in omega arith
+
+pub head-ready : (h : Head) → firstRefusal (headRules (headOk h)) ≡ 0 → InRange h
+head-ready h e = let c = clear (headRules (headOk h)) (lit< tt, tt) e in in-parts h (not-false (headOk h) (c .0))
 
 module _ (h : Head) (now : ℤ) where
   -- what every call with a reading has

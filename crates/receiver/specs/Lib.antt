@@ -1,2 +1,3 @@
 -- The definitions of the public calls.
+pub mod Request
 pub mod Sync

@@ -1,0 +1,65 @@
+-- The drop request, clear and room: 01, "Window", with refusals 1, 2 and 5; 1; and 1.
+use mathlib.Core.List.{List}
+use Prim.Native.Nat.{ℕ}
+use lib.ListN.{length}
+use Rattle.acks.specs.History as histories
+use Rattle.window.specs.Window.{roomOf}
+use Rattle.window_report.specs.Drop.{dropOf}
+use Rattle.head.specs.Rules.{firstRefusal, judged, dropRules, headRules}
+use Rattle.head.specs.Head.{headOk}
+use Rattle.head.specs.declared.state.Head.{Head}
+use Rattle.receiver.specs.declared.request.DropAnswer.{DropAnswer}
+use Rattle.receiver.specs.declared.request.DropAnswer.the-variants as drops
+use Rattle.receiver.specs.declared.request.Cleared.{Cleared}
+use Rattle.receiver.specs.declared.request.ClearAnswer.the-variants as clears
+use Rattle.receiver.specs.declared.request.RoomAnswer.{RoomAnswer}
+use Rattle.receiver.specs.declared.request.RoomAnswer.the-variants as rooms
+
+-- all that a drop request leaves: its answer and the slot area; the head is not its to change
+pub record DropOutcome : Type 0 where
+  pub answer : DropAnswer
+  pub slots : List ℕ
+
+abbrev pub dropEnded : DropAnswer → List ℕ → DropOutcome
+dropEnded a ws = record { answer = a; slots = ws }
+
+abbrev pub goneOf : Head → List ℕ → ℕ → ℕ → DropOutcome
+goneOf h ws first last = dropEnded (drops.Gone (dropOf (h .window) ws first last .count)) (dropOf (h .window) ws first last .slots)
+
+unfoldable pub dropCallOf : Head → List ℕ → ℕ → ℕ → DropOutcome
+dropCallOf h ws first last =
+    judged (firstRefusal (dropRules (headOk h) (h .window .capacity) (length ws) first last))
+    (goneOf h ws first last)
+    (λ n. dropEnded (drops.Refused n) ws)
+
+-- clear only sets held and history count to 0 and largest_ack2_dsn to lrsn
+unfoldable pub clearedOf : Head → Head
+clearedOf h =
+    record {
+      window =
+          record {
+            capacity = h .window .capacity;
+            start = h .window .start;
+            held = 0;
+            seqno0 = h .window .seqno0;
+            lrsn = h .window .lrsn;
+          };
+      latency = h .latency;
+      dropping = h .dropping;
+      clock = h .clock;
+      rtt = h .rtt;
+      arrivals = h .arrivals;
+      links = h .links;
+      history = histories.clearedOf (h .history) (h .window .lrsn);
+      latest = h .latest;
+    }
+
+unfoldable pub clearOf : Head → Cleared
+clearOf h =
+    judged (firstRefusal (headRules (headOk h)))
+    (record { head = clearedOf h; answer = clears.Cleared })
+    (λ n. record { head = h; answer = clears.Refused n })
+
+-- room is capacity - held
+unfoldable pub roomCallOf : Head → RoomAnswer
+roomCallOf h = judged (firstRefusal (headRules (headOk h))) (rooms.Room (roomOf (h .window))) rooms.Refused
