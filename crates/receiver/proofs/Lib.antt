@@ -1,3 +1,4 @@
 -- The laws of the public calls.
 pub mod Requests
+pub mod Shows
 pub mod Syncs

@@ -1,3 +1,4 @@
 -- The definitions of the public calls.
 pub mod Request
+pub mod Show
 pub mod Sync

@@ -1,0 +1,62 @@
+-- What the code of show.rt does at each return, as laws over plain values. Assumes nothing.
+use mathlib.Core.Path.{_≡_, refl, sym, _∙_, ap, subst}
+use mathlib.Core.Bool.{Bool, true, false, cond}
+use mathlib.Core.List.{List}
+use Prim.Native.Nat.{ℕ, _+_, _≤_}
+use native.Mathlib.Omega.{arith}
+use borrow.Author.Needs.{needs}
+use borrow.Author.Tests.{eqb-true}
+use denote.Ref.{RefT}
+use lib.Dec.{eqb}
+use lib.ListN.{length}
+use Rattle.numbers.proofs.Flags.{by-test}
+use Rattle.window.specs.Window.{Good}
+use Rattle.window.specs.Show.{PartOf, ShownAt, nowhere, shownOf}
+use Rattle.window.specs.declared.show.Place.{Place}
+use Rattle.window.proofs.Shows.{shown-within}
+use Rattle.head.specs.Rules.{firstRefusal, judged, showRules}
+use Rattle.head.specs.Head.{headOk}
+use Rattle.head.specs.declared.state.Head.{Head}
+use Rattle.head.proofs.Gates.{taken, refused}
+use Rattle.head.proofs.Ready.{show-ready}
+use Rattle.receiver.specs.Show.{refusalOf, placeCallOf, shownCallOf}
+use Rattle.receiver.specs.declared.show.ShowAnswer.the-variants.{Received, Other, Refused}
+
+module _ (h : Head) (ws : List ℕ) (bytes number : ℕ) {n : ℕ} (b : n ≡ firstRefusal (showRules (headOk h) (h .window .capacity) (length ws) bytes number)) where
+  pub show-good : n ≡ 0 → Good (h .window) ws
+  show-good z = show-ready h ws bytes number (sym b ∙ z) .0
+
+  pub place-taken : {p : Place} → n ≡ 0 → p ≡ shownOf (h .window) ws number → p ≡ placeCallOf h ws bytes number
+  unfolding placeCallOf
+  place-taken z e = e ∙ sym (taken (shownOf (h .window) ws number) (λ n. nowhere) b z)
+
+  pub place-refused : (n ≡ 0 → ⊥) → nowhere ≡ placeCallOf h ws bytes number
+  unfolding placeCallOf
+  place-refused z = sym (refused (shownOf (h .window) ws number) (λ n. nowhere) b z)
+
+  module _ {p : Place} (z : n ≡ 0) (e : p ≡ shownOf (h .window) ws number) where
+    pub is-received : p .received ≡ true → Received ≡ shownCallOf h ws bytes number
+    unfolding shownCallOf
+    is-received t = sym (taken (cond (shownOf (h .window) ws number .received) Received Other) Refused b z ∙ ap (λ (q : Bool). cond q Received Other) (sym (ap (λ (p : Place). p .received) e) ∙ t))
+
+    pub is-other : p .received ≡ false → Other ≡ shownCallOf h ws bytes number
+    unfolding shownCallOf
+    is-other t = sym (taken (cond (shownOf (h .window) ws number .received) Received Other) Refused b z ∙ ap (λ (q : Bool). cond q Received Other) (sym (ap (λ (p : Place). p .received) e) ∙ t))
+
+  pub shown-refused : (n ≡ 0 → ⊥) → Refused n ≡ shownCallOf h ws bytes number
+  unfolding shownCallOf
+  shown-refused z = sym (refused (cond (shownOf (h .window) ws number .received) Received Other) Refused b z)
+
+-- what is shown lies within the area
+pub place-within : (h : Head) (ws : List ℕ) (bytes number : ℕ) {p : Place} → p ≡ placeCallOf h ws bytes number → p .at + p .len ≤ bytes
+unfolding placeCallOf
+place-within h ws bytes number e =
+    rw e
+    (by-test (λ (q : Place). q .at + q .len ≤ bytes) (eqb (refusalOf h ws bytes number) 0) _ _
+    (λ t. let r = show-ready h ws bytes number (eqb-true (refusalOf h ws bytes number) 0 t) in shown-within (h .window) ws number refl (r .0) (r .1))
+    (λ t. omega arith))
+
+pub part-shown : (h : Head) (ws : List ℕ) (bytes number : ℕ) {s r : RefT (List ℕ)} {p : Place} → p ≡ placeCallOf h ws bytes number → PartOf s (p .at) (p .len) r → ShownAt (placeCallOf h ws bytes number) s r
+part-shown h ws bytes number {s} {r} e q = subst (λ (x : Place). ShownAt x s r) e q
+
+pub ruleset shows = (show-good, place-taken, place-refused, is-received, is-other, shown-refused, place-within, part-shown, needs)

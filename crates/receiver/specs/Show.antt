@@ -1,0 +1,23 @@
+-- Show and its second question: 01, "Window", "any other number, or refusal 1, 2 or 5, shows an empty part; a second question says which of these, or received".
+use mathlib.Core.Bool.{cond}
+use mathlib.Core.List.{List}
+use Prim.Native.Nat.{ℕ}
+use lib.ListN.{length}
+use Rattle.window.specs.Show.{nowhere, shownOf}
+use Rattle.window.specs.declared.show.Place.{Place}
+use Rattle.head.specs.Rules.{firstRefusal, judged, showRules}
+use Rattle.head.specs.Head.{headOk}
+use Rattle.head.specs.declared.state.Head.{Head}
+use Rattle.receiver.specs.declared.show.ShowAnswer.{ShowAnswer}
+use Rattle.receiver.specs.declared.show.ShowAnswer.the-variants.{Received, Other, Refused}
+
+abbrev pub refusalOf : Head → List ℕ → ℕ → ℕ → ℕ
+refusalOf h ws bytes number = firstRefusal (showRules (headOk h) (h .window .capacity) (length ws) bytes number)
+
+-- the part of an area of that many bytes
+unfoldable pub placeCallOf : Head → List ℕ → ℕ → ℕ → Place
+placeCallOf h ws bytes number = judged (refusalOf h ws bytes number) (shownOf (h .window) ws number) (λ n. nowhere)
+
+-- which of these, or received
+unfoldable pub shownCallOf : Head → List ℕ → ℕ → ℕ → ShowAnswer
+shownCallOf h ws bytes number = judged (refusalOf h ws bytes number) (cond (shownOf (h .window) ws number .received) Received Other) Refused
