@@ -1,2 +1,3 @@
 -- The laws of the public calls.
+pub mod Datas
 pub mod Syncs

@@ -1,0 +1,98 @@
+// A data packet comes, arq.rs `handle_data_packet`: 01, "Window" with refusals 1 to 10, and of "ACKs, RTT, rates" what a push does.
+ghost use mathlib.Core.Path.{_≡_};
+ghost use mathlib.Core.Bool.{true};
+ghost use Rattle.acks.specs.Rates.{arrivalsOk, linksOk};
+ghost use Rattle.receiver.specs.Data.{withWindow, withRates, withHistory, refusedBy, ratedOf, ackedOf};
+use acks::history::History;
+use acks::rates::Arrivals;
+use acks::rates::Links;
+use head::state::Head;
+use window::Window;
+use window::push::Packet;
+use window::push::PushAnswer;
+
+pub enum DataAnswer {
+    Got { lrsn: u32, recovered: bool },
+    Light { lrsn: u32, recovered: bool },
+    Loss { first: u32, last: u32 },
+    Refused(u32),
+    PacketTooEarly { room: usize, need: usize },
+}
+
+pub struct Handled {
+    pub head: Head,
+    pub answer: DataAnswer,
+}
+
+// The head with another window, at a reading.
+fn with_window(h: Head, window: Window, time: i64) -> Head
+    ensures { λ r. ⌜ r ≡ withWindow h window time ⌝ }
+{
+    let mut next = h;
+    next.window = window;
+    next.latest = time;
+    next
+}
+
+fn with_rates(h: Head, arrivals: Arrivals, links: Links) -> Head
+    ensures { λ r. ⌜ r ≡ withRates h arrivals links ⌝ }
+{
+    let mut next = h;
+    next.arrivals = arrivals;
+    next.links = links;
+    next
+}
+
+fn with_history(h: Head, history: History) -> Head
+    ensures { λ r. ⌜ r ≡ withHistory h history ⌝ }
+{
+    let mut next = h;
+    next.history = history;
+    next
+}
+
+// The window's refusal as the call's; refusal 0 for an answer that is none.
+fn refused_by(answer: PushAnswer) -> DataAnswer
+    ensures { λ r. ⌜ r ≡ refusedBy answer ⌝ }
+{
+    match answer {
+        PushAnswer::Got { .. } => DataAnswer::Refused(0),
+        PushAnswer::Loss { .. } => DataAnswer::Refused(0),
+        PushAnswer::BufferFull => DataAnswer::Refused(7),
+        PushAnswer::PacketTooEarly { room, need } => DataAnswer::PacketTooEarly { room, need },
+        PushAnswer::PacketTooLate => DataAnswer::Refused(9),
+        PushAnswer::DiscardedDuplicate => DataAnswer::Refused(10),
+    }
+}
+
+// Rates count appends without gap.
+fn rate(h: Head, time: i64, number: u32, size: u32) -> Head
+    requires { ⌜ (arrivalsOk (h .arrivals) ≡ true) × (linksOk (h .links) ≡ true) ⌝ }
+    ensures { λ r. ⌜ r ≡ ratedOf h time number size ⌝ }
+{
+    let a = h.arrivals;
+    let l = h.links;
+    let arrivals = a.record(time, size);
+    let links = l.record(time, number);
+    with_rates(h, arrivals, links)
+}
+
+// An append without gap or a recovery asks for a light ACK.
+fn acknowledge(h: Head, lrsn: u32, recovered: bool) -> Handled
+    ensures { λ r. ⌜ r ≡ ackedOf h lrsn recovered ⌝ }
+{
+    let y = h.history;
+    let acked = y.next_light_ack(lrsn);
+    let history = acked.history;
+    let head = with_history(h, history);
+    if acked.light {
+        return Handled {
+            head,
+            answer: DataAnswer::Light { lrsn, recovered },
+        };
+    }
+    Handled {
+        head,
+        answer: DataAnswer::Got { lrsn, recovered },
+    }
+}
