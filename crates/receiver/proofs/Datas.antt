@@ -49,4 +49,14 @@ module _ (h : Head) (lrsn : ℕ) (recovered : Bool) {l : LightAcked} {g : Head} 
   unfolding ackedOf
   acked t = rw (← e, f, t)
 
-pub ruleset datas = (too-early, arrivals-fit, links-fit, rated, acked-light, acked, needs)
+-- got
+module _ (h : Head) (lrsn : ℕ) (now : ℤ) (number size : ℕ) {recovered : Bool} {r : Handled} where
+  pub got-recovered : recovered ≡ true → r ≡ ackedOf h lrsn true → r ≡ gotOf h lrsn recovered now number size
+  unfolding gotOf
+  got-recovered t e = rw t e
+
+  pub got-appended : {n : ℤ} {g : Head} → recovered ≡ false → r ≡ ackedOf g lrsn false → g ≡ ratedOf h n number size → n ≡ now → r ≡ gotOf h lrsn recovered now number size
+  unfolding gotOf
+  got-appended t e f p = rw t (e ∙ rw (f, p))
+
+pub ruleset datas = (too-early, arrivals-fit, links-fit, rated, acked-light, acked, got-recovered, got-appended, needs)

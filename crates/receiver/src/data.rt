@@ -2,7 +2,7 @@
 ghost use mathlib.Core.Path.{_≡_};
 ghost use mathlib.Core.Bool.{true};
 ghost use Rattle.acks.specs.Rates.{arrivalsOk, linksOk};
-ghost use Rattle.receiver.specs.Data.{withWindow, withRates, withHistory, refusedBy, ratedOf, ackedOf};
+ghost use Rattle.receiver.specs.Data.{withWindow, withRates, withHistory, refusedBy, ratedOf, ackedOf, gotOf};
 use acks::history::History;
 use acks::rates::Arrivals;
 use acks::rates::Links;
@@ -95,4 +95,16 @@ fn acknowledge(h: Head, lrsn: u32, recovered: bool) -> Handled
         head,
         answer: DataAnswer::Got { lrsn, recovered },
     }
+}
+
+// The head has the new window already.
+fn got(h: Head, lrsn: u32, recovered: bool, time: i64, number: u32, size: u32) -> Handled
+    requires { ⌜ (arrivalsOk (h .arrivals) ≡ true) × (linksOk (h .links) ≡ true) ⌝ }
+    ensures { λ r. ⌜ r ≡ gotOf h lrsn recovered time number size ⌝ }
+{
+    if recovered {
+        return acknowledge(h, lrsn, true);
+    }
+    let rated = rate(h, time, number, size);
+    acknowledge(rated, lrsn, false)
 }
