@@ -5,8 +5,10 @@ use mathlib.Core.Bool.{Bool, true, false}
 use mathlib.Core.List.{List, [], _∷_}
 use Prim.Native.Nat.{ℕ, _<_, _≤_, _^_}
 use borrow.Author.Needs.{needs}
+use denote.Enum.Declared.{tagOf}
 use lib.IntN.{ℤ, natAbs}
 use lib.ListN.{length}
+use types.Run.{OneOf, miss}
 use Rattle.acks.specs.Rates.{arrivalOf, linkOf, arrivalsOk, linksOk}
 use Rattle.acks.specs.History.{lightAckOf}
 use Rattle.acks.specs.declared.rates.Arrivals.{Arrivals}
@@ -16,6 +18,7 @@ use Rattle.acks.proofs.Windows.{arrival-ranges, link-ranges}
 use Rattle.window.specs.declared.Window.{Window}
 use Rattle.window.specs.declared.push.PushAnswer.{PushAnswer}
 use Rattle.window.specs.declared.push.PushAnswer.the-variants as pushes
+use Rattle.window.proofs.push.PushAnswer.{the-type}
 use Rattle.head.specs.declared.state.Head.{Head}
 use Rattle.receiver.specs.Data.{withWindow, withRates, withHistory, refusedBy, ackedOf, ratedOf, gotOf, afterPush}
 use Rattle.receiver.specs.declared.data.Handled.{Handled}
@@ -50,13 +53,38 @@ module _ (h : Head) (lrsn : ℕ) (recovered : Bool) {l : LightAcked} {g : Head} 
   acked t = rw (← e, f, t)
 
 -- got
-module _ (h : Head) (lrsn : ℕ) (now : ℤ) (number size : ℕ) {recovered : Bool} {r : Handled} where
-  pub got-recovered : recovered ≡ true → r ≡ ackedOf h lrsn true → r ≡ gotOf h lrsn recovered now number size
+module _ (h : Head) (w : Window) (lrsn : ℕ) (now : ℤ) (number size : ℕ) {recovered : Bool} {r : Handled} where
+  pub got-recovered : {n : ℤ} {g : Head} → recovered ≡ true → r ≡ ackedOf g lrsn true → g ≡ withWindow h w n → n ≡ now → r ≡ gotOf h w lrsn recovered now number size
   unfolding gotOf
-  got-recovered t e = rw t e
+  got-recovered t e f p = rw t (e ∙ rw (f, p))
 
-  pub got-appended : {n : ℤ} {g : Head} → recovered ≡ false → r ≡ ackedOf g lrsn false → g ≡ ratedOf h n number size → n ≡ now → r ≡ gotOf h lrsn recovered now number size
+  pub got-appended : {n n₁ : ℤ} {f g : Head}
+      → recovered ≡ false → r ≡ ackedOf g lrsn false → g ≡ withWindow f w n → n ≡ now → f ≡ ratedOf h n₁ number size → n₁ ≡ now → r ≡ gotOf h w lrsn recovered now number size
   unfolding gotOf
-  got-appended t e f p = rw t (e ∙ rw (f, p))
+  got-appended t e g p f q = rw t (e ∙ rw (g, p, f, q))
 
-pub ruleset datas = (too-early, arrivals-fit, links-fit, rated, acked-light, acked, got-recovered, got-appended, needs)
+-- after_push
+module _ (h : Head) (w : Window) (now : ℤ) (number size : ℕ) {a : PushAnswer} where
+  pub after-got : {lrsn : ℕ} {recovered : Bool} {n : ℤ} {r : Handled}
+      → a ≡ pushes.Got lrsn recovered → r ≡ gotOf h w lrsn recovered n number size → n ≡ now → r ≡ afterPush h w a now number size
+  after-got e f p = f ∙ rw (e, p)
+
+  pub after-loss : {first last : ℕ} {g : Head} {n : ℤ}
+      → a ≡ pushes.Loss first last → g ≡ withWindow h w n → n ≡ now → _≡_ {A = Handled} (record { head = g; answer = answers.Loss first last }) (afterPush h w a now number size)
+  after-loss e f p = rw (e, f, p)
+
+others : (h : Head) (w : Window) (a : PushAnswer) (now : ℤ) (number size : ℕ) → OneOf (1 ∷ 2 ∷ 3 ∷ 4 ∷ 5 ∷ []) (tagOf the-type a) → OneOf (0 ∷ 2 ∷ 3 ∷ 4 ∷ 5 ∷ []) (tagOf the-type a)
+    → _≡_ {A = Handled} (record { head = h; answer = refusedBy a }) (afterPush h w a now number size)
+others h w (pushes.Got lrsn recovered) now number size p q = absurd (miss (1 ∷ 2 ∷ 3 ∷ 4 ∷ 5 ∷ []) 0 tt p)
+others h w (pushes.Loss first last) now number size p q = absurd (miss (0 ∷ 2 ∷ 3 ∷ 4 ∷ 5 ∷ []) 1 tt q)
+others h w pushes.BufferFull now number size p q = refl
+others h w (pushes.PacketTooEarly room need) now number size p q = refl
+others h w pushes.PacketTooLate now number size p q = refl
+others h w pushes.DiscardedDuplicate now number size p q = refl
+
+pub after-refused : (h : Head) (w : Window) (a : PushAnswer) (now : ℤ) (number size : ℕ) {b : DataAnswer}
+    → OneOf (1 ∷ 2 ∷ 3 ∷ 4 ∷ 5 ∷ []) (tagOf the-type a) → OneOf (0 ∷ 2 ∷ 3 ∷ 4 ∷ 5 ∷ []) (tagOf the-type a) → b ≡ refusedBy a
+    → _≡_ {A = Handled} (record { head = h; answer = b }) (afterPush h w a now number size)
+after-refused h w a now number size p q e = rw e (others h w a now number size p q)
+
+pub ruleset datas = (too-early, arrivals-fit, links-fit, rated, acked-light, acked, got-recovered, got-appended, after-got, after-loss, after-refused, needs)

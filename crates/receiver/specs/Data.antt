@@ -102,12 +102,12 @@ unfoldable pub ratedOf : Head → ℤ → ℕ → ℕ → Head
 ratedOf h now number size = withRates h (arrivalOf (h .arrivals) now size) (linkOf (h .links) now number)
 
 -- an append without gap or a recovery
-unfoldable pub gotOf : Head → ℕ → Bool → ℤ → ℕ → ℕ → Handled
-gotOf h lrsn recovered now number size = ackedOf (cond recovered h (ratedOf h now number size)) lrsn recovered
+unfoldable pub gotOf : Head → Window → ℕ → Bool → ℤ → ℕ → ℕ → Handled
+gotOf h w lrsn recovered now number size = ackedOf (withWindow (cond recovered h (ratedOf h now number size)) w now) lrsn recovered
 
 -- the window's answer as the call's; a refusal leaves the head
 abbrev pub afterPush : Head → Window → PushAnswer → ℤ → ℕ → ℕ → Handled
-afterPush h w (pushes.Got lrsn recovered) now number size = gotOf (withWindow h w now) lrsn recovered now number size
+afterPush h w (pushes.Got lrsn recovered) now number size = gotOf h w lrsn recovered now number size
 afterPush h w (pushes.Loss first last) now number size = record { head = withWindow h w now; answer = answers.Loss first last }
 afterPush h w pushes.BufferFull now number size = record { head = h; answer = answers.Refused 7 }
 afterPush h w (pushes.PacketTooEarly room need) now number size = record { head = h; answer = answers.PacketTooEarly room need }

@@ -2,7 +2,7 @@
 ghost use mathlib.Core.Path.{_≡_};
 ghost use mathlib.Core.Bool.{true};
 ghost use Rattle.acks.specs.Rates.{arrivalsOk, linksOk};
-ghost use Rattle.receiver.specs.Data.{withWindow, withRates, withHistory, refusedBy, ratedOf, ackedOf, gotOf};
+ghost use Rattle.receiver.specs.Data.{withWindow, withRates, withHistory, refusedBy, ratedOf, ackedOf, gotOf, afterPush};
 use acks::history::History;
 use acks::rates::Arrivals;
 use acks::rates::Links;
@@ -97,14 +97,49 @@ fn acknowledge(h: Head, lrsn: u32, recovered: bool) -> Handled
     }
 }
 
-// The head has the new window already.
-fn got(h: Head, lrsn: u32, recovered: bool, time: i64, number: u32, size: u32) -> Handled
+// A packet appended without gap, or recovered.
+fn got(
+    h: Head,
+    window: Window,
+    lrsn: u32,
+    recovered: bool,
+    time: i64,
+    number: u32,
+    size: u32,
+) -> Handled
     requires { ⌜ (arrivalsOk (h .arrivals) ≡ true) × (linksOk (h .links) ≡ true) ⌝ }
-    ensures { λ r. ⌜ r ≡ gotOf h lrsn recovered time number size ⌝ }
+    ensures { λ r. ⌜ r ≡ gotOf h window lrsn recovered time number size ⌝ }
 {
     if recovered {
-        return acknowledge(h, lrsn, true);
+        return acknowledge(with_window(h, window, time), lrsn, true);
     }
     let rated = rate(h, time, number, size);
-    acknowledge(rated, lrsn, false)
+    acknowledge(with_window(rated, window, time), lrsn, false)
+}
+
+// The window's answer as the call's: a refusal leaves the head, a gap asks for no ACK.
+fn after_push(
+    h: Head,
+    window: Window,
+    answer: PushAnswer,
+    time: i64,
+    number: u32,
+    size: u32,
+) -> Handled
+    requires { ⌜ (arrivalsOk (h .arrivals) ≡ true) × (linksOk (h .links) ≡ true) ⌝ }
+    ensures { λ r. ⌜ r ≡ afterPush h window answer time number size ⌝ }
+{
+    let PushAnswer::Got { lrsn, recovered } = answer else {
+        let PushAnswer::Loss { first, last } = answer else {
+            return Handled {
+                head: h,
+                answer: refused_by(answer),
+            };
+        };
+        return Handled {
+            head: with_window(h, window, time),
+            answer: DataAnswer::Loss { first, last },
+        };
+    };
+    got(h, window, lrsn, recovered, time, number, size)
 }

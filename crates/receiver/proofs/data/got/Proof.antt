@@ -7,7 +7,9 @@ got-spec =
     tie.close
     (tie.spec
     (λ c κs. search datas)
+    (λ c κs. search datas)
     (λ c. search datas)
+    (λ c κs. search datas)
     (λ c κs. search datas)
     (λ c κs. search datas)
     (λ c. search datas))
