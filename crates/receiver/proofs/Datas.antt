@@ -9,18 +9,23 @@ use denote.Enum.Declared.{tagOf}
 use lib.IntN.{ℤ, natAbs}
 use lib.ListN.{length}
 use types.Run.{OneOf, miss}
+use Rattle.numbers.specs.Whole.{isReading}
+use Rattle.numbers.proofs.Signs.{reading-size}
 use Rattle.acks.specs.Rates.{arrivalOf, linkOf, arrivalsOk, linksOk}
 use Rattle.acks.specs.History.{lightAckOf}
 use Rattle.acks.specs.declared.rates.Arrivals.{Arrivals}
 use Rattle.acks.specs.declared.rates.Links.{Links}
 use Rattle.acks.specs.declared.history.LightAcked.{LightAcked}
 use Rattle.acks.proofs.Windows.{arrival-ranges, link-ranges}
+use Rattle.window.specs.Push.{PushOutcome, pushEnded, pushOf}
 use Rattle.window.specs.declared.Window.{Window}
+use Rattle.window.specs.declared.push.Packet.{Packet}
+use Rattle.window.specs.declared.push.Pushed.{Pushed}
 use Rattle.window.specs.declared.push.PushAnswer.{PushAnswer}
 use Rattle.window.specs.declared.push.PushAnswer.the-variants as pushes
 use Rattle.window.proofs.push.PushAnswer.{the-type}
 use Rattle.head.specs.declared.state.Head.{Head}
-use Rattle.receiver.specs.Data.{withWindow, withRates, withHistory, refusedBy, ackedOf, ratedOf, gotOf, afterPush}
+use Rattle.receiver.specs.Data.{withWindow, withRates, withHistory, refusedBy, ackedOf, ratedOf, gotOf, afterPush, DataOutcome, dataEnded, takenOf}
 use Rattle.receiver.specs.declared.data.Handled.{Handled}
 use Rattle.receiver.specs.declared.data.DataAnswer.{DataAnswer}
 use Rattle.receiver.specs.declared.data.DataAnswer.the-variants as answers
@@ -87,4 +92,25 @@ pub after-refused : (h : Head) (w : Window) (a : PushAnswer) (now : ℤ) (number
     → _≡_ {A = Handled} (record { head = h; answer = b }) (afterPush h w a now number size)
 after-refused h w a now number size p q e = rw e (others h w a now number size p q)
 
-pub ruleset datas = (too-early, arrivals-fit, links-fit, rated, acked-light, acked, got-recovered, got-appended, after-got, after-loss, after-refused, needs)
+-- push_at
+pub reading-under : (now : ℤ) {n : ℤ} {t : ℕ} → isReading now ≡ true → t ≡ natAbs n → n ≡ now → t < 2 ^ 60
+reading-under now e f p = rw (f, p) (reading-size now e .1)
+
+module _ (w : Window) (ws bs : List ℕ) (now : ℤ) (p : Packet) (payload : List ℕ) where
+  pub pushed-at : {o : PushOutcome} {n : ℤ} {t : ℕ} → o ≡ pushOf w ws bs t p payload → t ≡ natAbs n → n ≡ now → o ≡ pushOf w ws bs (natAbs now) p payload
+  pushed-at e a b = e ∙ rw (a, b)
+
+-- take_packet
+pub reading-by : (now : ℤ) {n : ℤ} → isReading now ≡ true → n ≡ now → isReading n ≡ true
+reading-by now e p = rw p e
+
+pub taken-up : (h : Head) (ws bs : List ℕ) (now : ℤ) (p : Packet) (payload : List ℕ) {u : Pushed} {ws₁ bs₁ : List ℕ} {n n₁ : ℤ} {r : Handled}
+    → r ≡ afterPush h (u .window) (u .answer) n₁ (p .number) (length payload) → n₁ ≡ now
+    → pushEnded u ws₁ bs₁ ≡ pushOf (h .window) ws bs (natAbs n) p payload → n ≡ now
+    → dataEnded r ws₁ bs₁ ≡ takenOf h ws bs now p payload
+unfolding takenOf
+taken-up h ws bs now p payload {u} {ws₁} {bs₁} f c e b =
+    let q : pushEnded u ws₁ bs₁ ≡ pushOf (h .window) ws bs (natAbs now) p payload = e ∙ rw b in
+    rw (f, c, ← q)
+
+pub ruleset datas = (too-early, arrivals-fit, links-fit, rated, acked-light, acked, got-recovered, got-appended, after-got, after-loss, after-refused, reading-under, pushed-at, reading-by, taken-up, needs)

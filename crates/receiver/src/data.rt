@@ -2,7 +2,12 @@
 ghost use mathlib.Core.Path.{_≡_};
 ghost use mathlib.Core.Bool.{true};
 ghost use Rattle.acks.specs.Rates.{arrivalsOk, linksOk};
-ghost use Rattle.receiver.specs.Data.{withWindow, withRates, withHistory, refusedBy, ratedOf, ackedOf, gotOf, afterPush};
+ghost use lib.IntN.{natAbs};
+ghost use Rattle.numbers.specs.Whole.{isReading};
+ghost use Rattle.window.specs.Window.{Good, Bytes};
+ghost use Rattle.window.specs.Push.{Right, pushEnded, pushOf};
+ghost use Rattle.head.proofs.Ready.{PushReady};
+ghost use Rattle.receiver.specs.Data.{withWindow, withRates, withHistory, refusedBy, ratedOf, ackedOf, gotOf, afterPush, takenOf, dataEnded};
 use acks::history::History;
 use acks::rates::Arrivals;
 use acks::rates::Links;
@@ -10,6 +15,7 @@ use head::state::Head;
 use window::Window;
 use window::push::Packet;
 use window::push::PushAnswer;
+use window::push::Pushed;
 
 pub enum DataAnswer {
     Got { lrsn: u32, recovered: bool },
@@ -118,17 +124,12 @@ fn got(
 }
 
 // The window's answer as the call's: a refusal leaves the head, a gap asks for no ACK.
-fn after_push(
-    h: Head,
-    window: Window,
-    answer: PushAnswer,
-    time: i64,
-    number: u32,
-    size: u32,
-) -> Handled
+fn after_push(h: Head, pushed: Pushed, time: i64, number: u32, size: u32) -> Handled
     requires { ⌜ (arrivalsOk (h .arrivals) ≡ true) × (linksOk (h .links) ≡ true) ⌝ }
-    ensures { λ r. ⌜ r ≡ afterPush h window answer time number size ⌝ }
+    ensures { λ r. ⌜ r ≡ afterPush h (pushed .window) (pushed .answer) time number size ⌝ }
 {
+    let window = pushed.window;
+    let answer = pushed.answer;
     let PushAnswer::Got { lrsn, recovered } = answer else {
         let PushAnswer::Loss { first, last } = answer else {
             return Handled {
@@ -142,4 +143,39 @@ fn after_push(
         };
     };
     got(h, window, lrsn, recovered, time, number, size)
+}
+
+// The push alone, at a reading.
+fn push_at(
+    w: Window,
+    words: &mut [u64],
+    bytes: &mut [u8],
+    time: i64,
+    p: Packet,
+    payload: &[u8],
+) -> Pushed
+    requires { ⌜ Good w (now words) × Bytes w (now bytes) × Right p (now payload) × (isReading time ≡ true) ⌝ }
+    ensures { λ r. ⌜ pushEnded r (now (words .exit)) (now (bytes .exit)) ≡ pushOf w (now (words .entry)) (now (bytes .entry)) (natAbs time) p (now (payload .entry)) ⌝ }
+{
+    let t = numbers::instant::size(time);
+    window::push::push(w, words, bytes, t, p, payload)
+}
+
+// The call, once nothing refuses it.
+fn take_packet(
+    h: Head,
+    words: &mut [u64],
+    bytes: &mut [u8],
+    time: i64,
+    p: Packet,
+    payload: &[u8],
+) -> Handled
+    requires { ⌜ PushReady h (now words) (now bytes) time p (now payload) ⌝ }
+    ensures { λ r. ⌜ dataEnded r (now (words .exit)) (now (bytes .exit)) ≡ takenOf h (now (words .entry)) (now (bytes .entry)) time p (now (payload .entry)) ⌝ }
+{
+    let w = h.window;
+    let number = p.number;
+    let size = payload.len() as u32;
+    let pushed = push_at(w, words, bytes, time, p, payload);
+    after_push(h, pushed, time, number, size)
 }
