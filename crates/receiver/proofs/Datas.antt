@@ -24,8 +24,12 @@ use Rattle.window.specs.declared.push.Pushed.{Pushed}
 use Rattle.window.specs.declared.push.PushAnswer.{PushAnswer}
 use Rattle.window.specs.declared.push.PushAnswer.the-variants as pushes
 use Rattle.window.proofs.push.PushAnswer.{the-type}
+use Rattle.head.specs.Rules.{firstRefusal, pushRules}
+use Rattle.head.specs.Head.{headOk}
 use Rattle.head.specs.declared.state.Head.{Head}
-use Rattle.receiver.specs.Data.{withWindow, withRates, withHistory, refusedBy, ackedOf, ratedOf, gotOf, afterPush, DataOutcome, dataEnded, takenOf}
+use Rattle.head.proofs.Gates.{taken, refused}
+use Rattle.head.proofs.Ready.{PushReady, push-ready}
+use Rattle.receiver.specs.Data.{withWindow, withRates, withHistory, refusedBy, ackedOf, ratedOf, gotOf, afterPush, DataOutcome, dataEnded, takenOf, dataOf}
 use Rattle.receiver.specs.declared.data.Handled.{Handled}
 use Rattle.receiver.specs.declared.data.DataAnswer.{DataAnswer}
 use Rattle.receiver.specs.declared.data.DataAnswer.the-variants as answers
@@ -101,9 +105,6 @@ module _ (w : Window) (ws bs : List ℕ) (now : ℤ) (p : Packet) (payload : Lis
   pushed-at e a b = e ∙ rw (a, b)
 
 -- take_packet
-pub reading-by : (now : ℤ) {n : ℤ} → isReading now ≡ true → n ≡ now → isReading n ≡ true
-reading-by now e p = rw p e
-
 pub taken-up : (h : Head) (ws bs : List ℕ) (now : ℤ) (p : Packet) (payload : List ℕ) {u : Pushed} {ws₁ bs₁ : List ℕ} {n n₁ : ℤ} {r : Handled}
     → r ≡ afterPush h (u .window) (u .answer) n₁ (p .number) (length payload) → n₁ ≡ now
     → pushEnded u ws₁ bs₁ ≡ pushOf (h .window) ws bs (natAbs n) p payload → n ≡ now
@@ -113,4 +114,22 @@ taken-up h ws bs now p payload {u} {ws₁} {bs₁} f c e b =
     let q : pushEnded u ws₁ bs₁ ≡ pushOf (h .window) ws bs (natAbs now) p payload = e ∙ rw b in
     rw (f, c, ← q)
 
-pub ruleset datas = (too-early, arrivals-fit, links-fit, rated, acked-light, acked, got-recovered, got-appended, after-got, after-loss, after-refused, reading-under, pushed-at, reading-by, taken-up, needs)
+-- the call: its refusal, as the code and the definition have it
+module _ (h : Head) (ws bs : List ℕ) (now : ℤ) (p : Packet) (payload : List ℕ) where
+  pub data-ready : {n : ℕ} → n ≡ firstRefusal (pushRules (headOk h) (h .window .capacity) (length ws) (length bs) now (h .latest) p (length payload)) → n ≡ 0
+      → PushReady h ws bs now p payload
+  data-ready b z = push-ready h ws bs now p payload (sym b ∙ z)
+
+  module _ {t : ℤ} {n : ℕ} (b : n ≡ firstRefusal (pushRules (headOk h) (h .window .capacity) (length ws) (length bs) t (h .latest) p (length payload))) (q : t ≡ now) where
+    same : n ≡ firstRefusal (pushRules (headOk h) (h .window .capacity) (length ws) (length bs) now (h .latest) p (length payload))
+    same = b ∙ rw q
+
+    pub data-taken : {m : ℤ} {o : DataOutcome} → n ≡ 0 → o ≡ takenOf h ws bs m p payload → m ≡ now → o ≡ dataOf h ws bs now p payload
+    unfolding dataOf
+    data-taken z f e = f ∙ rw e (sym (taken (takenOf h ws bs now p payload) (λ n. dataEnded (record { head = h; answer = answers.Refused n }) ws bs) same z))
+
+    pub data-refused : (n ≡ 0 → ⊥) → dataEnded (record { head = h; answer = answers.Refused n }) ws bs ≡ dataOf h ws bs now p payload
+    unfolding dataOf
+    data-refused z = sym (refused (takenOf h ws bs now p payload) (λ n. dataEnded (record { head = h; answer = answers.Refused n }) ws bs) same z)
+
+pub ruleset datas = (too-early, arrivals-fit, links-fit, rated, acked-light, acked, got-recovered, got-appended, after-got, after-loss, after-refused, reading-under, pushed-at, taken-up, data-ready, data-taken, data-refused, needs)

@@ -7,7 +7,7 @@ ghost use Rattle.numbers.specs.Whole.{isReading};
 ghost use Rattle.window.specs.Window.{Good, Bytes};
 ghost use Rattle.window.specs.Push.{Right, pushEnded, pushOf};
 ghost use Rattle.head.proofs.Ready.{PushReady};
-ghost use Rattle.receiver.specs.Data.{withWindow, withRates, withHistory, refusedBy, ratedOf, ackedOf, gotOf, afterPush, takenOf, dataEnded};
+ghost use Rattle.receiver.specs.Data.{withWindow, withRates, withHistory, refusedBy, ratedOf, ackedOf, gotOf, afterPush, takenOf, dataEnded, packet, dataOf};
 use acks::history::History;
 use acks::rates::Arrivals;
 use acks::rates::Links;
@@ -178,4 +178,33 @@ fn take_packet(
     let size = payload.len() as u32;
     let pushed = push_at(w, words, bytes, time, p, payload);
     after_push(h, pushed, time, number, size)
+}
+
+pub fn handle_data_packet(
+    h: Head,
+    words: &mut [u64],
+    bytes: &mut [u8],
+    time: i64,
+    number: u32,
+    message: u32,
+    location: u32,
+    stamp: u32,
+    payload: &[u8],
+) -> Handled
+    ensures { λ r. ⌜ dataEnded r (now (words .exit)) (now (bytes .exit)) ≡ dataOf h (now (words .entry)) (now (bytes .entry)) time (packet number message location stamp) (now (payload .entry)) ⌝ }
+{
+    let p = Packet {
+        number,
+        message,
+        location,
+        stamp,
+    };
+    let n = head::refuse::push(h, words.len(), bytes.len(), time, p, payload.len());
+    if n == 0 {
+        return take_packet(h, words, bytes, time, p, payload);
+    }
+    Handled {
+        head: h,
+        answer: DataAnswer::Refused(n),
+    }
 }
