@@ -1,6 +1,6 @@
 -- What the code of data.rt does at each return, as laws over plain values. A signed number stands twice, as it is and as the machine reads it
 -- back. Assumes nothing.
-use mathlib.Core.Path.{_≡_, refl, sym, _∙_, ap}
+use mathlib.Core.Path.{_≡_, refl, sym, _∙_}
 use mathlib.Core.Bool.{Bool, true, false}
 use mathlib.Core.List.{List, [], _∷_}
 use Prim.Native.Nat.{ℕ, _<_, _≤_, _^_}
@@ -29,7 +29,7 @@ use Rattle.head.specs.Head.{headOk}
 use Rattle.head.specs.declared.state.Head.{Head}
 use Rattle.head.proofs.Gates.{taken, refused}
 use Rattle.head.proofs.Ready.{PushReady, push-ready}
-use Rattle.receiver.specs.Data.{withWindow, withRates, withHistory, refusedBy, ackedOf, ratedOf, gotOf, afterPush, DataOutcome, dataEnded, takenOf, dataOf}
+use Rattle.receiver.specs.Data.{withWindow, withRates, withHistory, refusedBy, refusedOf, ackedOf, ratedOf, gotOf, afterPush, DataOutcome, dataEnded, takenOf, dataOf}
 use Rattle.receiver.specs.declared.data.Handled.{Handled}
 use Rattle.receiver.specs.declared.data.DataAnswer.{DataAnswer}
 use Rattle.receiver.specs.declared.data.DataAnswer.the-variants as answers
@@ -83,7 +83,7 @@ module _ (h : Head) (w : Window) (now : ℤ) (number size : ℕ) {a : PushAnswer
   after-loss e f p = rw (e, f, p)
 
 others : (h : Head) (w : Window) (a : PushAnswer) (now : ℤ) (number size : ℕ) → OneOf (1 ∷ 2 ∷ 3 ∷ 4 ∷ 5 ∷ []) (tagOf the-type a) → OneOf (0 ∷ 2 ∷ 3 ∷ 4 ∷ 5 ∷ []) (tagOf the-type a)
-    → _≡_ {A = Handled} (record { head = h; answer = refusedBy a }) (afterPush h w a now number size)
+    → refusedOf h a ≡ afterPush h w a now number size
 others h w (pushes.Got lrsn recovered) now number size p q = absurd (miss (1 ∷ 2 ∷ 3 ∷ 4 ∷ 5 ∷ []) 0 tt p)
 others h w (pushes.Loss first last) now number size p q = absurd (miss (0 ∷ 2 ∷ 3 ∷ 4 ∷ 5 ∷ []) 1 tt q)
 others h w pushes.BufferFull now number size p q = refl

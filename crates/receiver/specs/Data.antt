@@ -1,5 +1,5 @@
 -- A data packet: 01, "Window" with refusals 1 to 10, and of "ACKs, RTT, rates" what a push does.
-use mathlib.Core.Bool.{Bool, true, false, cond}
+use mathlib.Core.Bool.{Bool, cond}
 use mathlib.Core.List.{List}
 use Prim.Native.Nat.{ℕ}
 use lib.IntN.{ℤ, natAbs}
@@ -9,8 +9,7 @@ use Rattle.acks.specs.History.{lightAckOf}
 use Rattle.acks.specs.declared.rates.Arrivals.{Arrivals}
 use Rattle.acks.specs.declared.rates.Links.{Links}
 use Rattle.acks.specs.declared.history.History.{History}
-use Rattle.acks.specs.declared.history.LightAcked.{LightAcked}
-use Rattle.window.specs.Push.{PushOutcome, pushOf}
+use Rattle.window.specs.Push.{pushOf}
 use Rattle.window.specs.declared.Window.{Window}
 use Rattle.window.specs.declared.push.Packet.{Packet}
 use Rattle.window.specs.declared.push.PushAnswer.{PushAnswer}
@@ -105,14 +104,18 @@ ratedOf h now number size = withRates h (arrivalOf (h .arrivals) now size) (link
 unfoldable pub gotOf : Head → Window → ℕ → Bool → ℤ → ℕ → ℕ → Handled
 gotOf h w lrsn recovered now number size = ackedOf (withWindow (cond recovered h (ratedOf h now number size)) w now) lrsn recovered
 
--- the window's answer as the call's; a refusal leaves the head
+-- a refusal leaves the head
+abbrev pub refusedOf : Head → PushAnswer → Handled
+refusedOf h a = record { head = h; answer = refusedBy a }
+
+-- the window's answer as the call's
 abbrev pub afterPush : Head → Window → PushAnswer → ℤ → ℕ → ℕ → Handled
 afterPush h w (pushes.Got lrsn recovered) now number size = gotOf h w lrsn recovered now number size
 afterPush h w (pushes.Loss first last) now number size = record { head = withWindow h w now; answer = answers.Loss first last }
-afterPush h w pushes.BufferFull now number size = record { head = h; answer = answers.Refused 7 }
-afterPush h w (pushes.PacketTooEarly room need) now number size = record { head = h; answer = answers.PacketTooEarly room need }
-afterPush h w pushes.PacketTooLate now number size = record { head = h; answer = answers.Refused 9 }
-afterPush h w pushes.DiscardedDuplicate now number size = record { head = h; answer = answers.Refused 10 }
+afterPush h w pushes.BufferFull now number size = refusedOf h pushes.BufferFull
+afterPush h w (pushes.PacketTooEarly room need) now number size = refusedOf h (pushes.PacketTooEarly room need)
+afterPush h w pushes.PacketTooLate now number size = refusedOf h pushes.PacketTooLate
+afterPush h w pushes.DiscardedDuplicate now number size = refusedOf h pushes.DiscardedDuplicate
 
 module _ (h : Head) (ws bs : List ℕ) (now : ℤ) (p : Packet) (payload : List ℕ) where
   -- the push, at a reading, which is not negative; a refusal of the window leaves its areas

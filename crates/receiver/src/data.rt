@@ -1,9 +1,9 @@
 // A data packet comes, arq.rs `handle_data_packet`: 01, "Window" with refusals 1 to 10, and of "ACKs, RTT, rates" what a push does.
 ghost use mathlib.Core.Path.{_≡_};
 ghost use mathlib.Core.Bool.{true};
-ghost use Rattle.acks.specs.Rates.{arrivalsOk, linksOk};
 ghost use lib.IntN.{natAbs};
 ghost use Rattle.numbers.specs.Whole.{isReading};
+ghost use Rattle.acks.specs.Rates.{arrivalsOk, linksOk};
 ghost use Rattle.window.specs.Window.{Good, Bytes};
 ghost use Rattle.window.specs.Push.{Right, pushEnded, pushOf};
 ghost use Rattle.head.proofs.Ready.{PushReady};
@@ -145,7 +145,7 @@ fn after_push(h: Head, pushed: Pushed, time: i64, number: u32, size: u32) -> Han
     got(h, window, lrsn, recovered, time, number, size)
 }
 
-// The push alone, at a reading.
+// The push alone: a reading is not negative, so the window takes it without its sign.
 fn push_at(
     w: Window,
     words: &mut [u64],
