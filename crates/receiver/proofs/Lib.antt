@@ -1,4 +1,5 @@
 -- The laws of the public calls.
 pub mod Requests
 pub mod Shows
+pub mod Datas
 pub mod Syncs

@@ -1,4 +1,5 @@
 -- The definitions of the public calls.
 pub mod Request
 pub mod Show
+pub mod Data
 pub mod Sync

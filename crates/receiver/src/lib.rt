@@ -1,4 +1,5 @@
 // The receiver's public calls, arq.rs: each takes any arguments and any lent contents. 01, "Refused, in order of test" and what follows it.
 pub mod request;
 pub mod show;
+pub mod data;
 pub mod sync;

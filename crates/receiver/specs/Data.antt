@@ -1,0 +1,131 @@
+-- A data packet: 01, "Window" with refusals 1 to 10, and of "ACKs, RTT, rates" what a push does.
+use mathlib.Core.Bool.{Bool, cond}
+use mathlib.Core.List.{List}
+use Prim.Native.Nat.{ℕ}
+use lib.IntN.{ℤ, natAbs}
+use lib.ListN.{length}
+use Rattle.acks.specs.Rates.{arrivalOf, linkOf}
+use Rattle.acks.specs.History.{lightAckOf}
+use Rattle.acks.specs.declared.rates.Arrivals.{Arrivals}
+use Rattle.acks.specs.declared.rates.Links.{Links}
+use Rattle.acks.specs.declared.history.History.{History}
+use Rattle.window.specs.Push.{pushOf}
+use Rattle.window.specs.declared.Window.{Window}
+use Rattle.window.specs.declared.push.Packet.{Packet}
+use Rattle.window.specs.declared.push.PushAnswer.{PushAnswer}
+use Rattle.window.specs.declared.push.PushAnswer.the-variants as pushes
+use Rattle.head.specs.Rules.{firstRefusal, judged, pushRules}
+use Rattle.head.specs.Head.{headOk}
+use Rattle.head.specs.declared.state.Head.{Head}
+use Rattle.receiver.specs.declared.data.Handled.{Handled}
+use Rattle.receiver.specs.declared.data.DataAnswer.{DataAnswer}
+use Rattle.receiver.specs.declared.data.DataAnswer.the-variants as answers
+
+-- all that the call leaves: the head and the answer, the slot area and the payload area
+pub record DataOutcome : Type 0 where
+  pub handled : Handled
+  pub slots : List ℕ
+  pub payloads : List ℕ
+
+abbrev pub dataEnded : Handled → List ℕ → List ℕ → DataOutcome
+dataEnded r ws bs = record { handled = r; slots = ws; payloads = bs }
+
+abbrev pub packet : ℕ → ℕ → ℕ → ℕ → Packet
+packet number message location stamp = record { number = number; message = message; location = location; stamp = stamp }
+
+-- the head with another window, and the reading as its latest
+abbrev pub withWindow : Head → Window → ℤ → Head
+withWindow h w now =
+    record {
+      window = w;
+      latency = h .latency;
+      dropping = h .dropping;
+      clock = h .clock;
+      rtt = h .rtt;
+      arrivals = h .arrivals;
+      links = h .links;
+      history = h .history;
+      latest = now;
+    }
+
+-- the head with other windows of intervals
+abbrev pub withRates : Head → Arrivals → Links → Head
+withRates h a l =
+    record {
+      window = h .window;
+      latency = h .latency;
+      dropping = h .dropping;
+      clock = h .clock;
+      rtt = h .rtt;
+      arrivals = a;
+      links = l;
+      history = h .history;
+      latest = h .latest;
+    }
+
+-- the head with another history
+abbrev pub withHistory : Head → History → Head
+withHistory h y =
+    record {
+      window = h .window;
+      latency = h .latency;
+      dropping = h .dropping;
+      clock = h .clock;
+      rtt = h .rtt;
+      arrivals = h .arrivals;
+      links = h .links;
+      history = y;
+      latest = h .latest;
+    }
+
+-- the window's refusals, 7 to 10; 8 returns both of its numbers; 0 for an answer that is none
+abbrev pub refusedBy : PushAnswer → DataAnswer
+refusedBy (pushes.Got lrsn recovered) = answers.Refused 0
+refusedBy (pushes.Loss first last) = answers.Refused 0
+refusedBy pushes.BufferFull = answers.Refused 7
+refusedBy (pushes.PacketTooEarly room need) = answers.PacketTooEarly room need
+refusedBy pushes.PacketTooLate = answers.Refused 9
+refusedBy pushes.DiscardedDuplicate = answers.Refused 10
+
+-- light ACK: lrsn at last_ack_dsn + 64 or after; it sets last_ack_dsn
+abbrev pub gotAnswer : Bool → ℕ → Bool → DataAnswer
+gotAnswer light lrsn recovered = cond light (answers.Light lrsn recovered) (answers.Got lrsn recovered)
+
+unfoldable pub ackedOf : Head → ℕ → Bool → Handled
+ackedOf h lrsn recovered =
+    let l = lightAckOf (h .history) lrsn in
+    record { head = withHistory h (l .history); answer = gotAnswer (l .light) lrsn recovered }
+
+-- rates count appends without gap
+unfoldable pub ratedOf : Head → ℤ → ℕ → ℕ → Head
+ratedOf h now number size = withRates h (arrivalOf (h .arrivals) now size) (linkOf (h .links) now number)
+
+-- an append without gap or a recovery
+unfoldable pub gotOf : Head → Window → ℕ → Bool → ℤ → ℕ → ℕ → Handled
+gotOf h w lrsn recovered now number size = ackedOf (withWindow (cond recovered h (ratedOf h now number size)) w now) lrsn recovered
+
+-- a refusal leaves the head
+abbrev pub refusedOf : Head → PushAnswer → Handled
+refusedOf h a = record { head = h; answer = refusedBy a }
+
+-- the window's answer as the call's
+abbrev pub afterPush : Head → Window → PushAnswer → ℤ → ℕ → ℕ → Handled
+afterPush h w (pushes.Got lrsn recovered) now number size = gotOf h w lrsn recovered now number size
+afterPush h w (pushes.Loss first last) now number size = record { head = withWindow h w now; answer = answers.Loss first last }
+afterPush h w pushes.BufferFull now number size = refusedOf h pushes.BufferFull
+afterPush h w (pushes.PacketTooEarly room need) now number size = refusedOf h (pushes.PacketTooEarly room need)
+afterPush h w pushes.PacketTooLate now number size = refusedOf h pushes.PacketTooLate
+afterPush h w pushes.DiscardedDuplicate now number size = refusedOf h pushes.DiscardedDuplicate
+
+module _ (h : Head) (ws bs : List ℕ) (now : ℤ) (p : Packet) (payload : List ℕ) where
+  -- the push, at a reading, which is not negative; a refusal of the window leaves its areas
+  unfoldable pub takenOf : DataOutcome
+  takenOf =
+      let o = pushOf (h .window) ws bs (natAbs now) p payload in
+      dataEnded (afterPush h (o .pushed .window) (o .pushed .answer) now (p .number) (length payload)) (o .slots) (o .payloads)
+
+  unfoldable pub dataOf : DataOutcome
+  dataOf =
+      judged (firstRefusal (pushRules (headOk h) (h .window .capacity) (length ws) (length bs) now (h .latest) p (length payload)))
+      takenOf
+      (λ n. dataEnded (record { head = h; answer = answers.Refused n }) ws bs)
