@@ -1,3 +1,4 @@
 -- The laws of the public calls.
 pub mod Syncs
 pub mod Messages
+pub mod Losses

@@ -1,6 +1,6 @@
 -- What the code of message.rt does at each return, as laws over plain values. A signed number stands twice, as it is and as the machine reads it
 -- back. Assumes nothing.
-use mathlib.Core.Path.{_≡_, refl, sym, _∙_, ap}
+use mathlib.Core.Path.{_≡_, sym, _∙_, ap}
 use mathlib.Core.List.{List, [], _∷_}
 use Prim.Native.Nat.{ℕ}
 use borrow.Author.Needs.{needs}
@@ -15,12 +15,12 @@ use Rattle.window_pop.specs.declared.pop.Popped.{Popped}
 use Rattle.window_pop.specs.declared.pop.PopAnswer.{PopAnswer}
 use Rattle.window_pop.specs.declared.pop.PopAnswer.the-variants as pops
 use Rattle.window_pop.proofs.pop.PopAnswer.{the-type}
-use Rattle.head.specs.Rules.{firstRefusal, judged, popRules}
+use Rattle.head.specs.Rules.{firstRefusal, popRules}
 use Rattle.head.specs.Head.{headOk}
 use Rattle.head.specs.declared.state.Head.{Head}
 use Rattle.head.proofs.Gates.{taken, refused}
 use Rattle.head.proofs.Ready.{pop-ready}
-use Rattle.receiver.specs.Message.{GivenOutcome, givenEnded, withPop, answerOf, afterPop, popped, takenOf, messageOf}
+use Rattle.receiver.specs.Message.{givenEnded, withPop, answerOf, afterPop, popped, takenOf, messageOf}
 use Rattle.receiver.specs.declared.message.Given.{Given}
 use Rattle.receiver.specs.declared.message.MessageAnswer.{MessageAnswer}
 use Rattle.receiver.specs.declared.message.MessageAnswer.the-variants as answers

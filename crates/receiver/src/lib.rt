@@ -1,3 +1,4 @@
 // The receiver's public calls, arq.rs: each takes any arguments and any lent contents. 01, "Refused, in order of test" and what follows it.
+pub mod loss;
 pub mod message;
 pub mod sync;

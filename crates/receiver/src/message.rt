@@ -6,7 +6,6 @@ use clock::time::SynchronizedRemoteClock;
 use head::state::Head;
 use window::Window;
 use window_pop::pop::PopAnswer;
-use window_pop::pop::Popped;
 
 pub enum MessageAnswer {
     Nothing,
@@ -69,18 +68,7 @@ fn after_pop(
 ) -> Given
     ensures { λ r. ⌜ r ≡ afterPop h window clock answer time ⌝ }
 {
-    let (PopAnswer::Nothing
-    | PopAnswer::Message {
-        time: _,
-        bytes: _,
-        packets: _,
-    }
-    | PopAnswer::Late {
-        first: _,
-        end: _,
-        delay: _,
-    }) = answer
-    else {
+    let (PopAnswer::Nothing | PopAnswer::Message { .. } | PopAnswer::Late { .. }) = answer else {
         return Given {
             head: h,
             answer: MessageAnswer::Refused(11),
