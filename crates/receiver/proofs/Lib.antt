@@ -2,3 +2,4 @@
 pub mod Syncs
 pub mod Messages
 pub mod Losses
+pub mod Stays
