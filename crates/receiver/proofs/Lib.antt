@@ -3,3 +3,6 @@ pub mod Requests
 pub mod Shows
 pub mod Datas
 pub mod Syncs
+pub mod Messages
+pub mod Losses
+pub mod Stays

@@ -3,3 +3,5 @@ pub mod Request
 pub mod Show
 pub mod Data
 pub mod Sync
+pub mod Message
+pub mod Loss

@@ -2,4 +2,6 @@
 pub mod request;
 pub mod show;
 pub mod data;
+pub mod loss;
+pub mod message;
 pub mod sync;

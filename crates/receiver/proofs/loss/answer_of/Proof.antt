@@ -1,0 +1,14 @@
+use Rattle.receiver.proofs.Losses.{losses}
+use Rattle.receiver.proofs.loss.answer_of.Statement.{statement}
+use Rattle.receiver.proofs.loss.answer_of.Tie as tie
+
+pub answer-of-spec : {M : Type 1} → statement M
+answer-of-spec =
+    tie.close
+    (tie.spec
+    (λ c. search losses)
+    (λ c. search losses)
+    (λ c. search losses)
+    (λ c. search losses)
+    (λ c. search losses)
+    (λ c. search losses))

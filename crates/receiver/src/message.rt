@@ -1,0 +1,108 @@
+// The pop call, arq.rs `pop_next_message`: 01, "Window", with refusals 1 to 4 and 11.
+ghost use mathlib.Core.Path.{_≡_};
+ghost use Rattle.receiver.specs.Message.{givenEnded, withPop, answerOf, afterPop, takenOf, messageOf};
+ghost use Rattle.window_pop.specs.Pop.{PopReady};
+use clock::time::SynchronizedRemoteClock;
+use head::state::Head;
+use window::Window;
+use window_pop::pop::PopAnswer;
+
+pub enum MessageAnswer {
+    Nothing,
+    Message {
+        time: i64,
+        bytes: usize,
+        packets: usize,
+    },
+    Late {
+        first: u32,
+        end: u32,
+        delay: i32,
+    },
+    Refused(u32),
+}
+
+pub struct Given {
+    pub head: Head,
+    pub answer: MessageAnswer,
+}
+
+// The head with another window and clock, at a reading.
+fn with_pop(h: Head, window: Window, clock: SynchronizedRemoteClock, time: i64) -> Head
+    ensures { λ r. ⌜ r ≡ withPop h window clock time ⌝ }
+{
+    let mut next = h;
+    next.window = window;
+    next.clock = clock;
+    next.latest = time;
+    next
+}
+
+// The window's answer as the call's.
+fn answer_of(answer: PopAnswer) -> MessageAnswer
+    ensures { λ r. ⌜ r ≡ answerOf answer ⌝ }
+{
+    match answer {
+        PopAnswer::Nothing => MessageAnswer::Nothing,
+        PopAnswer::Message {
+            time,
+            bytes,
+            packets,
+        } => MessageAnswer::Message {
+            time,
+            bytes,
+            packets,
+        },
+        PopAnswer::Late { first, end, delay } => MessageAnswer::Late { first, end, delay },
+        PopAnswer::OutShort => MessageAnswer::Refused(11),
+    }
+}
+
+// An output that is short leaves the head; all else moves it on.
+fn after_pop(
+    h: Head,
+    window: Window,
+    clock: SynchronizedRemoteClock,
+    answer: PopAnswer,
+    time: i64,
+) -> Given
+    ensures { λ r. ⌜ r ≡ afterPop h window clock answer time ⌝ }
+{
+    let (PopAnswer::Nothing | PopAnswer::Message { .. } | PopAnswer::Late { .. }) = answer else {
+        return Given {
+            head: h,
+            answer: MessageAnswer::Refused(11),
+        };
+    };
+    Given {
+        head: with_pop(h, window, clock, time),
+        answer: answer_of(answer),
+    }
+}
+
+// The call, once nothing refuses it.
+fn release(h: Head, words: &[u64], bytes: &[u8], out: &mut [u8], time: i64) -> Given
+    requires { ⌜ PopReady (h .clock) (h .latency) (h .window) (now words) (now bytes) time ⌝ }
+    ensures { λ r. ⌜ givenEnded r (now (out .exit)) ≡ takenOf h (now (words .entry)) (now (bytes .entry)) (now (out .entry)) time ⌝ }
+{
+    let w = h.window;
+    let k = h.clock;
+    let popped = window_pop::pop::pop(w, k, h.latency, h.dropping, words, bytes, out, time);
+    let window = popped.window;
+    let clock = popped.clock;
+    let answer = popped.answer;
+    after_pop(h, window, clock, answer, time)
+}
+
+pub fn pop_next_message(h: Head, words: &[u64], bytes: &[u8], out: &mut [u8], time: i64) -> Given
+    ensures { λ r. ⌜ givenEnded r (now (out .exit)) ≡ messageOf h (now (words .entry)) (now (bytes .entry)) (now (out .entry)) time ⌝ }
+{
+    let n = head::refuse::pop(h, words.len(), bytes.len(), time);
+    if n == 0 {
+        return release(h, words, bytes, out, time);
+    }
+    Given {
+        head: h,
+        answer: MessageAnswer::Refused(n),
+    }
+}
