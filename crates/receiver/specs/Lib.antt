@@ -1,2 +1,3 @@
 -- The definitions of the public calls.
+pub mod Acking
 pub mod Sync

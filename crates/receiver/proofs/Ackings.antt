@@ -1,0 +1,115 @@
+-- What the code of acking.rt does at each return, as laws over plain values. A signed number stands twice, as it is and as the machine reads
+-- it back. Assumes nothing.
+use mathlib.Core.Path.{_≡_, refl, sym, _∙_, ap}
+use mathlib.Core.Bool.{Bool, true, _&&_}
+use mathlib.Core.List.{List}
+use Prim.Native.Nat.{ℕ, _≤_, _^_}
+use borrow.Author.Needs.{needs}
+use borrow.Author.Tests.{eq-eqb, ne-eqb, leb-true}
+use lib.Dec.{eqb, leb, ltb}
+use lib.IntN.{ℤ, natAbs}
+use lib.ListN.{length}
+use Rattle.numbers.proofs.Flags.{and-left, and-right}
+use Rattle.acks.specs.History.{Right, AckOutcome, ackEnded, fullAckOf, ack2Of}
+use Rattle.acks.specs.Rates.{speedOf, capacityOf}
+use Rattle.acks.specs.Rtt.{updated}
+use Rattle.acks.specs.declared.history.History.{History}
+use Rattle.acks.specs.declared.history.Acked.{Acked}
+use Rattle.acks.specs.declared.history.AckAnswer.{AckAnswer}
+use Rattle.acks.specs.declared.history.AckAnswer.the-variants as acks
+use Rattle.acks.specs.declared.history.Answered.{Answered}
+use Rattle.acks.specs.declared.history.Ack2Answer.{Ack2Answer}
+use Rattle.acks.specs.declared.history.Ack2Answer.the-variants as acks2
+use Rattle.acks.specs.declared.rates.Arrivals.{Arrivals}
+use Rattle.acks.specs.declared.rates.Links.{Links}
+use Rattle.acks.specs.declared.rates.Speed.{Speed}
+use Rattle.acks.specs.declared.rates.Link.{Link}
+use Rattle.acks.specs.declared.rtt.Rtt.{Rtt}
+use Rattle.acks.proofs.HistoryKept.{right}
+use Rattle.window.specs.Window.{roomOf}
+use Rattle.window.specs.declared.Window.{Window}
+use Rattle.head.specs.Rules.{firstRefusal, judged, timedRules}
+use Rattle.head.specs.Head.{windowOk, headOk}
+use Rattle.head.specs.declared.state.Head.{Head}
+use Rattle.head.proofs.Gates.{taken, refused}
+use Rattle.head.proofs.Ready.{InRange, timed-ready}
+use Rattle.receiver.specs.Acking.{AckReady, withLatest, withHistory, withRtt, figuresOf, afterAck, fullAckEnded, ofHistory, roomyAck, dueAck, fullAckEventOf, FullAckOutcome}
+use Rattle.receiver.specs.declared.acking.FullAcked.{FullAcked}
+use Rattle.receiver.specs.declared.acking.FullAckAnswer.{FullAckAnswer}
+use Rattle.receiver.specs.declared.acking.FullAckAnswer.the-variants as answers
+
+-- figures
+pub figured : (n : ℕ) (w : Window) (t : Rtt) (a : Arrivals) (l : Links) {room : ℕ} {speed : Speed} {link : Link}
+    → room ≡ roomOf w → speed ≡ speedOf a → link ≡ capacityOf l → answers.Ack n (w .lrsn) (t .mean) (t .variance) room speed link ≡ figuresOf n w t a l
+figured n w t a l e f g = rw (e, f, g)
+
+pub room-holds : (w : Window) → windowOk w ≡ true → w .held ≤ w .capacity
+room-holds w e =
+    let a = leb 1 (w .capacity) in
+    let b = leb (w .capacity) 8192 in
+    let c = ltb (w .start) (w .capacity) in
+    let d = leb (w .held) (w .capacity) in
+    let f = ltb (w .seqno0) (2 ^ 31) in
+    leb-true (w .held) (w .capacity) (and-right (a && b && c) d (and-left (a && b && c && d) _ (and-left (a && b && c && d && f) _ e)))
+
+module _ (h : Head) where
+  pub room-ready : InRange h → h .window .held ≤ h .window .capacity
+  room-ready i = room-holds (h .window) (i .window)
+
+  pub history-ready : (a : List ℕ) → InRange h → 2048 ≤ length a → Right (h .history) a
+  history-ready a i l = right (h .history) a (i .history) l
+
+-- after_ack
+module _ (h : Head) (y : History) (now : ℤ) {a : AckAnswer} where
+  pub ack-nothing : {g : Head} {n : ℤ} → a ≡ acks.Nothing → g ≡ withLatest h n → n ≡ now → _≡_ {A = FullAcked} (record { head = g; answer = answers.Nothing }) (afterAck h y a now)
+  ack-nothing e f p = rw (e, f, p)
+
+  pub ack-worn : a ≡ acks.Worn → _≡_ {A = FullAcked} (record { head = h; answer = answers.Refused 13 }) (afterAck h y a now)
+  ack-worn e = rw e
+
+  pub ack-given : {k : ℕ} {g : Head} {n : ℤ} {r : FullAckAnswer}
+      → a ≡ acks.Ack k → g ≡ withHistory h y n → n ≡ now → r ≡ figuresOf k (h .window) (h .rtt) (h .arrivals) (h .links)
+      → _≡_ {A = FullAcked} (record { head = g; answer = r }) (afterAck h y a now)
+  ack-given e f p g = rw (e, f, p, g)
+
+-- roomy_ack, due_ack
+module _ (h : Head) (a : List ℕ) (now : ℤ) {a₁ : List ℕ} where
+  pub acked : {m : ℕ} {z n : ℤ} {k : Acked} {r : FullAcked}
+      → ackEnded k a₁ ≡ fullAckOf (h .history) a m (h .rtt .mean) (h .latency) (h .window .lrsn) → m ≡ natAbs z → z ≡ now
+      → r ≡ afterAck h (k .history) (k .answer) n → n ≡ now → fullAckEnded r a₁ ≡ roomyAck h a now
+  unfolding roomyAck
+  acked {k = k} e f p g q =
+      let o = fullAckOf (h .history) a (natAbs now) (h .rtt .mean) (h .latency) (h .window .lrsn) in
+      let d : ackEnded k a₁ ≡ o = e ∙ rw (f, p) in
+      rw (g, q) (ap (λ (x : AckOutcome). ofHistory h x now) {x = ackEnded k a₁} {y = o} d)
+
+  pub ack-roomy : {t : ℕ} {n : ℤ} {r : FullAcked}
+      → t ≡ roomOf (h .window) → (t ≡ 0 → ⊥) → fullAckEnded r a₁ ≡ roomyAck h a n → n ≡ now → fullAckEnded r a₁ ≡ dueAck h a now
+  unfolding dueAck
+  ack-roomy e z f p = f ∙ rw (← e, ne-eqb _ _ z, p)
+
+pub ack-no-room : (h : Head) (a : List ℕ) (now : ℤ) {t : ℕ} {n : ℤ} {g : Head}
+    → t ≡ roomOf (h .window) → t ≡ 0 → g ≡ withLatest h n → n ≡ now → fullAckEnded (record { head = g; answer = answers.Nothing }) a ≡ dueAck h a now
+unfolding dueAck
+ack-no-room h a now e z f p = rw (← e, eq-eqb _ _ z, f, p)
+
+-- on_full_ack_event
+pub acking-ready : (h : Head) (a : List ℕ) (t : ℤ) {n : ℕ} → n ≡ firstRefusal (timedRules (headOk h) (length a) 2048 t (h .latest)) → n ≡ 0 → AckReady h a
+acking-ready h a t b z = let r = timed-ready h t (length a) 2048 (sym b ∙ z) in record { head = r .0 .head; words = r .1 }
+
+module _ (h : Head) (a : List ℕ) (now : ℤ) {t : ℤ} {n : ℕ} (b : n ≡ firstRefusal (timedRules (headOk h) (length a) 2048 t (h .latest))) (p : t ≡ now) where
+  same : n ≡ firstRefusal (timedRules (headOk h) (length a) 2048 now (h .latest))
+  same = b ∙ rw p
+
+  stays : ℕ → FullAckOutcome
+  stays k = fullAckEnded (record { head = h; answer = answers.Refused k }) a
+
+  pub event-taken : {m : ℤ} {r : FullAcked} {a₁ : List ℕ} → n ≡ 0 → fullAckEnded r a₁ ≡ dueAck h a m → m ≡ now → fullAckEnded r a₁ ≡ fullAckEventOf h a now
+  unfolding fullAckEventOf stays
+  event-taken z f e = f ∙ rw e (sym (taken (dueAck h a now) stays same z))
+
+  pub event-refused : (n ≡ 0 → ⊥) → fullAckEnded (record { head = h; answer = answers.Refused n }) a ≡ fullAckEventOf h a now
+  unfolding fullAckEventOf stays
+  event-refused z = sym (refused (dueAck h a now) stays same z)
+
+pub ruleset ackings = (figured, room-ready, history-ready, ack-nothing, ack-worn, ack-given, acked, ack-roomy, ack-no-room, acking-ready, event-taken, event-refused, needs)
