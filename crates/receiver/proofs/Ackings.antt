@@ -33,10 +33,12 @@ use Rattle.head.specs.Head.{windowOk, headOk}
 use Rattle.head.specs.declared.state.Head.{Head}
 use Rattle.head.proofs.Gates.{taken, refused}
 use Rattle.head.proofs.Ready.{InRange, timed-ready}
-use Rattle.receiver.specs.Acking.{AckReady, withLatest, withHistory, withRtt, figuresOf, afterAck, fullAckEnded, ofHistory, roomyAck, dueAck, fullAckEventOf, FullAckOutcome}
+use Rattle.receiver.specs.Acking.{AckReady, withLatest, withHistory, withRtt, figuresOf, afterAck, fullAckEnded, ofHistory, roomyAck, dueAck, fullAckEventOf, FullAckOutcome, afterAck2, heldAck2, ack2PacketOf}
 use Rattle.receiver.specs.declared.acking.FullAcked.{FullAcked}
 use Rattle.receiver.specs.declared.acking.FullAckAnswer.{FullAckAnswer}
 use Rattle.receiver.specs.declared.acking.FullAckAnswer.the-variants as answers
+use Rattle.receiver.specs.declared.acking.Ack2ed.{Ack2ed}
+use Rattle.receiver.specs.declared.acking.RttAnswer.the-variants as rtts
 
 -- figures
 pub figured : (n : ℕ) (w : Window) (t : Rtt) (a : Arrivals) (l : Links) {room : ℕ} {speed : Speed} {link : Link}
@@ -93,6 +95,20 @@ pub ack-no-room : (h : Head) (a : List ℕ) (now : ℤ) {t : ℕ} {n : ℤ} {g :
 unfolding dueAck
 ack-no-room h a now e z f p = rw (← e, eq-eqb _ _ z, f, p)
 
+-- after_ack2, held_ack2
+module _ (h : Head) (y : History) (now : ℤ) {a : Ack2Answer} {g : Head} {n : ℤ} where
+  pub ack2-nothing : a ≡ acks2.NotHeld → g ≡ withLatest h n → n ≡ now → _≡_ {A = Ack2ed} (record { head = g; answer = rtts.Nothing }) (afterAck2 h y a now)
+  ack2-nothing e f p = rw (e, f, p)
+
+  pub ack2-held : {r : ℕ} {t : Rtt} → a ≡ acks2.Held r → t ≡ updated (h .rtt) r → g ≡ withRtt h y t n → n ≡ now
+      → _≡_ {A = Ack2ed} (record { head = g; answer = rtts.Rtt (t .mean) (t .variance) }) (afterAck2 h y a now)
+  ack2-held e f i p = rw (e, i, f, p)
+
+pub ack2-answered : (h : Head) (a : List ℕ) (now : ℤ) (number : ℕ) {m : ℕ} {z n : ℤ} {k : Answered} {r : Ack2ed}
+    → k ≡ ack2Of (h .history) a m number → m ≡ natAbs z → z ≡ now → r ≡ afterAck2 h (k .history) (k .answer) n → n ≡ now → r ≡ heldAck2 h a now number
+unfolding heldAck2
+ack2-answered h a now number e f p g q = g ∙ rw (q, e, f, p)
+
 -- on_full_ack_event
 pub acking-ready : (h : Head) (a : List ℕ) (t : ℤ) {n : ℕ} → n ≡ firstRefusal (timedRules (headOk h) (length a) 2048 t (h .latest)) → n ≡ 0 → AckReady h a
 acking-ready h a t b z = let r = timed-ready h t (length a) 2048 (sym b ∙ z) in record { head = r .0 .head; words = r .1 }
@@ -112,4 +128,13 @@ module _ (h : Head) (a : List ℕ) (now : ℤ) {t : ℤ} {n : ℕ} (b : n ≡ fi
   unfolding fullAckEventOf stays
   event-refused z = sym (refused (dueAck h a now) stays same z)
 
-pub ruleset ackings = (figured, room-ready, history-ready, ack-nothing, ack-worn, ack-given, acked, ack-roomy, ack-no-room, acking-ready, event-taken, event-refused, needs)
+  -- handle_ack2_packet
+  pub packet-taken : (number : ℕ) {m : ℤ} {r : Ack2ed} → n ≡ 0 → r ≡ heldAck2 h a m number → m ≡ now → r ≡ ack2PacketOf h a now number
+  unfolding ack2PacketOf
+  packet-taken number z f e = f ∙ rw e (sym (taken (heldAck2 h a now number) (λ k. record { head = h; answer = rtts.Refused k }) same z))
+
+  pub packet-refused : (number : ℕ) → (n ≡ 0 → ⊥) → _≡_ {A = Ack2ed} (record { head = h; answer = rtts.Refused n }) (ack2PacketOf h a now number)
+  unfolding ack2PacketOf
+  packet-refused number z = sym (refused (heldAck2 h a now number) (λ k. record { head = h; answer = rtts.Refused k }) same z)
+
+pub ruleset ackings = (figured, room-ready, history-ready, ack-nothing, ack-worn, ack-given, acked, ack-roomy, ack-no-room, acking-ready, event-taken, event-refused, ack2-nothing, ack2-held, ack2-answered, packet-taken, packet-refused, needs)

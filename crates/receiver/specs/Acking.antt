@@ -26,6 +26,8 @@ use Rattle.head.proofs.Ready.{InRange}
 use Rattle.receiver.specs.declared.acking.FullAcked.{FullAcked}
 use Rattle.receiver.specs.declared.acking.FullAckAnswer.{FullAckAnswer}
 use Rattle.receiver.specs.declared.acking.FullAckAnswer.the-variants as answers
+use Rattle.receiver.specs.declared.acking.Ack2ed.{Ack2ed}
+use Rattle.receiver.specs.declared.acking.RttAnswer.the-variants as rtts
 
 -- what the tests of these calls have shown
 pub record AckReady (h : Head) (a : List ℕ) : Type 0 where
@@ -88,3 +90,20 @@ fullAckEventOf h a now =
     judged (firstRefusal (timedRules (headOk h) (length a) 2048 now (h .latest)))
     (dueAck h a now)
     (λ n. fullAckEnded (record { head = h; answer = answers.Refused n }) a)
+
+-- ACK2 of a held ACK: the history's new largest_ack2_dsn, and the round trip with the interval r; of another, `none`
+abbrev pub afterAck2 : Head → History → Ack2Answer → ℤ → Ack2ed
+afterAck2 h y acks2.NotHeld now = record { head = withLatest h now; answer = rtts.Nothing }
+afterAck2 h y (acks2.Held r) now =
+    record { head = withRtt h y (updated (h .rtt) r) now; answer = rtts.Rtt (updated (h .rtt) r .mean) (updated (h .rtt) r .variance) }
+
+unfoldable pub heldAck2 : Head → List ℕ → ℤ → ℕ → Ack2ed
+heldAck2 h a now number =
+    let k = ack2Of (h .history) a (natAbs now) number in
+    afterAck2 h (k .history) (k .answer) now
+
+unfoldable pub ack2PacketOf : Head → List ℕ → ℤ → ℕ → Ack2ed
+ack2PacketOf h a now number =
+    judged (firstRefusal (timedRules (headOk h) (length a) 2048 now (h .latest)))
+    (heldAck2 h a now number)
+    (λ n. record { head = h; answer = rtts.Refused n })

@@ -4,7 +4,7 @@ ghost use mathlib.Core.Bool.{true};
 ghost use Prim.Native.Nat.{_≤_};
 ghost use Rattle.acks.specs.Rates.{arrivalsOk};
 ghost use Rattle.head.proofs.Ready.{InRange};
-ghost use Rattle.receiver.specs.Acking.{AckReady, withLatest, withHistory, figuresOf, afterAck, roomyAck, dueAck, fullAckEnded, fullAckEventOf};
+ghost use Rattle.receiver.specs.Acking.{AckReady, withLatest, withHistory, withRtt, figuresOf, afterAck, roomyAck, dueAck, fullAckEnded, fullAckEventOf, afterAck2, heldAck2, ack2PacketOf};
 use acks::history::Ack2Answer;
 use acks::history::AckAnswer;
 use acks::history::Acked;
@@ -38,6 +38,17 @@ pub struct FullAcked {
     pub answer: FullAckAnswer,
 }
 
+pub enum RttAnswer {
+    Nothing,
+    Rtt { mean: u32, variance: u32 },
+    Refused(u32),
+}
+
+pub struct Ack2ed {
+    pub head: Head,
+    pub answer: RttAnswer,
+}
+
 // The head at a later reading.
 fn with_latest(h: Head, time: i64) -> Head
     ensures { λ r. ⌜ r ≡ withLatest h time ⌝ }
@@ -53,6 +64,17 @@ fn with_history(h: Head, history: History, time: i64) -> Head
 {
     let mut next = h;
     next.history = history;
+    next.latest = time;
+    next
+}
+
+// The same, with other figures of the round trip.
+fn with_rtt(h: Head, history: History, rtt: Rtt, time: i64) -> Head
+    ensures { λ r. ⌜ r ≡ withRtt h history rtt time ⌝ }
+{
+    let mut next = h;
+    next.history = history;
+    next.rtt = rtt;
     next.latest = time;
     next
 }
@@ -135,5 +157,52 @@ pub fn on_full_ack_event(h: Head, area: &mut [u64], time: i64) -> FullAcked
     FullAcked {
         head: h,
         answer: FullAckAnswer::Refused(n),
+    }
+}
+
+// The history's answer as the call's; a number that is not held moves the latest reading only.
+fn after_ack2(h: Head, history: History, answer: Ack2Answer, time: i64) -> Ack2ed
+    ensures { λ r. ⌜ r ≡ afterAck2 h history answer time ⌝ }
+{
+    let Ack2Answer::Held { r } = answer else {
+        return Ack2ed {
+            head: with_latest(h, time),
+            answer: RttAnswer::Nothing,
+        };
+    };
+    let old = h.rtt;
+    let rtt = old.update(r);
+    Ack2ed {
+        head: with_rtt(h, history, rtt, time),
+        answer: RttAnswer::Rtt {
+            mean: rtt.mean,
+            variance: rtt.variance,
+        },
+    }
+}
+
+// An ACK2, once nothing refuses it.
+fn held_ack2(h: Head, area: &[u64], time: i64, number: u32) -> Ack2ed
+    requires { ⌜ AckReady h (now area) ⌝ }
+    ensures { λ r. ⌜ r ≡ heldAck2 h (now (area .entry)) time number ⌝ }
+{
+    let y = h.history;
+    let size = numbers::instant::size(time);
+    let answered = y.calculate_ack2(area, size, number);
+    let history = answered.history;
+    let answer = answered.answer;
+    after_ack2(h, history, answer, time)
+}
+
+pub fn handle_ack2_packet(h: Head, area: &[u64], time: i64, number: u32) -> Ack2ed
+    ensures { λ r. ⌜ r ≡ ack2PacketOf h (now (area .entry)) time number ⌝ }
+{
+    let n = head::refuse::history(h, area.len(), time);
+    if n == 0 {
+        return held_ack2(h, area, time, number);
+    }
+    Ack2ed {
+        head: h,
+        answer: RttAnswer::Refused(n),
     }
 }
