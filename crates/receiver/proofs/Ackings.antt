@@ -1,16 +1,17 @@
 -- What the code of acking.rt does at each return, as laws over plain values. A signed number stands twice, as it is and as the machine reads
 -- it back. Assumes nothing.
-use mathlib.Core.Path.{_≡_, refl, sym, _∙_, ap}
-use mathlib.Core.Bool.{Bool, true, _&&_}
+use mathlib.Core.Path.{_≡_, sym, _∙_, ap}
+use mathlib.Core.Bool.{true, false, _&&_}
 use mathlib.Core.List.{List}
 use Prim.Native.Nat.{ℕ, _≤_, _^_}
 use borrow.Author.Needs.{needs}
 use borrow.Author.Tests.{eq-eqb, ne-eqb, leb-true}
-use lib.Dec.{eqb, leb, ltb}
+use lib.Dec.{leb, ltb}
 use lib.IntN.{ℤ, natAbs}
 use lib.ListN.{length}
 use Rattle.numbers.proofs.Flags.{and-left, and-right}
-use Rattle.acks.specs.History.{Right, AckOutcome, ackEnded, fullAckOf, ack2Of}
+use Rattle.acks.specs.History.{Right, AckOutcome, ackEnded, noneDue, isWorn, fullAckOf, ack2Of}
+use Rattle.acks.specs.History as history
 use Rattle.acks.specs.Rates.{speedOf, capacityOf}
 use Rattle.acks.specs.Rtt.{updated}
 use Rattle.acks.specs.declared.history.History.{History}
@@ -28,7 +29,7 @@ use Rattle.acks.specs.declared.rtt.Rtt.{Rtt}
 use Rattle.acks.proofs.HistoryKept.{right}
 use Rattle.window.specs.Window.{roomOf}
 use Rattle.window.specs.declared.Window.{Window}
-use Rattle.head.specs.Rules.{firstRefusal, judged, timedRules}
+use Rattle.head.specs.Rules.{firstRefusal, timedRules}
 use Rattle.head.specs.Head.{windowOk, headOk}
 use Rattle.head.specs.declared.state.Head.{Head}
 use Rattle.head.proofs.Gates.{taken, refused}
@@ -136,5 +137,17 @@ module _ (h : Head) (a : List ℕ) (now : ℤ) {t : ℤ} {n : ℕ} (b : n ≡ fi
   pub packet-refused : (number : ℕ) → (n ≡ 0 → ⊥) → _≡_ {A = Ack2ed} (record { head = h; answer = rtts.Refused n }) (ack2PacketOf h a now number)
   unfolding ack2PacketOf
   packet-refused number z = sym (refused (heldAck2 h a now number) (λ k. record { head = h; answer = rtts.Refused k }) same z)
+
+-- when no ACK is due, or the last number is given, the head keeps its history and the area every word
+module _ (h : Head) (a : List ℕ) (now : ℤ) where
+  pub none-stays : noneDue (h .history) a (natAbs now) (h .rtt .mean) (h .window .lrsn) ≡ true
+      → roomyAck h a now ≡ fullAckEnded (record { head = withLatest h now; answer = answers.Nothing }) a
+  unfolding roomyAck history.fullAckOf
+  none-stays e = rw e
+
+  pub worn-stays : noneDue (h .history) a (natAbs now) (h .rtt .mean) (h .window .lrsn) ≡ false → isWorn (h .history) ≡ true
+      → roomyAck h a now ≡ fullAckEnded (record { head = h; answer = answers.Refused 13 }) a
+  unfolding roomyAck history.fullAckOf
+  worn-stays e f = rw (e, f)
 
 pub ruleset ackings = (figured, room-ready, history-ready, ack-nothing, ack-worn, ack-given, acked, ack-roomy, ack-no-room, acking-ready, event-taken, event-refused, ack2-nothing, ack2-held, ack2-answered, packet-taken, packet-refused, needs)

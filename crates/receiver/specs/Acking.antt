@@ -11,7 +11,6 @@ use Rattle.acks.specs.Rtt.{updated}
 use Rattle.acks.specs.declared.history.History.{History}
 use Rattle.acks.specs.declared.history.AckAnswer.{AckAnswer}
 use Rattle.acks.specs.declared.history.AckAnswer.the-variants as acks
-use Rattle.acks.specs.declared.history.Answered.{Answered}
 use Rattle.acks.specs.declared.history.Ack2Answer.{Ack2Answer}
 use Rattle.acks.specs.declared.history.Ack2Answer.the-variants as acks2
 use Rattle.acks.specs.declared.rates.Arrivals.{Arrivals}

@@ -7,8 +7,6 @@ ghost use Rattle.head.proofs.Ready.{InRange};
 ghost use Rattle.receiver.specs.Acking.{AckReady, withLatest, withHistory, withRtt, figuresOf, afterAck, roomyAck, dueAck, fullAckEnded, fullAckEventOf, afterAck2, heldAck2, ack2PacketOf};
 use acks::history::Ack2Answer;
 use acks::history::AckAnswer;
-use acks::history::Acked;
-use acks::history::Answered;
 use acks::history::History;
 use acks::rates::Arrivals;
 use acks::rates::Link;
