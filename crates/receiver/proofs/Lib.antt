@@ -2,6 +2,7 @@
 pub mod Requests
 pub mod Shows
 pub mod Datas
+pub mod Ackings
 pub mod Syncs
 pub mod Messages
 pub mod Losses

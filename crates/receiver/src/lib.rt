@@ -4,4 +4,5 @@ pub mod show;
 pub mod data;
 pub mod loss;
 pub mod message;
+pub mod acking;
 pub mod sync;
