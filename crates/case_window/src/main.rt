@@ -85,13 +85,13 @@ fn push_tested(
     if 0x1000_0000_0000_0000 <= time {
         return PushCall::Refused(3);
     }
+    if packet_ok(p) {} else {
+        return PushCall::Refused(5);
+    }
     if 1456 < payload.len() {
         return PushCall::Refused(6);
     }
-    if packet_ok(p) {
-        return PushCall::Done(window::push::push(w, words, bytes, time, p, payload));
-    }
-    PushCall::Refused(5)
+    PushCall::Done(window::push::push(w, words, bytes, time, p, payload))
 }
 
 fn try_push(
@@ -477,6 +477,14 @@ fn payload_area() -> [u8; 5824] {
     [0; 5824]
 }
 
+fn longest() -> [u8; 1456] {
+    [b'x'; 1456]
+}
+
+fn too_long() -> [u8; 1457] {
+    [b'x'; 1457]
+}
+
 // A new window and clock: start 0, capacity 4.
 fn fresh(first: u32, latency: u32, dropping: bool) -> State {
     let window = Window {
@@ -711,6 +719,28 @@ fn shows() {
     show(s, &ws, &bs, 3);
 }
 
+fn out_of_range() {
+    put(b"the range tests: refusals 6, 5, 3 and 1, and the longest payload\n");
+    let mut ws = slot_area();
+    let mut bs = payload_area();
+    let mut s = fresh(0, 65_535_001, true);
+    let more = too_long();
+    s = push(s, &mut ws, &mut bs, 0, whole(0, 0, 0), &more);
+    let most = longest();
+    s = push(s, &mut ws, &mut bs, 0, whole(0, 0, 0), &most);
+    s = push(s, &mut ws, &mut bs, 0, whole(0x8000_0000, 0, 0), b"");
+    s = push(
+        s,
+        &mut ws,
+        &mut bs,
+        0x1000_0000_0000_0000,
+        whole(1, 0, 0),
+        b"",
+    );
+    s = pop(s, &ws, &bs, 0);
+    put_end(s);
+}
+
 fn main() {
     worked_example();
     full_early_late();
@@ -726,4 +756,5 @@ fn main() {
     report_apart();
     given_up();
     shows();
+    out_of_range();
 }

@@ -7,10 +7,10 @@ push-tested-spec =
     tie.close
     (tie.spec
     (λ c. search steps)
-    (λ c. search steps)
-    (λ c κs. search steps)
     (λ c κs. search steps)
     (λ c. search steps)
+    (λ c. search steps)
+    (λ c κs. search steps)
     (λ c. search steps)
     (λ c. search steps)
     (λ c. search steps))
