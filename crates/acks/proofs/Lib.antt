@@ -5,6 +5,7 @@ pub mod Sorted
 pub mod MedianSteps
 pub mod Windows
 pub mod RateSteps
+pub mod RateKept
 pub mod RttSteps
 pub mod RttKept
 pub mod Examples

@@ -37,6 +37,15 @@ unfoldable pub windowOf : List ℕ → ℕ → ℕ → List ℕ
 windowOf l at zero = []
 windowOf l at (suc n) = getD l (placeBefore at (suc n)) 0 ∷ windowOf l at n
 
+abbrev pub arrivalGaps : Arrivals → List ℕ
+arrivalGaps a = windowOf (a .gaps) (a .at) (a .count)
+
+abbrev pub arrivalSizes : Arrivals → List ℕ
+arrivalSizes a = windowOf (a .sizes) (a .at) (a .count)
+
+abbrev pub linkGaps : Links → List ℕ
+linkGaps l = windowOf (l .gaps) (l .at) (l .count)
+
 -- fresh: counts 0, optional times unset
 unfoldable pub freshArrivals : Arrivals
 freshArrivals = record { gaps = replicate 16 0; sizes = replicate 16 0; at = 0; count = 0; last = Unset }
@@ -125,10 +134,10 @@ unfoldable pub arrivalsOk : Arrivals → Bool
 arrivalsOk a =
     leb (a .count) 16
     && ltb (a .at) 16
-    && allUnder (2 ^ 31) (windowOf (a .gaps) (a .at) (a .count))
-    && allUnder 1457 (windowOf (a .sizes) (a .at) (a .count))
+    && allUnder (2 ^ 31) (arrivalGaps a)
+    && allUnder 1457 (arrivalSizes a)
     && timeOk (a .last)
 
 unfoldable pub linksOk : Links → Bool
 linksOk l =
-    leb (l .count) 16 && ltb (l .at) 16 && allUnder (2 ^ 31) (windowOf (l .gaps) (l .at) (l .count)) && timeOk (l .probe)
+    leb (l .count) 16 && ltb (l .at) 16 && allUnder (2 ^ 31) (linkGaps l) && timeOk (l .probe)
