@@ -6,6 +6,7 @@ pub mod MedianSteps
 pub mod Windows
 pub mod RateSteps
 pub mod RateKept
+pub mod Turned
 pub mod RttSteps
 pub mod RttKept
 pub mod Examples

@@ -1,20 +1,20 @@
 -- The windows' ranges are kept, and what recording does to a window as a list, oldest first. Assumes nothing.
-use mathlib.Core.Path.{_≡_, refl, sym, _∙_}
-use mathlib.Core.Bool.{Bool, true, false, cond}
-use mathlib.Core.List.{List, [], _∷_, _++_}
+use mathlib.Core.Path.{_≡_, refl, _∙_}
+use mathlib.Core.Bool.{true}
+use mathlib.Core.List.{[], _∷_, _++_}
 use Prim.Native.Nat.{ℕ, _+_, _-_, _%_, _^_, _<_, _≤_}
 use native.Mathlib.Nat.{mod-lt}
 use native.Mathlib.Omega.{arith}
 use lib.Dec.{eqb}
-use lib.IntN.{ℤ, natAbs}
-use lib.ListN.{length, set, drop, length-set}
+use lib.IntN.{ℤ}
+use lib.ListN.{length, drop, length-set}
 use lib.Signed.{ltZ}
-use Rattle.numbers.specs.Whole.{isReading, intervalOf}
+use Rattle.numbers.specs.Whole.{isReading}
 use Rattle.numbers.specs.declared.instant.Moment.{Moment}
 use Rattle.numbers.specs.declared.instant.Moment.the-variants.{Unset, At}
 use Rattle.numbers.proofs.Flags.{by-test, by-bool}
 use Rattle.numbers.proofs.Halves.{halves-not-lt}
-use Rattle.acks.specs.Rates.{sinceTime, nextPlace, oneMore, windowOf, arrivalGaps, arrivalSizes, linkGaps, freshArrivals, freshLinks, arrivedSince, arrivalOf, withProbe, pairedSince, pairOf, linkOf, allUnder, timeOk, arrivalsOk, linksOk}
+use Rattle.acks.specs.Rates.{sinceTime, windowOf, arrivalGaps, arrivalSizes, linkGaps, freshArrivals, freshLinks, arrivedSince, arrivalOf, withProbe, pairedSince, pairOf, linkOf, allUnder, arrivalsOk, linksOk}
 use Rattle.acks.specs.declared.rates.Arrivals.{Arrivals}
 use Rattle.acks.specs.declared.rates.Links.{Links}
 use Rattle.acks.proofs.Windows.{enters, under-enters, ArrivalRanges, arrival-ranges, arrivals-ok, LinkRanges, link-ranges, links-ok}
