@@ -1,6 +1,6 @@
 -- The history's ranges are kept, and so are the area's length and the words that no rule names. Assumes nothing.
 use mathlib.Core.Path.{_≡_, refl, sym, _∙_, ap, subst}
-use mathlib.Core.Bool.{true, false, _&&_}
+use mathlib.Core.Bool.{Bool, true, false, _&&_}
 use mathlib.Core.List.{List}
 use Prim.Native.Nat.{ℕ, _+_, _-_, _*_, _^_, _<_, _≤_, min}
 use native.Mathlib.Nat.{mod-lt, mod-eq-of-lt}
@@ -63,6 +63,10 @@ pub right : (h : History) (a : List ℕ) → historyOk h ≡ true → 2048 ≤ l
 right h a e l =
     let r = history-ranges h e in
     record { starts = r .starts; holds = r .holds; first = r .first; newest = omega (arith, r .newest); words = l }
+
+-- the same by a flag, as a program has it
+pub right-by : {h : History} {a : List ℕ} {b : Bool} → b ≡ historyOk h → b ≡ true → 2048 ≤ length a → Right h a
+right-by {h} {a} p e l = right h a (sym p ∙ e) l
 
 pub fresh-history-ok : (n : ℕ) → n < 2 ^ 31 → historyOk (freshHistory n) ≡ true
 unfolding freshHistory

@@ -1,6 +1,6 @@
 -- The windows' ranges are kept, and what recording does to a window as a list, oldest first. Assumes nothing.
-use mathlib.Core.Path.{_≡_, refl, _∙_}
-use mathlib.Core.Bool.{true}
+use mathlib.Core.Path.{_≡_, refl, sym, _∙_}
+use mathlib.Core.Bool.{Bool, true}
 use mathlib.Core.List.{[], _∷_, _++_}
 use Prim.Native.Nat.{ℕ, _+_, _-_, _%_, _^_, _<_, _≤_}
 use native.Mathlib.Nat.{mod-lt}
@@ -27,6 +27,27 @@ since-under now t =
     by-bool (ltZ now t)
     (λ e. rw e (interval-above now now (halves-not-lt now now (omega arith)) .1))
     (λ e. rw e (interval-above t now e .1))
+
+-- what a caller who tested a window may call with; `b` is the flag that its test gave
+module _ (a : Arrivals) {b : Bool} (p : b ≡ arrivalsOk a) (e : b ≡ true) where
+  pub arrivals-tested : arrivalsOk a ≡ true
+  arrivals-tested = sym p ∙ e
+
+  pub arrivals-place-by : a .at < 16
+  arrivals-place-by = arrival-ranges a arrivals-tested .place
+
+  pub arrivals-count-by : a .count ≤ 16
+  arrivals-count-by = arrival-ranges a arrivals-tested .holds
+
+module _ (l : Links) {b : Bool} (p : b ≡ linksOk l) (e : b ≡ true) where
+  pub links-tested : linksOk l ≡ true
+  links-tested = sym p ∙ e
+
+  pub links-place-by : l .at < 16
+  links-place-by = link-ranges l links-tested .place
+
+  pub links-count-by : l .count ≤ 16
+  links-count-by = link-ranges l links-tested .holds
 
 pub fresh-arrivals-ok : arrivalsOk freshArrivals ≡ true
 unfolding arrivalsOk freshArrivals windowOf allUnder

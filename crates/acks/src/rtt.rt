@@ -1,6 +1,5 @@
 // The round trip's figures, rtt.rs: 01, "ACKs, RTT, rates".
 ghost use mathlib.Core.Path.{_≡_};
-ghost use Prim.Native.Nat.{_<_};
 ghost use Rattle.acks.specs.Rtt.{freshRtt, apart, updated, rttOk};
 
 pub struct Rtt {
