@@ -1,4 +1,5 @@
--- The laws of the ACKs, the round trip and the rates. The crates above cite the `Kept` files; the `Steps` files are for the code of this crate.
+-- The laws of the ACKs, the round trip and the rates. The crates above cite the `Kept` files, `Windows` and `Turned`;
+-- the `Steps` files and `Sorted` are for the code of this crate.
 pub mod HistorySteps
 pub mod HistoryKept
 pub mod Sorted

@@ -86,14 +86,15 @@ unfoldable pub keptOf : List ℕ → List ℕ → ℕ → ℕ → Kept
 keptOf gaps sizes ai zero = record { count = 0; sum = 0; bytes = 0 }
 keptOf gaps sizes ai (suc n) = takeIn ai (getD gaps n 0) (getD sizes n 0) (keptOf gaps sizes ai n)
 
--- at most 8 left, none. Packets = count × 1,000,000 / sum; bytes likewise
+-- packets = count × 1,000,000 / sum; bytes likewise
 unfoldable pub rateOf : ℕ → ℕ → ℕ
 rateOf n sum = n * 1000000 / sum
 
+-- at most 8 left, none
 unfoldable pub speedKept : Kept → Speed
 speedKept k = cond (leb (k .count) 8) speeds.Unknown (speeds.Known (rateOf (k .count) (k .sum)) (rateOf (k .bytes) (k .sum)))
 
--- newest 16 intervals (fewer: none), median index 8 = ai
+-- newest 16 intervals (fewer: none), median index 8 = ai; they fill the ring, and where it begins does not matter
 unfoldable pub speedOf : Arrivals → Speed
 speedOf a = cond (ltb (a .count) 16) speeds.Unknown (speedKept (keptOf (a .gaps) (a .sizes) (medianOf (a .gaps) 8) 16))
 

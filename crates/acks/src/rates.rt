@@ -175,6 +175,7 @@ impl Arrivals {
             last: Moment::At(now),
         }
     }
+
     // Packets and bytes a second, by the intervals that are near the median.
     pub fn speed(self) -> Speed
         requires { ⌜ arrivalsOk self ≡ true ⌝ }
@@ -272,6 +273,7 @@ impl Links {
         }
         self
     }
+
     // Packets a second, by the median interval of the pairs.
     pub fn capacity(self) -> Link
         ensures { λ r. ⌜ r ≡ capacityOf self ⌝ }
