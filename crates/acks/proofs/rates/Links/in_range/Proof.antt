@@ -1,0 +1,13 @@
+use Rattle.acks.proofs.RateSteps.{rateSteps}
+use Rattle.acks.proofs.rates.Links.in_range.Statement.{statement}
+use Rattle.acks.proofs.rates.Links.in_range.Tie as tie
+
+pub in-range-spec : {M : Type 1} → statement M
+in-range-spec =
+    tie.close
+    (tie.spec
+    (λ c. search rateSteps)
+    (λ c. search rateSteps)
+    (λ c κs. search rateSteps)
+    (λ c κs. search rateSteps)
+    (λ c. search rateSteps))
