@@ -1,8 +1,8 @@
 -- The history's ranges are kept, and so are the area's length and the words that no rule names. Assumes nothing.
 use mathlib.Core.Path.{_≡_, refl, sym, _∙_, ap, subst}
-use mathlib.Core.Bool.{Bool, true, false, _&&_, cond}
+use mathlib.Core.Bool.{Bool, true, false, _&&_}
 use mathlib.Core.List.{List}
-use Prim.Native.Nat.{ℕ, _+_, _-_, _*_, _%_, _^_, _<_, _≤_, min}
+use Prim.Native.Nat.{ℕ, _+_, _-_, _*_, _^_, _<_, _≤_, min}
 use native.Mathlib.Nat.{mod-lt, mod-eq-of-lt}
 use native.Mathlib.Omega.{arith}
 use borrow.Author.Tests.{ltb-true, leb-true, eqb-true, eqb-false, lt-ltb, le-leb}
@@ -15,10 +15,8 @@ use Rattle.numbers.specs.Whole.{intervalOf}
 use Rattle.numbers.proofs.Flags.{and-left, and-right, by-bool, by-test, by-order}
 use Rattle.numbers.proofs.Halves.{same, above--, below--}
 use Rattle.numbers.proofs.Signs.{clamp-in, clamp-high}
-use Rattle.acks.specs.History.{Right, placeOf, numberAt, departureAt, since, writeAck, freshHistory, noneDue, newestOf, isWorn, leaving, nextAck, firstAfter, AckOutcome, ackEnded, grown, appendOf, fullAckOf, withLargest, withLast, isHeld, ack2Of, lightAckOf, clearedOf, historyOk}
+use Rattle.acks.specs.History.{Right, placeOf, numberAt, departureAt, since, writeAck, freshHistory, noneDue, newestOf, isWorn, leaving, nextAck, firstAfter, AckOutcome, grown, appendOf, fullAckOf, withLargest, withLast, isHeld, ack2Of, lightAckOf, clearedOf, historyOk}
 use Rattle.acks.specs.declared.history.History.{History}
-use Rattle.acks.specs.declared.history.Acked.{Acked}
-use Rattle.acks.specs.declared.history.AckAnswer.the-variants.{Nothing, Worn, Ack}
 use Rattle.acks.specs.declared.history.Answered.{Answered}
 use Rattle.acks.specs.declared.history.Ack2Answer.{Ack2Answer}
 use Rattle.acks.specs.declared.history.Ack2Answer.the-variants.{NotHeld, Held}
@@ -65,6 +63,10 @@ pub right : (h : History) (a : List ℕ) → historyOk h ≡ true → 2048 ≤ l
 right h a e l =
     let r = history-ranges h e in
     record { starts = r .starts; holds = r .holds; first = r .first; newest = omega (arith, r .newest); words = l }
+
+-- the same by a flag, as a program has it
+pub right-by : {h : History} {a : List ℕ} {b : Bool} → b ≡ historyOk h → b ≡ true → 2048 ≤ length a → Right h a
+right-by {h} {a} p e l = right h a (sym p ∙ e) l
 
 pub fresh-history-ok : (n : ℕ) → n < 2 ^ 31 → historyOk (freshHistory n) ≡ true
 unfolding freshHistory

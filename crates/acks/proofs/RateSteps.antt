@@ -1,15 +1,15 @@
 -- What the code of rates.rt does at each return and each turn, as laws over plain values; the proof files hand them to `search`. A signed number stands
 -- twice, as it is (`now`) and as the machine reads it back (`n`). Assumes nothing.
-use mathlib.Core.Path.{_≡_, refl, ap, sym, _∙_}
-use mathlib.Core.Bool.{Bool, true, false, _&&_, cond}
-use mathlib.Core.List.{List, [], _∷_}
-use Prim.Native.Nat.{ℕ, zero, suc, _+_, _-_, _*_, _/_, _%_, _^_, _<_, _≤_}
+use mathlib.Core.Path.{_≡_, refl, sym, _∙_}
+use mathlib.Core.Bool.{Bool, true, false, _&&_}
+use mathlib.Core.List.{List}
+use Prim.Native.Nat.{ℕ, _+_, _*_, _/_, _%_, _^_, _<_, _≤_}
 use native.Mathlib.Nat.{div-le-of-le-mul}
 use native.Mathlib.Numerals.{add-one}
 use native.Mathlib.Omega.{arith}
 use borrow.Author.Needs.{needs}
 use borrow.Author.Tests.{eq-eqb, ne-eqb, lt-ltb, le-ltb, le-leb, lt-leb}
-use lib.Dec.{T, eqb, ltb, leb}
+use lib.Dec.{T, ltb}
 use lib.IntN.{ℤ, pos, natAbs, _-ℤ_}
 use lib.ListN.{getD, set, replicate}
 use lib.Signed.{ltZ, nonNeg}
@@ -22,7 +22,7 @@ use Rattle.numbers.proofs.Flags.{by-test, by-order}
 use Rattle.numbers.proofs.Halves.{above, below, same, size, not-negative, above--, below--, lt-false}
 use Rattle.numbers.proofs.Signs.{clamp-in, clamp-high}
 use Rattle.acks.specs.Median.{medianOf}
-use Rattle.acks.specs.Rates.{sinceTime, nextPlace, oneMore, freshArrivals, freshLinks, arrivedFirst, arrivalOf, keeps, takeIn, keptOf, rateOf, speedKept, speedOf, withProbe, pairOf, linkOf, linkRate, capacityOf, placeBefore, windowOf, allUnder, timeOk, arrivalsOk, linksOk}
+use Rattle.acks.specs.Rates.{sinceTime, nextPlace, oneMore, freshArrivals, freshLinks, arrivedFirst, arrivalOf, keeps, takeIn, keptOf, rateOf, speedKept, speedOf, withProbe, pairOf, linkOf, linkRate, capacityOf, placeBefore, windowOf, arrivalGaps, arrivalSizes, linkGaps, allUnder, timeOk, arrivalsOk, linksOk}
 use Rattle.acks.specs.declared.rates.Arrivals.{Arrivals}
 use Rattle.acks.specs.declared.rates.Links.{Links}
 use Rattle.acks.specs.declared.rates.Kept.{Kept}
@@ -240,7 +240,7 @@ module _ (a : Arrivals) where
     arrivals-place k = rw (le-leb _ _ h, le-ltb _ _ k)
 
     pub arrivals-test : {g s t : Bool}
-        → a .at < 16 → g ≡ allUnder (2 ^ 31) (windowOf (a .gaps) (a .at) (a .count)) → s ≡ allUnder 1457 (windowOf (a .sizes) (a .at) (a .count)) → t ≡ timeOk (a .last)
+        → a .at < 16 → g ≡ allUnder (2 ^ 31) (arrivalGaps a) → s ≡ allUnder 1457 (arrivalSizes a) → t ≡ timeOk (a .last)
         → (g && s && t) ≡ arrivalsOk a
     unfolding arrivalsOk
     arrivals-test k e f i = rw (le-leb _ _ h, lt-ltb _ _ k, e, f, i)
@@ -255,7 +255,7 @@ module _ (l : Links) where
     unfolding linksOk
     links-place k = rw (le-leb _ _ h, le-ltb _ _ k)
 
-    pub links-test : {g t : Bool} → l .at < 16 → g ≡ allUnder (2 ^ 31) (windowOf (l .gaps) (l .at) (l .count)) → t ≡ timeOk (l .probe) → (g && t) ≡ linksOk l
+    pub links-test : {g t : Bool} → l .at < 16 → g ≡ allUnder (2 ^ 31) (linkGaps l) → t ≡ timeOk (l .probe) → (g && t) ≡ linksOk l
     unfolding linksOk
     links-test k e f = rw (le-leb _ _ h, lt-ltb _ _ k, e, f)
 

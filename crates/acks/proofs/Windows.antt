@@ -1,44 +1,45 @@
 -- The windows of intervals: as lists, oldest first, in which an interval enters at the end; their ranges; what is kept of one. Assumes nothing.
-use mathlib.Core.Path.{_≡_, refl, ap, sym, _∙_}
-use mathlib.Core.Bool.{Bool, true, false, _&&_, cond}
+use mathlib.Core.Path.{_≡_}
+use mathlib.Core.Bool.{true, _&&_}
 use mathlib.Core.List.{List, [], _∷_, _++_}
 use Prim.Native.Nat.{ℕ, zero, suc, _+_, _-_, _*_, _/_, _%_, _^_, _<_, _≤_}
 use native.Mathlib.Omega.{arith}
 use borrow.Author.Tests.{lt-ltb, le-leb, ltb-true, leb-true}
 use lib.Dec.{ltb, leb}
-use lib.ListN.{length, getD, set, drop}
-use lib.Seq.{getD-set-same, getD-set-other}
+use lib.ListN.{length, getD, set, drop, List·getD-eq-default}
+use lib.Seq.{getD-set-same, getD-set-other, set-out}
 use Rattle.numbers.proofs.Flags.{and-left, and-right, by-test, by-order}
-use Rattle.acks.specs.Rates.{nextPlace, oneMore, placeBefore, windowOf, keeps, takeIn, keptOf, allUnder, timeOk, arrivalsOk, linksOk}
+use Rattle.acks.specs.Rates.{nextPlace, oneMore, placeBefore, windowOf, arrivalGaps, arrivalSizes, linkGaps, keeps, takeIn, keptOf, allUnder, timeOk, arrivalsOk, linksOk}
 use Rattle.acks.specs.declared.rates.Arrivals.{Arrivals}
 use Rattle.acks.specs.declared.rates.Links.{Links}
 use Rattle.acks.specs.declared.rates.Kept.{Kept}
 
--- while fewer than 16 stand before it, an interval is appended
-module _ (l : List ℕ) (at x : ℕ) (h : at < 16) (e : length l ≡ 16) where
-  entered : (n : ℕ) → n < 16 → windowOf (set l at x) (nextPlace at) (suc n) ≡ windowOf l at n ++ (x ∷ [])
+-- what is written at the next place is the newest: the places before it stay
+module _ (l : List ℕ) (at x : ℕ) (h : at < 16) where
+  entered : (n : ℕ) → n < 16 → windowOf (set l at x) (nextPlace at) (suc n) ≡ windowOf l at n ++ (getD (set l at x) at 0 ∷ [])
   unfolding windowOf
-  entered zero k =
-      let p : placeBefore (nextPlace at) 1 ≡ at = omega arith in
-      rw (p, getD-set-same l at x 0 (omega arith))
+  entered zero k = let p : placeBefore (nextPlace at) 1 ≡ at = omega arith in rw p
   entered (suc n) k =
       let p : placeBefore (nextPlace at) (suc (suc n)) ≡ placeBefore at (suc n) = omega arith in
       let q : placeBefore at (suc n) ≡ at → ⊥ = λ f. omega arith in
       rw (p, getD-set-other l at (placeBefore at (suc n)) x 0 q, entered n (omega arith))
 
-  full : windowOf (set l at x) (nextPlace at) 16 ≡ drop 1 (windowOf l at 16) ++ (x ∷ [])
+  full : windowOf (set l at x) (nextPlace at) 16 ≡ drop 1 (windowOf l at 16) ++ (getD (set l at x) at 0 ∷ [])
   unfolding windowOf
   full = entered 15 (omega arith)
 
-  -- the newest 16: an interval enters at the end, and of 16 the oldest goes
-  pub enters : (count : ℕ) → count ≤ 16 → windowOf (set l at x) (nextPlace at) (oneMore count) ≡ drop (count + 1 - 16) (windowOf l at count) ++ (x ∷ [])
-  enters count k =
+  written : (count : ℕ) → count ≤ 16 → windowOf (set l at x) (nextPlace at) (oneMore count) ≡ drop (count + 1 - 16) (windowOf l at count) ++ (getD (set l at x) at 0 ∷ [])
+  written count k =
       by-order count 16
       (λ u.
       let p : oneMore count ≡ suc count = omega arith in
       let q : count + 1 - 16 ≡ 0 = omega arith in
       rw (p, q) (entered count u))
       (λ u. let p : count ≡ 16 = omega arith in rw p full)
+
+  -- the newest 16: an interval enters at the end, and of 16 the oldest goes
+  pub enters : (count : ℕ) → count ≤ 16 → length l ≡ 16 → windowOf (set l at x) (nextPlace at) (oneMore count) ≡ drop (count + 1 - 16) (windowOf l at count) ++ (x ∷ [])
+  enters count k e = rw (getD-set-same l at x 0 (omega arith)) at (written count k)
 
 -- under a bound: the parts of a list, and its places
 under-append : (b : ℕ) (l m : List ℕ) → allUnder b l ≡ true → allUnder b m ≡ true → allUnder b (l ++ m) ≡ true
@@ -56,11 +57,19 @@ under-one : (b x : ℕ) → x < b → allUnder b (x ∷ []) ≡ true
 unfolding allUnder
 under-one b x h = rw (lt-ltb x b h)
 
-pub under-enters : (b : ℕ) (l : List ℕ) (at count x : ℕ) → at < 16 → count ≤ 16 → length l ≡ 16 → x < b
+under-written : (b : ℕ) (l : List ℕ) (at x : ℕ) → x < b → getD (set l at x) at 0 < b
+under-written b l at x h =
+    by-order at (length l)
+    (λ k. rw (getD-set-same l at x 0 k) h)
+    (λ k. rw (set-out l at x k, List·getD-eq-default l 0 k) (omega arith))
+
+pub under-enters : (b : ℕ) (l : List ℕ) (at count x : ℕ) → at < 16 → count ≤ 16 → x < b
     → allUnder b (windowOf l at count) ≡ true → allUnder b (windowOf (set l at x) (nextPlace at) (oneMore count)) ≡ true
-under-enters b l at count x h k e u f =
-    rw (enters l at x h e count k)
-    (under-append b (drop (count + 1 - 16) (windowOf l at count)) (x ∷ []) (under-drop b (count + 1 - 16) (windowOf l at count) f) (under-one b x u))
+under-enters b l at count x h k u f =
+    let y = getD (set l at x) at 0 in
+    rw (written l at x h count k)
+    (under-append b (drop (count + 1 - 16) (windowOf l at count)) (y ∷ []) (under-drop b (count + 1 - 16) (windowOf l at count) f)
+    (under-one b y (under-written b l at x u)))
 
 under-before : (b : ℕ) (l : List ℕ) (at count n : ℕ) → allUnder b (windowOf l at count) ≡ true → n < count → getD l (placeBefore at (n + 1)) 0 < b
 unfolding windowOf allUnder
@@ -83,8 +92,8 @@ under-place b l at i h k e =
 pub record ArrivalRanges (a : Arrivals) : Type 0 where
   pub holds : a .count ≤ 16
   pub place : a .at < 16
-  pub gaps : allUnder (2 ^ 31) (windowOf (a .gaps) (a .at) (a .count)) ≡ true
-  pub sizes : allUnder 1457 (windowOf (a .sizes) (a .at) (a .count)) ≡ true
+  pub gaps : allUnder (2 ^ 31) (arrivalGaps a) ≡ true
+  pub sizes : allUnder 1457 (arrivalSizes a) ≡ true
   pub last : timeOk (a .last) ≡ true
 
 pub arrival-ranges : (a : Arrivals) → arrivalsOk a ≡ true → ArrivalRanges a
@@ -92,8 +101,8 @@ unfolding arrivalsOk
 arrival-ranges a e =
     let c = leb (a .count) 16 in
     let p = ltb (a .at) 16 in
-    let g = allUnder (2 ^ 31) (windowOf (a .gaps) (a .at) (a .count)) in
-    let s = allUnder 1457 (windowOf (a .sizes) (a .at) (a .count)) in
+    let g = allUnder (2 ^ 31) (arrivalGaps a) in
+    let s = allUnder 1457 (arrivalSizes a) in
     let e₃ = and-left (c && p && g && s) (timeOk (a .last)) e in
     let e₂ = and-left (c && p && g) s e₃ in
     let e₁ = and-left (c && p) g e₂ in
@@ -112,7 +121,7 @@ arrivals-ok a r = rw (le-leb _ _ (r .holds), lt-ltb _ _ (r .place), r .gaps, r .
 pub record LinkRanges (l : Links) : Type 0 where
   pub holds : l .count ≤ 16
   pub place : l .at < 16
-  pub gaps : allUnder (2 ^ 31) (windowOf (l .gaps) (l .at) (l .count)) ≡ true
+  pub gaps : allUnder (2 ^ 31) (linkGaps l) ≡ true
   pub probe : timeOk (l .probe) ≡ true
 
 pub link-ranges : (l : Links) → linksOk l ≡ true → LinkRanges l
@@ -120,7 +129,7 @@ unfolding linksOk
 link-ranges l e =
     let c = leb (l .count) 16 in
     let p = ltb (l .at) 16 in
-    let g = allUnder (2 ^ 31) (windowOf (l .gaps) (l .at) (l .count)) in
+    let g = allUnder (2 ^ 31) (linkGaps l) in
     let e₂ = and-left (c && p && g) (timeOk (l .probe)) e in
     let e₁ = and-left (c && p) g e₂ in
     record {

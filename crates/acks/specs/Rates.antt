@@ -37,6 +37,15 @@ unfoldable pub windowOf : List ℕ → ℕ → ℕ → List ℕ
 windowOf l at zero = []
 windowOf l at (suc n) = getD l (placeBefore at (suc n)) 0 ∷ windowOf l at n
 
+abbrev pub arrivalGaps : Arrivals → List ℕ
+arrivalGaps a = windowOf (a .gaps) (a .at) (a .count)
+
+abbrev pub arrivalSizes : Arrivals → List ℕ
+arrivalSizes a = windowOf (a .sizes) (a .at) (a .count)
+
+abbrev pub linkGaps : Links → List ℕ
+linkGaps l = windowOf (l .gaps) (l .at) (l .count)
+
 -- fresh: counts 0, optional times unset
 unfoldable pub freshArrivals : Arrivals
 freshArrivals = record { gaps = replicate 16 0; sizes = replicate 16 0; at = 0; count = 0; last = Unset }
@@ -77,14 +86,15 @@ unfoldable pub keptOf : List ℕ → List ℕ → ℕ → ℕ → Kept
 keptOf gaps sizes ai zero = record { count = 0; sum = 0; bytes = 0 }
 keptOf gaps sizes ai (suc n) = takeIn ai (getD gaps n 0) (getD sizes n 0) (keptOf gaps sizes ai n)
 
--- at most 8 left, none. Packets = count × 1,000,000 / sum; bytes likewise
+-- packets = count × 1,000,000 / sum; bytes likewise
 unfoldable pub rateOf : ℕ → ℕ → ℕ
 rateOf n sum = n * 1000000 / sum
 
+-- at most 8 left, none
 unfoldable pub speedKept : Kept → Speed
 speedKept k = cond (leb (k .count) 8) speeds.Unknown (speeds.Known (rateOf (k .count) (k .sum)) (rateOf (k .bytes) (k .sum)))
 
--- newest 16 intervals (fewer: none), median index 8 = ai
+-- newest 16 intervals (fewer: none), median index 8 = ai; they fill the ring, and where it begins does not matter
 unfoldable pub speedOf : Arrivals → Speed
 speedOf a = cond (ltb (a .count) 16) speeds.Unknown (speedKept (keptOf (a .gaps) (a .sizes) (medianOf (a .gaps) 8) 16))
 
@@ -125,10 +135,10 @@ unfoldable pub arrivalsOk : Arrivals → Bool
 arrivalsOk a =
     leb (a .count) 16
     && ltb (a .at) 16
-    && allUnder (2 ^ 31) (windowOf (a .gaps) (a .at) (a .count))
-    && allUnder 1457 (windowOf (a .sizes) (a .at) (a .count))
+    && allUnder (2 ^ 31) (arrivalGaps a)
+    && allUnder 1457 (arrivalSizes a)
     && timeOk (a .last)
 
 unfoldable pub linksOk : Links → Bool
 linksOk l =
-    leb (l .count) 16 && ltb (l .at) 16 && allUnder (2 ^ 31) (windowOf (l .gaps) (l .at) (l .count)) && timeOk (l .probe)
+    leb (l .count) 16 && ltb (l .at) 16 && allUnder (2 ^ 31) (linkGaps l) && timeOk (l .probe)

@@ -182,6 +182,7 @@ impl History {
         }
         self.first + (n as u32)
     }
+
     // Removes what leaves the front, then appends an ACK of lrsn.
     fn append(self, area: &mut [u64], time: u64, wait: u64, lrsn: u32) -> Acked
         requires { ⌜ Right self (now area) × (wait < 2 ^ 34) × (self .first + self .count < 2 ^ 32) ⌝ }

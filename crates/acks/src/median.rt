@@ -1,7 +1,7 @@
 // The median of a window of 16 intervals: 01, "ACKs, RTT, rates". By counting, so that nothing is moved.
 ghost use mathlib.Core.Path.{_≡_};
 ghost use mathlib.Core.Bool.{cond};
-ghost use Prim.Native.Nat.{_+_, _<_, _≤_, _^_};
+ghost use Prim.Native.Nat.{_<_};
 ghost use Rattle.acks.specs.Median.{medianOf, below, hasIndex};
 
 fn one_if(b: bool) -> usize

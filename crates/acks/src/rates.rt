@@ -1,7 +1,7 @@
 // The two windows of intervals and their rates, arq.rs: 01, "ACKs, RTT, rates". The caller records appends without gap.
 ghost use mathlib.Core.Path.{_≡_};
 ghost use mathlib.Core.Bool.{true};
-ghost use Prim.Native.Nat.{_+_, _*_, _<_, _≤_, _^_};
+ghost use Prim.Native.Nat.{_*_, _<_, _≤_, _^_};
 ghost use Rattle.acks.specs.Rates.{sinceTime, oneMore, windowOf, freshArrivals, freshLinks, arrivalOf, keeps, takeIn, keptOf, rateOf, speedOf, pairOf, linkOf, linkRate, capacityOf, allUnder, timeOk, arrivalsOk, linksOk};
 use numbers::instant::Moment;
 
@@ -23,10 +23,10 @@ pub struct Links {
 }
 
 // What is left of a window: how many intervals, their sum, and that of their sizes.
-pub struct Kept {
-    pub count: u64,
-    pub sum: u64,
-    pub bytes: u64,
+struct Kept {
+    count: u64,
+    sum: u64,
+    bytes: u64,
 }
 
 pub enum Speed {
@@ -175,6 +175,7 @@ impl Arrivals {
             last: Moment::At(now),
         }
     }
+
     // Packets and bytes a second, by the intervals that are near the median.
     pub fn speed(self) -> Speed
         requires { ⌜ arrivalsOk self ≡ true ⌝ }
@@ -272,6 +273,7 @@ impl Links {
         }
         self
     }
+
     // Packets a second, by the median interval of the pairs.
     pub fn capacity(self) -> Link
         ensures { λ r. ⌜ r ≡ capacityOf self ⌝ }

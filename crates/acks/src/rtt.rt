@@ -1,6 +1,5 @@
 // The round trip's figures, rtt.rs: 01, "ACKs, RTT, rates".
 ghost use mathlib.Core.Path.{_≡_};
-ghost use Prim.Native.Nat.{_<_};
 ghost use Rattle.acks.specs.Rtt.{freshRtt, apart, updated, rttOk};
 
 pub struct Rtt {
@@ -34,7 +33,8 @@ impl Rtt {
         ensures { λ t. ⌜ t ≡ updated self r ⌝ }
     {
         let sample = r as u64;
-        let mean = (7 * (self.mean as u64) + sample) / 8;
+        let old = self.mean as u64;
+        let mean = (7 * old + sample) / 8;
         let off = apart(mean, sample);
         let variance = (3 * (self.variance as u64) + off) / 4;
         Rtt {

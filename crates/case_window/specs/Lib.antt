@@ -1,0 +1,2 @@
+-- The definitions of this program's range tests.
+pub mod Tests

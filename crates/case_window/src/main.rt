@@ -1,0 +1,760 @@
+// Runs the window's calls behind range tests of its own and writes each answer in the words of 01's trace lines, without their numbers.
+ghost use mathlib.Core.Path.{_≡_};
+ghost use Rattle.case_window.specs.Tests.{windowOk, wordsOk, areasOk, Tested, packetOk};
+use clock::time::SynchronizedRemoteClock;
+use libc::STDOUT_FILENO;
+use window::Window;
+use window::push::Packet;
+use window::push::PushAnswer;
+use window::push::Pushed;
+use window_pop::pop::PopAnswer;
+use window_pop::pop::Popped;
+use window_report::report::ReportAnswer;
+
+enum PushCall {
+    Done(Pushed),
+    Refused(u64),
+}
+
+enum PopCall {
+    Done(Popped),
+    Refused(u64),
+}
+
+enum ReportCall {
+    Done(ReportAnswer),
+    Refused(u64),
+}
+
+enum DropCall {
+    Done(usize),
+    Refused(u64),
+}
+
+// What the calls hand on, with the two settings that pop takes.
+struct State {
+    window: Window,
+    clock: SynchronizedRemoteClock,
+    latency: u32,
+    dropping: bool,
+}
+
+// The range tests: refusals 1, 2 and 5.
+
+fn window_ok(w: Window) -> bool
+    ensures { λ r. ⌜ r ≡ windowOk w ⌝ }
+{
+    (0 < w.capacity)
+        & (w.capacity <= 8192)
+        & (w.start < w.capacity)
+        & (w.held <= w.capacity)
+        & (w.seqno0 < 0x8000_0000)
+        & (w.lrsn < 0x8000_0000)
+}
+
+fn words_ok(capacity: usize, len: usize) -> bool
+    ensures { λ r. ⌜ r ≡ wordsOk capacity len ⌝ }
+{
+    capacity <= len / 3
+}
+
+fn areas_ok(capacity: usize, words: usize, bytes: usize) -> bool
+    ensures { λ r. ⌜ r ≡ areasOk capacity words bytes ⌝ }
+{
+    (capacity <= words / 3) & (capacity <= bytes / 1456)
+}
+
+fn packet_ok(p: Packet) -> bool
+    ensures { λ r. ⌜ r ≡ packetOk p ⌝ }
+{
+    (p.number < 0x8000_0000) & (p.message < 0x400_0000) & (p.location < 4)
+}
+
+// The calls behind them.
+
+fn push_tested(
+    w: Window,
+    words: &mut [u64],
+    bytes: &mut [u8],
+    time: u64,
+    p: Packet,
+    payload: &[u8],
+) -> PushCall
+    requires { ⌜ Tested w (now words) (now bytes) ⌝ }
+{
+    if 0x1000_0000_0000_0000 <= time {
+        return PushCall::Refused(3);
+    }
+    if packet_ok(p) {} else {
+        return PushCall::Refused(5);
+    }
+    if 1456 < payload.len() {
+        return PushCall::Refused(6);
+    }
+    PushCall::Done(window::push::push(w, words, bytes, time, p, payload))
+}
+
+fn try_push(
+    w: Window,
+    words: &mut [u64],
+    bytes: &mut [u8],
+    time: u64,
+    p: Packet,
+    payload: &[u8],
+) -> PushCall {
+    if window_ok(w) {} else {
+        return PushCall::Refused(1);
+    }
+    if areas_ok(w.capacity, words.len(), bytes.len()) {} else {
+        return PushCall::Refused(2);
+    }
+    push_tested(w, words, bytes, time, p, payload)
+}
+
+fn pop_tested(
+    w: Window,
+    clock: SynchronizedRemoteClock,
+    latency: u32,
+    dropping: bool,
+    words: &[u64],
+    bytes: &[u8],
+    out: &mut [u8],
+    time: i64,
+) -> PopCall
+    requires { ⌜ Tested w (now words) (now bytes) ⌝ }
+{
+    if 65_535_000 < latency {
+        return PopCall::Refused(1);
+    }
+    if clock.in_range() {} else {
+        return PopCall::Refused(1);
+    }
+    if numbers::instant::is_reading(time) {} else {
+        return PopCall::Refused(3);
+    }
+    PopCall::Done(window_pop::pop::pop(w, clock, latency, dropping, words, bytes, out, time))
+}
+
+fn try_pop(
+    w: Window,
+    clock: SynchronizedRemoteClock,
+    latency: u32,
+    dropping: bool,
+    words: &[u64],
+    bytes: &[u8],
+    out: &mut [u8],
+    time: i64,
+) -> PopCall {
+    if window_ok(w) {} else {
+        return PopCall::Refused(1);
+    }
+    if areas_ok(w.capacity, words.len(), bytes.len()) {} else {
+        return PopCall::Refused(2);
+    }
+    pop_tested(w, clock, latency, dropping, words, bytes, out, time)
+}
+
+fn try_report(w: Window, words: &mut [u64], list: &mut [u32], time: u64, mean: u32) -> ReportCall {
+    if 0x8000_0000 <= mean {
+        return ReportCall::Refused(1);
+    }
+    if window_ok(w) {} else {
+        return ReportCall::Refused(1);
+    }
+    if words_ok(w.capacity, words.len()) {} else {
+        return ReportCall::Refused(2);
+    }
+    ReportCall::Done(window_report::report::loss_report(w, words, list, time, mean))
+}
+
+fn try_drop(w: Window, words: &mut [u64], first: u32, last: u32) -> DropCall {
+    if window_ok(w) {} else {
+        return DropCall::Refused(1);
+    }
+    if words_ok(w.capacity, words.len()) {} else {
+        return DropCall::Refused(2);
+    }
+    DropCall::Done(window_report::drop_request::drop_packets(w, words, first, last))
+}
+
+// What is written.
+
+fn put(text: &[u8]) {
+    io::write_all(STDOUT_FILENO, text);
+}
+
+fn put_count(n: u64) {
+    put(b" ");
+    io::print_decimal(STDOUT_FILENO, n);
+}
+
+fn put_word(n: u32) {
+    put_count(n as u64);
+}
+
+fn put_number(z: i64) {
+    put(b" ");
+    if z < 0 {
+        put(b"-");
+    }
+    io::print_decimal(STDOUT_FILENO, numbers::instant::size(z));
+}
+
+fn put_delay(z: i32) {
+    put_number(z as i64);
+}
+
+fn put_flag(flag: bool) {
+    if flag {
+        put(b" 1");
+    } else {
+        put(b" 0");
+    }
+}
+
+fn put_refused(n: u64) {
+    put(b"refused");
+    put_count(n);
+    put(b"\n");
+}
+
+fn put_push(answer: PushAnswer) {
+    match answer {
+        PushAnswer::Got { lrsn, recovered } => {
+            put(b"got");
+            put_word(lrsn);
+            put_flag(recovered);
+            put(b"\n");
+        }
+        PushAnswer::Loss { first, last } => {
+            put(b"loss");
+            put_word(first);
+            put_word(last);
+            put(b"\n");
+        }
+        PushAnswer::BufferFull => {
+            put_refused(7);
+        }
+        PushAnswer::PacketTooEarly { room, need } => {
+            put(b"refused 8");
+            put_count(room as u64);
+            put_count(need as u64);
+            put(b"\n");
+        }
+        PushAnswer::PacketTooLate => {
+            put_refused(9);
+        }
+        PushAnswer::DiscardedDuplicate => {
+            put_refused(10);
+        }
+    }
+}
+
+// The first n bytes of an output, in brackets.
+fn put_bytes(out: &[u8], n: usize) {
+    put(b"[");
+    if n <= out.len() {
+        put(window::show::part(out, 0, n));
+    }
+    put(b"]\n");
+}
+
+fn put_pop(answer: PopAnswer, out: &[u8]) {
+    match answer {
+        PopAnswer::Nothing => {
+            put(b"none\n");
+        }
+        PopAnswer::Message {
+            time,
+            bytes,
+            packets,
+        } => {
+            put(b"message");
+            put_number(time);
+            put_count(bytes as u64);
+            put_count(packets as u64);
+            put(b"\n");
+            put_bytes(out, bytes);
+        }
+        PopAnswer::Late { first, end, delay } => {
+            put(b"late");
+            put_word(first);
+            put_word(end);
+            put_delay(delay);
+            put(b"\n");
+        }
+        PopAnswer::OutShort => {
+            put_refused(11);
+        }
+    }
+}
+
+// The first n words of a list.
+fn put_words(list: &[u32], n: usize) {
+    let mut i = 0;
+    while i < list.len() {
+        if i < n {
+            put_word(list[i]);
+        }
+        i += 1;
+    }
+}
+
+fn put_report(answer: ReportAnswer, list: &[u32]) {
+    match answer {
+        ReportAnswer::Nothing => {
+            put(b"none\n");
+        }
+        ReportAnswer::Report { words } => {
+            put(b"report");
+            put_words(list, words);
+            put(b"\n");
+        }
+        ReportAnswer::ListShort => {
+            put_refused(12);
+        }
+    }
+}
+
+// The end line of a trace, without the count of records: lrsn, seqno0, held.
+fn put_end(s: State) {
+    put(b"end");
+    put_word(s.window.lrsn);
+    put_word(s.window.seqno0);
+    put_count(s.window.held as u64);
+    put(b"\n");
+}
+
+// One call each, with its line; the state after it.
+
+fn with_window(s: State, window: Window) -> State {
+    let clock = s.clock;
+    State {
+        window,
+        clock,
+        latency: s.latency,
+        dropping: s.dropping,
+    }
+}
+
+fn push(
+    s: State,
+    words: &mut [u64; 12],
+    bytes: &mut [u8; 5824],
+    time: u64,
+    p: Packet,
+    payload: &[u8],
+) -> State {
+    let w = s.window;
+    let called = try_push(w, words, bytes, time, p, payload);
+    match called {
+        PushCall::Done(pushed) => {
+            let answer = pushed.answer;
+            put_push(answer);
+            let next = pushed.window;
+            with_window(s, next)
+        }
+        PushCall::Refused(n) => {
+            put_refused(n);
+            s
+        }
+    }
+}
+
+fn pop_into(s: State, words: &[u64], bytes: &[u8], out: &mut [u8], time: i64) -> State {
+    let w = s.window;
+    let clock = s.clock;
+    let called = try_pop(w, clock, s.latency, s.dropping, words, bytes, out, time);
+    match called {
+        PopCall::Done(popped) => {
+            let answer = popped.answer;
+            put_pop(answer, out);
+            let window = popped.window;
+            let clock = popped.clock;
+            State {
+                window,
+                clock,
+                latency: s.latency,
+                dropping: s.dropping,
+            }
+        }
+        PopCall::Refused(n) => {
+            put_refused(n);
+            s
+        }
+    }
+}
+
+// The longest message here has 13 bytes.
+fn pop(s: State, words: &[u64; 12], bytes: &[u8; 5824], time: i64) -> State {
+    let mut out = [0u8; 13];
+    pop_into(s, words, bytes, &mut out, time)
+}
+
+fn pop_short(s: State, words: &[u64; 12], bytes: &[u8; 5824], time: i64) -> State {
+    let mut out = [0u8; 12];
+    pop_into(s, words, bytes, &mut out, time)
+}
+
+// A report changes words only, and so does a drop request. The mean is 10,000.
+fn report_into(s: State, words: &mut [u64], list: &mut [u32], time: u64) {
+    let w = s.window;
+    let called = try_report(w, words, list, time, 10_000);
+    match called {
+        ReportCall::Done(answer) => {
+            put_report(answer, list);
+        }
+        ReportCall::Refused(n) => {
+            put_refused(n);
+        }
+    }
+}
+
+// No report here needs more than two words.
+fn report(s: State, words: &mut [u64; 12], time: u64) {
+    let mut list = [0u32; 2];
+    report_into(s, words, &mut list, time);
+}
+
+fn report_short(s: State, words: &mut [u64; 12], time: u64) {
+    let mut list = [0u32; 1];
+    report_into(s, words, &mut list, time);
+}
+
+fn drop_request(s: State, words: &mut [u64; 12], first: u32, last: u32) {
+    let w = s.window;
+    let called = try_drop(w, words, first, last);
+    match called {
+        DropCall::Done(n) => {
+            put(b"gone");
+            put_count(n as u64);
+            put(b"\n");
+        }
+        DropCall::Refused(n) => {
+            put_refused(n);
+        }
+    }
+}
+
+// The second question first: whether the number is received. Then the part that is shown, its length and its bytes.
+fn show_tested(w: Window, words: &[u64], bytes: &[u8], number: u32)
+    requires { ⌜ Tested w (now words) (now bytes) ⌝ }
+{
+    let place = window::show::find(w, words, number);
+    let shown = window::show::show(w, words, bytes, number);
+    put(b"shown");
+    put_flag(place.received);
+    put_count(shown.len() as u64);
+    put(b"\n[");
+    put(shown);
+    put(b"]\n");
+}
+
+fn try_show(w: Window, words: &[u64], bytes: &[u8], number: u32) {
+    if window_ok(w) {} else {
+        put_refused(1);
+        return;
+    }
+    if areas_ok(w.capacity, words.len(), bytes.len()) {} else {
+        put_refused(2);
+        return;
+    }
+    show_tested(w, words, bytes, number);
+}
+
+fn show(s: State, words: &[u64; 12], bytes: &[u8; 5824], number: u32) {
+    let w = s.window;
+    try_show(w, words, bytes, number);
+}
+
+// The areas of capacity 4. They come from functions, so that no proof looks into them.
+
+fn slot_area() -> [u64; 12] {
+    [0; 12]
+}
+
+fn payload_area() -> [u8; 5824] {
+    [0; 5824]
+}
+
+fn longest() -> [u8; 1456] {
+    [b'x'; 1456]
+}
+
+fn too_long() -> [u8; 1457] {
+    [b'x'; 1457]
+}
+
+// A new window and clock: start 0, capacity 4.
+fn fresh(first: u32, latency: u32, dropping: bool) -> State {
+    let window = Window {
+        capacity: 4,
+        start: 0,
+        held: 0,
+        seqno0: first,
+        lrsn: first,
+    };
+    let clock = SynchronizedRemoteClock::new(0);
+    State {
+        window,
+        clock,
+        latency,
+        dropping,
+    }
+}
+
+// A packet that is its whole message, FIRST and LAST.
+fn whole(number: u32, message: u32, stamp: u32) -> Packet {
+    Packet {
+        number,
+        message,
+        location: 3,
+        stamp,
+    }
+}
+
+fn part(number: u32, message: u32, location: u32, stamp: u32) -> Packet {
+    Packet {
+        number,
+        message,
+        location,
+        stamp,
+    }
+}
+
+// The scenarios.
+
+fn worked_example() {
+    put(b"the worked example of 01, then pops until nothing is left\n");
+    let mut ws = slot_area();
+    let mut bs = payload_area();
+    let mut s = fresh(2147483646, 0, true);
+    s = push(
+        s,
+        &mut ws,
+        &mut bs,
+        1000,
+        whole(2147483646, 1, 0),
+        b"aaaaaaaaaa",
+    );
+    s = push(s, &mut ws, &mut bs, 2000, whole(0, 3, 1000), b"bbbbbbbbbb");
+    s = push(
+        s,
+        &mut ws,
+        &mut bs,
+        3000,
+        whole(2147483647, 2, 500),
+        b"cccccccccc",
+    );
+    s = push(s, &mut ws, &mut bs, 3100, whole(0, 3, 1000), b"dddddddddd");
+    s = pop(s, &ws, &bs, 4000);
+    put_end(s);
+    s = pop(s, &ws, &bs, 4000);
+    s = pop(s, &ws, &bs, 4000);
+    s = pop(s, &ws, &bs, 4000);
+    put_end(s);
+}
+
+fn full_early_late() {
+    put(b"refusals 7, 8, 9 and 10\n");
+    let mut ws = slot_area();
+    let mut bs = payload_area();
+    let mut s = fresh(0, 0, true);
+    s = push(s, &mut ws, &mut bs, 0, whole(0, 0, 0), b"zero");
+    s = push(s, &mut ws, &mut bs, 0, whole(3, 3, 3), b"three");
+    s = push(s, &mut ws, &mut bs, 0, whole(4, 4, 4), b"four");
+    s = push(s, &mut ws, &mut bs, 0, whole(5, 5, 5), b"five");
+    s = pop(s, &ws, &bs, 0);
+    s = push(s, &mut ws, &mut bs, 0, whole(0, 0, 0), b"zero");
+    s = push(s, &mut ws, &mut bs, 0, whole(5, 5, 5), b"five");
+    s = push(s, &mut ws, &mut bs, 0, whole(4, 4, 4), b"four");
+    s = push(s, &mut ws, &mut bs, 0, whole(3, 3, 3), b"again");
+    put_end(s);
+}
+
+fn ties() {
+    put(b"a number 2^30 after the next is before it, one nearer is too early\n");
+    let mut ws = slot_area();
+    let mut bs = payload_area();
+    let mut s = fresh(0, 0, true);
+    s = push(s, &mut ws, &mut bs, 0, whole(1073741824, 0, 0), b"tie");
+    s = push(s, &mut ws, &mut bs, 0, whole(1073741823, 0, 0), b"early");
+    s = push(s, &mut ws, &mut bs, 0, whole(4, 0, 0), b"early");
+    s = push(s, &mut ws, &mut bs, 0, whole(3, 0, 0), b"fits");
+    put_end(s);
+}
+
+fn three_packets() {
+    put(b"a message of three packets, and an output one byte short of it\n");
+    let mut ws = slot_area();
+    let mut bs = payload_area();
+    let mut s = fresh(2147483647, 0, true);
+    s = push(s, &mut ws, &mut bs, 0, part(2147483647, 7, 2, 10), b"one ");
+    s = push(s, &mut ws, &mut bs, 100, part(1, 7, 1, 30), b"three");
+    s = pop(s, &ws, &bs, 200);
+    s = push(s, &mut ws, &mut bs, 300, part(0, 7, 0, 20), b"two ");
+    s = pop_short(s, &ws, &bs, 400);
+    s = pop(s, &ws, &bs, 400);
+    put_end(s);
+}
+
+fn release_times() {
+    put(b"a message at its time + latency, and one released no earlier than the last\n");
+    let mut ws = slot_area();
+    let mut bs = payload_area();
+    let mut s = fresh(0, 500, true);
+    s = push(s, &mut ws, &mut bs, 0, whole(0, 1, 1000), b"later");
+    s = pop(s, &ws, &bs, 1499);
+    s = pop(s, &ws, &bs, 1500);
+    s = push(s, &mut ws, &mut bs, 1600, whole(1, 2, 400), b"early");
+    s = pop(s, &ws, &bs, 1600);
+    put_end(s);
+}
+
+fn late_edge() {
+    put(b"P7 and P8: behind a lost packet, kept, then late\n");
+    let mut ws = slot_area();
+    let mut bs = payload_area();
+    let mut s = fresh(0, 100_000, true);
+    s = push(s, &mut ws, &mut bs, 100_000, whole(1, 1, 100_000), b"one");
+    s = pop(s, &ws, &bs, 204_999);
+    s = pop(s, &ws, &bs, 205_000);
+    put_end(s);
+}
+
+fn late_front() {
+    put(b"P7 and P8: with FIRST in front and no LAST\n");
+    let mut ws = slot_area();
+    let mut bs = payload_area();
+    let mut s = fresh(0, 100_000, true);
+    s = push(s, &mut ws, &mut bs, 100_000, part(0, 1, 2, 100_000), b"one");
+    s = pop(s, &ws, &bs, 204_999);
+    s = pop(s, &ws, &bs, 205_000);
+    put_end(s);
+}
+
+fn late_before_due() {
+    put(b"A36: a packet without FIRST, late before it is due\n");
+    let mut ws = slot_area();
+    let mut bs = payload_area();
+    let mut s = fresh(0, 100, true);
+    s = push(s, &mut ws, &mut bs, 0, part(1, 0, 1, 50), b"");
+    s = pop(s, &ws, &bs, 0);
+    put_end(s);
+}
+
+fn no_dropping() {
+    put(b"late dropping off\n");
+    let mut ws = slot_area();
+    let mut bs = payload_area();
+    let mut s = fresh(0, 100_000, false);
+    s = push(s, &mut ws, &mut bs, 100_000, whole(1, 1, 100_000), b"one");
+    s = pop(s, &ws, &bs, 205_000);
+    put_end(s);
+}
+
+fn report_edges() {
+    put(b"P3 to P6: mean 10,000, a loss at 0\n");
+    let mut ws = slot_area();
+    let mut bs = payload_area();
+    let mut s = fresh(5, 0, true);
+    s = push(s, &mut ws, &mut bs, 0, whole(6, 1, 0), b"six");
+    report(s, &mut ws, 20_000);
+    report(s, &mut ws, 20_001);
+    report(s, &mut ws, 50_001);
+    report(s, &mut ws, 50_002);
+}
+
+fn report_run() {
+    put(b"a run across the wrap, first in a list of one word\n");
+    let mut ws = slot_area();
+    let mut bs = payload_area();
+    let mut s = fresh(2147483647, 0, true);
+    s = push(s, &mut ws, &mut bs, 0, whole(1, 1, 0), b"one");
+    report_short(s, &mut ws, 20_001);
+    report(s, &mut ws, 20_001);
+    report(s, &mut ws, 20_001);
+}
+
+fn report_apart() {
+    put(b"two losses, each in its own time, then both\n");
+    let mut ws = slot_area();
+    let mut bs = payload_area();
+    let mut s = fresh(10, 0, true);
+    s = push(s, &mut ws, &mut bs, 0, whole(11, 1, 0), b"eleven");
+    s = push(s, &mut ws, &mut bs, 5_000, whole(13, 1, 0), b"thirteen");
+    report(s, &mut ws, 20_001);
+    report(s, &mut ws, 25_001);
+    report(s, &mut ws, 55_002);
+}
+
+fn given_up() {
+    put(b"a drop request: its packets are refused, not reported, and walked over\n");
+    let mut ws = slot_area();
+    let mut bs = payload_area();
+    let mut s = fresh(0, 0, true);
+    s = push(s, &mut ws, &mut bs, 0, whole(3, 3, 25_001), b"three");
+    drop_request(s, &mut ws, 2, 0);
+    drop_request(s, &mut ws, 0, 1);
+    drop_request(s, &mut ws, 0, 1);
+    s = push(s, &mut ws, &mut bs, 100, whole(1, 1, 0), b"one");
+    report(s, &mut ws, 20_001);
+    s = push(s, &mut ws, &mut bs, 20_100, whole(2, 2, 25_000), b"two");
+    s = pop(s, &ws, &bs, 30_000);
+    put_end(s);
+    s = pop(s, &ws, &bs, 30_000);
+    put_end(s);
+}
+
+fn shows() {
+    put(b"numbers shown: received, lost, received and empty, not held\n");
+    let mut ws = slot_area();
+    let mut bs = payload_area();
+    let mut s = fresh(0, 0, true);
+    s = push(s, &mut ws, &mut bs, 0, whole(0, 0, 0), b"hello");
+    s = push(s, &mut ws, &mut bs, 0, whole(2, 2, 0), b"");
+    show(s, &ws, &bs, 0);
+    show(s, &ws, &bs, 1);
+    show(s, &ws, &bs, 2);
+    show(s, &ws, &bs, 3);
+}
+
+fn out_of_range() {
+    put(b"the range tests: refusals 6, 5, 3 and 1, and the longest payload\n");
+    let mut ws = slot_area();
+    let mut bs = payload_area();
+    let mut s = fresh(0, 65_535_001, true);
+    let more = too_long();
+    s = push(s, &mut ws, &mut bs, 0, whole(0, 0, 0), &more);
+    let most = longest();
+    s = push(s, &mut ws, &mut bs, 0, whole(0, 0, 0), &most);
+    s = push(s, &mut ws, &mut bs, 0, whole(0x8000_0000, 0, 0), b"");
+    s = push(
+        s,
+        &mut ws,
+        &mut bs,
+        0x1000_0000_0000_0000,
+        whole(1, 0, 0),
+        b"",
+    );
+    s = pop(s, &ws, &bs, 0);
+    put_end(s);
+}
+
+fn main() {
+    worked_example();
+    full_early_late();
+    ties();
+    three_packets();
+    release_times();
+    late_edge();
+    late_front();
+    late_before_due();
+    no_dropping();
+    report_edges();
+    report_run();
+    report_apart();
+    given_up();
+    shows();
+    out_of_range();
+}
