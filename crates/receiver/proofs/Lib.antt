@@ -1,9 +1,9 @@
 -- The laws of the public calls.
+pub mod Ackings
+pub mod Datas
+pub mod Losses
+pub mod Messages
 pub mod Requests
 pub mod Shows
-pub mod Datas
-pub mod Ackings
-pub mod Syncs
-pub mod Messages
-pub mod Losses
 pub mod Stays
+pub mod Syncs

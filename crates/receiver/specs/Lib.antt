@@ -1,8 +1,8 @@
 -- The definitions of the public calls.
+pub mod Acking
+pub mod Data
+pub mod Loss
+pub mod Message
 pub mod Request
 pub mod Show
-pub mod Data
-pub mod Acking
 pub mod Sync
-pub mod Message
-pub mod Loss
