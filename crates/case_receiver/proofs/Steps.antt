@@ -1,0 +1,5 @@
+-- What the proofs of this program hand to `search`. Assumes nothing.
+use borrow.Author.Needs.{needs}
+use Rattle.numbers.proofs.Signs.{widens}
+
+pub ruleset steps = (widens, needs)
