@@ -1,0 +1,114 @@
+-- New gives a head in range; a data packet, a loss report and clear keep it there: 01, "no run from new is ever refused 1". Assumes nothing.
+use mathlib.Core.Path.{_≡_, refl}
+use mathlib.Core.Bool.{Bool, true, false, cond}
+use mathlib.Core.List.{List}
+use Prim.Native.Nat.{ℕ, _+_, _-_, _*_, _^_, _<_, _≤_}
+use native.Mathlib.Omega.{arith}
+use borrow.Author.Tests.{eqb-true, eqb-false, leb-true, leb-false, ltb-true, ltb-false, not-false}
+use lib.Dec.{eqb, ltb, leb, lit<}
+use lib.IntN.{ℤ, pos, natAbs}
+use lib.ListN.{length}
+use Rattle.numbers.specs.Whole.{isReading}
+use Rattle.numbers.specs.Circular.{distance, before, sum, successor}
+use Rattle.numbers.specs.Order.{order}
+use Rattle.numbers.specs.declared.seq.Order.{Order}
+use Rattle.numbers.specs.declared.seq.Order.the-variants.{Before, Equal, After}
+use Rattle.numbers.proofs.Flags.{by-bool, by-test}
+use Rattle.numbers.proofs.Circle.{sum-below}
+use Rattle.clock.specs.Sync.{freshClock}
+use Rattle.clock.proofs.Kept.{fresh-ok}
+use Rattle.acks.specs.Rates.{arrivalsOk, linksOk}
+use Rattle.acks.specs.History as histories
+use Rattle.acks.proofs.RttKept.{fresh-rtt-ok}
+use Rattle.acks.proofs.RateKept.{fresh-arrivals-ok, fresh-links-ok, arrival-kept, link-kept}
+use Rattle.acks.proofs.HistoryKept as history
+use Rattle.slots.specs.Words.{isLost}
+use Rattle.window.specs.Window.{Good, entryIn, nextOf, roomOf, lrsnFrom}
+use Rattle.window.specs.Push.{PushOutcome, movedPast, grown, recoveredLrsn, appendNextOf, appendWithLossOf, recoveredOf, recoverOf, byOrder, pushOf}
+use Rattle.window.specs.declared.Window.{Window}
+use Rattle.window.specs.declared.push.Packet.{Packet}
+use Rattle.window.specs.declared.push.PushAnswer.{PushAnswer}
+use Rattle.window.specs.declared.push.PushAnswer.the-variants as pushes
+use Rattle.window_report.specs.Report.{reportOf}
+use Rattle.window_report.specs.declared.report.ReportAnswer.{ReportAnswer}
+use Rattle.window_report.specs.declared.report.ReportAnswer.the-variants as reports
+use Rattle.head.specs.Rules.{firstRefusal, judged, makeRules, pushRules, timedRules, headRules}
+use Rattle.head.specs.Head.{windowOk, headOk, freshHead, madeOf}
+use Rattle.head.specs.declared.state.Head.{Head}
+use Rattle.head.specs.declared.state.Made.{Made}
+use Rattle.head.proofs.Gates.{clear}
+use Rattle.head.proofs.Ready.{InRange, in-parts, InWindow, in-window, Timed, timed-ready, PushReady, push-ready}
+use Rattle.receiver.specs.Data.{DataOutcome, withWindow, withRates, withHistory, ackedOf, ratedOf, gotOf, afterPush, takenOf, dataOf}
+use Rattle.receiver.specs.Loss.{LossOutcome, withLatest, headAfter, reportedOf, lossOf}
+use Rattle.receiver.specs.Request.{clearedOf, clearOf}
+use Rattle.receiver.specs.declared.request.Cleared.{Cleared}
+use Rattle.kept.proofs.Parts.{from-parts, from-window}
+
+-- by the refusal of a call
+by-refusal : {A : Type 0} (P : A → Type 0) (n : ℕ) (a b : A) → (n ≡ 0 → P a) → P b → P (cond (eqb n 0) a b)
+by-refusal P n a b x y = by-test P (eqb n 0) a b (λ t. x (eqb-true n 0 t)) (λ t. y)
+
+-- making: whatever the settings
+module _ (start : ℤ) (latency : ℕ) (dropping : Bool) (first capacity : ℕ) where
+  fresh-in : isReading start ≡ true → latency ≤ 65535000 → first < 2 ^ 31 → 0 < capacity → capacity ≤ 8192 → headOk (freshHead start latency dropping first capacity) ≡ true
+  unfolding freshHead
+  fresh-in s l f c m =
+      from-parts (freshHead start latency dropping first capacity)
+      (record {
+        window = from-window (freshHead start latency dropping first capacity .window) (record { some = c; most = m; starts = c; holds = omega arith; first = f; next = f });
+        latency = l;
+        clock = fresh-ok start s;
+        rtt = fresh-rtt-ok;
+        arrivals = fresh-arrivals-ok;
+        links = fresh-links-ok;
+        history = history.fresh-history-ok first f;
+        latest = s;
+      })
+
+pub made-kept : (start : ℤ) (latency : ℕ) (dropping : Bool) (first capacity : ℕ) → headOk (madeOf start latency dropping first capacity .head) ≡ true
+unfolding madeOf
+made-kept start latency dropping first capacity =
+    by-refusal (λ (m : Made). headOk (m .head) ≡ true) (firstRefusal (makeRules start latency first capacity)) _ _
+    (λ e.
+    let c = clear (makeRules start latency first capacity) (lit< tt, (lit< tt, (lit< tt, (lit< tt, (lit< tt, tt))))) e in
+    fresh-in start latency dropping first capacity (not-false (isReading start) (c .0)) (ltb-false 65535000 latency (c .1 .0)) (leb-false (2 ^ 31) first (c .1 .1 .0)) (ltb-false capacity 1 (c .1 .1 .1 .0)) (ltb-false 8192 capacity (c .1 .1 .1 .1 .0)))
+    (fresh-in (pos 0) 0 false 0 1 refl (omega arith) (omega arith) (omega arith) (omega arith))
+
+-- clear
+pub cleared-kept : (h : Head) → headOk h ≡ true → headOk (clearOf h .head) ≡ true
+unfolding clearOf clearedOf
+cleared-kept h e =
+    by-refusal (λ (c : Cleared). headOk (c .head) ≡ true) (firstRefusal (headRules (headOk h))) _ _
+    (λ z.
+    let r = in-parts h e in
+    let w = in-window (h .window) (r .window) in
+    from-parts (clearedOf h)
+    (record {
+      window = from-window (clearedOf h .window) (record { some = w .some; most = w .most; starts = w .starts; holds = omega arith; first = w .first; next = w .next });
+      latency = r .latency;
+      clock = r .clock;
+      rtt = r .rtt;
+      arrivals = r .arrivals;
+      links = r .links;
+      history = history.cleared-kept (h .history) (r .history) (h .window .lrsn) (w .next);
+      latest = r .latest;
+    }))
+    e
+
+-- a loss report
+latest-kept : (h : Head) (now : ℤ) → InRange h → isReading now ≡ true → headOk (withLatest h now) ≡ true
+latest-kept h now r n =
+    from-parts (withLatest h now)
+    (record { window = r .window; latency = r .latency; clock = r .clock; rtt = r .rtt; arrivals = r .arrivals; links = r .links; history = r .history; latest = n })
+
+pub loss-kept : (h : Head) (ws list : List ℕ) (now : ℤ) → headOk h ≡ true → headOk (lossOf h ws list now .reported .head) ≡ true
+unfolding lossOf reportedOf
+loss-kept h ws list now e =
+    by-refusal (λ (o : LossOutcome). headOk (o .reported .head) ≡ true) (firstRefusal (timedRules (headOk h) (length ws) (3 * h .window .capacity) now (h .latest))) _ _
+    (λ z. go (timed-ready h now (length ws) (3 * h .window .capacity) z .0 .reading) (reportOf (h .window) ws (natAbs now) (h .rtt .mean) list .answer))
+    e
+  where
+    go : isReading now ≡ true → (a : ReportAnswer) → headOk (headAfter h a now) ≡ true
+    go n reports.Nothing = latest-kept h now (in-parts h e) n
+    go n (reports.Report words) = latest-kept h now (in-parts h e) n
+    go n reports.ListShort = e
