@@ -1,3 +1,4 @@
 -- No run from new is ever refused 1: new gives a head in range, and each call keeps it there.
 pub mod Parts
+pub mod PushKept
 pub mod DataKept
