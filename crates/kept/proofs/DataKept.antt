@@ -43,6 +43,7 @@ use Rattle.receiver.specs.Loss.{LossOutcome, withLatest, headAfter, reportedOf,
 use Rattle.receiver.specs.Request.{clearedOf, clearOf}
 use Rattle.receiver.specs.declared.request.Cleared.{Cleared}
 use Rattle.kept.proofs.Parts.{from-parts, from-window}
+use Rattle.kept.proofs.PushKept.{Answers, push-kept}
 
 -- by the refusal of a call
 by-refusal : {A : Type 0} (P : A → Type 0) (n : ℕ) (a b : A) → (n ≡ 0 → P a) → P b → P (cond (eqb n 0) a b)
@@ -73,6 +74,10 @@ made-kept start latency dropping first capacity =
     let c = clear (makeRules start latency first capacity) (lit< tt, (lit< tt, (lit< tt, (lit< tt, (lit< tt, tt))))) e in
     fresh-in start latency dropping first capacity (not-false (isReading start) (c .0)) (ltb-false 65535000 latency (c .1 .0)) (leb-false (2 ^ 31) first (c .1 .1 .0)) (ltb-false capacity 1 (c .1 .1 .1 .0)) (ltb-false 8192 capacity (c .1 .1 .1 .1 .0)))
     (fresh-in (pos 0) 0 false 0 1 refl (omega arith) (omega arith) (omega arith) (omega arith))
+
+-- so for settings that nothing refuses
+pub fresh-kept : (start : ℤ) (latency : ℕ) (dropping : Bool) (first capacity : ℕ) → firstRefusal (makeRules start latency first capacity) ≡ 0 → headOk (madeOf start latency dropping first capacity .head) ≡ true
+fresh-kept start latency dropping first capacity e = made-kept start latency dropping first capacity
 
 -- clear
 pub cleared-kept : (h : Head) → headOk h ≡ true → headOk (clearOf h .head) ≡ true
@@ -112,3 +117,71 @@ loss-kept h ws list now e =
     go n reports.Nothing = latest-kept h now (in-parts h e) n
     go n (reports.Report words) = latest-kept h now (in-parts h e) n
     go n reports.ListShort = e
+
+-- a data packet: the parts of the head that change, one after the other
+module _ (h : Head) (r : InRange h) where
+  window-in : (w : Window) (now : ℤ) → InWindow w → isReading now ≡ true → InRange (withWindow h w now)
+  window-in w now i n =
+      record { window = from-window w i; latency = r .latency; clock = r .clock; rtt = r .rtt; arrivals = r .arrivals; links = r .links; history = r .history; latest = n }
+
+  rated-in : (now : ℤ) (number size : ℕ) → isReading now ≡ true → size ≤ 1456 → InRange (ratedOf h now number size)
+  unfolding ratedOf
+  rated-in now number size n s =
+      record {
+        window = r .window;
+        latency = r .latency;
+        clock = r .clock;
+        rtt = r .rtt;
+        arrivals = arrival-kept (h .arrivals) now size (r .arrivals) n s;
+        links = link-kept (h .links) now number (r .links) n;
+        history = r .history;
+        latest = r .latest;
+      }
+
+  acked-in : (lrsn : ℕ) (recovered : Bool) → lrsn < 2 ^ 31 → InRange (ackedOf h lrsn recovered .head)
+  unfolding ackedOf
+  acked-in lrsn recovered l =
+      record {
+        window = r .window;
+        latency = r .latency;
+        clock = r .clock;
+        rtt = r .rtt;
+        arrivals = r .arrivals;
+        links = r .links;
+        history = history.light-ack-kept (h .history) (r .history) lrsn l;
+        latest = r .latest;
+      }
+
+module _ (h : Head) (r : InRange h) (now : ℤ) (n : isReading now ≡ true) (number size : ℕ) (s : size ≤ 1456) (w : Window) (i : InWindow w) where
+  got-in : (lrsn : ℕ) (recovered : Bool) → lrsn < 2 ^ 31 → InRange (gotOf h w lrsn recovered now number size .head)
+  unfolding gotOf
+  got-in lrsn recovered l =
+      acked-in (withWindow (cond recovered h (ratedOf h now number size)) w now)
+      (window-in (cond recovered h (ratedOf h now number size))
+      (by-test InRange recovered h (ratedOf h now number size) (λ t. r) (λ t. rated-in h r now number size n s))
+      w now i n)
+      lrsn recovered l
+
+  after-in : (a : PushAnswer) → Answers a → InRange (afterPush h w a now number size .head)
+  after-in (pushes.Got lrsn recovered) l = got-in lrsn recovered l
+  after-in (pushes.Loss first last) l = window-in h r w now i n
+  after-in pushes.BufferFull l = r
+  after-in (pushes.PacketTooEarly room need) l = r
+  after-in pushes.PacketTooLate l = r
+  after-in pushes.DiscardedDuplicate l = r
+
+module _ (h : Head) (ws bs : List ℕ) (now : ℤ) (p : Packet) (payload : List ℕ) where
+  taken-in : PushReady h ws bs now p payload → InRange (takenOf h ws bs now p payload .handled .head)
+  unfolding takenOf
+  taken-in d =
+      let o = pushOf (h .window) ws bs (natAbs now) p payload in
+      let k = push-kept (h .window) ws bs (natAbs now) p payload (in-window (h .window) (d .head .window)) in
+      after-in h (d .head) now (d .reading) (p .number) (length payload) (d .right .bytes) (o .pushed .window) (k .0) (o .pushed .answer) (k .1)
+
+  pub data-kept : headOk h ≡ true → headOk (dataOf h ws bs now p payload .handled .head) ≡ true
+  unfolding dataOf
+  data-kept e =
+      by-refusal (λ (o : DataOutcome). headOk (o .handled .head) ≡ true)
+      (firstRefusal (pushRules (headOk h) (h .window .capacity) (length ws) (length bs) now (h .latest) p (length payload))) _ _
+      (λ z. from-parts (takenOf h ws bs now p payload .handled .head) (taken-in (push-ready h ws bs now p payload z)))
+      e
