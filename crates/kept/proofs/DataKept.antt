@@ -2,29 +2,19 @@
 use mathlib.Core.Path.{_≡_, refl}
 use mathlib.Core.Bool.{Bool, true, false, cond}
 use mathlib.Core.List.{List}
-use Prim.Native.Nat.{ℕ, _+_, _-_, _*_, _^_, _<_, _≤_}
+use Prim.Native.Nat.{ℕ, _*_, _^_, _<_, _≤_}
 use native.Mathlib.Omega.{arith}
-use borrow.Author.Tests.{eqb-true, eqb-false, leb-true, leb-false, ltb-true, ltb-false, not-false}
-use lib.Dec.{eqb, ltb, leb, lit<}
+use borrow.Author.Tests.{eqb-true, leb-false, ltb-false, not-false}
+use lib.Dec.{eqb, lit<}
 use lib.IntN.{ℤ, pos, natAbs}
 use lib.ListN.{length}
 use Rattle.numbers.specs.Whole.{isReading}
-use Rattle.numbers.specs.Circular.{distance, before, sum, successor}
-use Rattle.numbers.specs.Order.{order}
-use Rattle.numbers.specs.declared.seq.Order.{Order}
-use Rattle.numbers.specs.declared.seq.Order.the-variants.{Before, Equal, After}
-use Rattle.numbers.proofs.Flags.{by-bool, by-test}
-use Rattle.numbers.proofs.Circle.{sum-below}
-use Rattle.clock.specs.Sync.{freshClock}
+use Rattle.numbers.proofs.Flags.{by-test}
 use Rattle.clock.proofs.Kept.{fresh-ok}
-use Rattle.acks.specs.Rates.{arrivalsOk, linksOk}
-use Rattle.acks.specs.History as histories
 use Rattle.acks.proofs.RttKept.{fresh-rtt-ok}
 use Rattle.acks.proofs.RateKept.{fresh-arrivals-ok, fresh-links-ok, arrival-kept, link-kept}
 use Rattle.acks.proofs.HistoryKept as history
-use Rattle.slots.specs.Words.{isLost}
-use Rattle.window.specs.Window.{Good, entryIn, nextOf, roomOf, lrsnFrom}
-use Rattle.window.specs.Push.{PushOutcome, movedPast, grown, recoveredLrsn, appendNextOf, appendWithLossOf, recoveredOf, recoverOf, byOrder, pushOf}
+use Rattle.window.specs.Push.{pushOf}
 use Rattle.window.specs.declared.Window.{Window}
 use Rattle.window.specs.declared.push.Packet.{Packet}
 use Rattle.window.specs.declared.push.PushAnswer.{PushAnswer}
@@ -32,13 +22,13 @@ use Rattle.window.specs.declared.push.PushAnswer.the-variants as pushes
 use Rattle.window_report.specs.Report.{reportOf}
 use Rattle.window_report.specs.declared.report.ReportAnswer.{ReportAnswer}
 use Rattle.window_report.specs.declared.report.ReportAnswer.the-variants as reports
-use Rattle.head.specs.Rules.{firstRefusal, judged, makeRules, pushRules, timedRules, headRules}
-use Rattle.head.specs.Head.{windowOk, headOk, freshHead, madeOf}
+use Rattle.head.specs.Rules.{firstRefusal, makeRules, pushRules, timedRules, headRules}
+use Rattle.head.specs.Head.{headOk, freshHead, madeOf}
 use Rattle.head.specs.declared.state.Head.{Head}
 use Rattle.head.specs.declared.state.Made.{Made}
 use Rattle.head.proofs.Gates.{clear}
-use Rattle.head.proofs.Ready.{InRange, in-parts, InWindow, in-window, Timed, timed-ready, PushReady, push-ready}
-use Rattle.receiver.specs.Data.{DataOutcome, withWindow, withRates, withHistory, ackedOf, ratedOf, gotOf, afterPush, takenOf, dataOf}
+use Rattle.head.proofs.Ready.{InRange, in-parts, InWindow, in-window, timed-ready, PushReady, push-ready}
+use Rattle.receiver.specs.Data.{DataOutcome, withWindow, ackedOf, ratedOf, gotOf, afterPush, takenOf, dataOf}
 use Rattle.receiver.specs.Loss.{LossOutcome, withLatest, headAfter, reportedOf, lossOf}
 use Rattle.receiver.specs.Request.{clearedOf, clearOf}
 use Rattle.receiver.specs.declared.request.Cleared.{Cleared}
@@ -74,10 +64,6 @@ made-kept start latency dropping first capacity =
     let c = clear (makeRules start latency first capacity) (lit< tt, (lit< tt, (lit< tt, (lit< tt, (lit< tt, tt))))) e in
     fresh-in start latency dropping first capacity (not-false (isReading start) (c .0)) (ltb-false 65535000 latency (c .1 .0)) (leb-false (2 ^ 31) first (c .1 .1 .0)) (ltb-false capacity 1 (c .1 .1 .1 .0)) (ltb-false 8192 capacity (c .1 .1 .1 .1 .0)))
     (fresh-in (pos 0) 0 false 0 1 refl (omega arith) (omega arith) (omega arith) (omega arith))
-
--- so for settings that nothing refuses
-pub fresh-kept : (start : ℤ) (latency : ℕ) (dropping : Bool) (first capacity : ℕ) → firstRefusal (makeRules start latency first capacity) ≡ 0 → headOk (madeOf start latency dropping first capacity .head) ≡ true
-fresh-kept start latency dropping first capacity e = made-kept start latency dropping first capacity
 
 -- clear
 pub cleared-kept : (h : Head) → headOk h ≡ true → headOk (clearOf h .head) ≡ true
