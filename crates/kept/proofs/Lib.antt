@@ -1,3 +1,5 @@
 -- No run from new is ever refused 1: new gives a head in range, and each call keeps it there.
+pub mod DataKept
 pub mod Parts
+pub mod PushKept
 pub mod TimedKept

@@ -4,7 +4,6 @@ use mathlib.Core.Bool.{true}
 use Prim.Native.Nat.{_^_}
 use native.Mathlib.Omega.{arith}
 use borrow.Author.Tests.{lt-ltb, le-leb}
-use lib.Dec.{leb, ltb}
 use Rattle.window.specs.declared.Window.{Window}
 use Rattle.head.specs.Head.{windowOk, headOk}
 use Rattle.head.specs.declared.state.Head.{Head}
