@@ -576,9 +576,9 @@ fn worked_example() {
     room(h);
 }
 
-// Held 4 of 4 after a gap: 4 is the next expected, 5 needs two places. The pop leaves one place and 0 behind.
-fn full_early_late() {
-    put(b"refusals 7, 8, 9 and 10, and no ACK without room\n");
+// Held 4 of 4 after a gap: 4 is the next expected, 5 needs two places.
+fn full_early() {
+    put(b"refusals 7 and 8, and no ACK without room\n");
     let mut ws = slot_area();
     let mut bs = payload_area();
     let mut hs = history_area();
@@ -589,6 +589,16 @@ fn full_early_late() {
     h = data(h, &mut ws, &mut bs, 0, 5, 0, b"five");
     room(h);
     h = full(h, &mut hs, 0);
+}
+
+// The pop leaves one place, and 0 behind.
+fn late_early() {
+    put(b"refusals 9, 8 and 10 after a pop\n");
+    let mut ws = slot_area();
+    let mut bs = payload_area();
+    let mut h = new(0, 0, true, 0, 4);
+    h = data(h, &mut ws, &mut bs, 0, 0, 0, b"zero");
+    h = data(h, &mut ws, &mut bs, 0, 3, 0, b"three");
     h = pop(h, &ws, &bs, 0);
     h = data(h, &mut ws, &mut bs, 0, 0, 0, b"zero");
     h = data(h, &mut ws, &mut bs, 0, 5, 0, b"five");
@@ -627,9 +637,9 @@ fn losses() {
     end(h);
 }
 
-// A packet given up is refused as a duplicate; at the pop all three are walked, and only the last is received.
+// A packet given up is refused as a duplicate.
 fn given_up() {
-    put(b"a drop request, then a late drop\n");
+    put(b"a drop request\n");
     let mut ws = slot_area();
     let mut bs = payload_area();
     let mut h = new(0, 0, true, 10, 4);
@@ -640,14 +650,24 @@ fn given_up() {
     h = data(h, &mut ws, &mut bs, 100, 10, 0, b"ten");
     show(h, &ws, &bs, 11);
     show(h, &ws, &bs, 2147483648);
+}
+
+// One given up, one lost, one received: all three are walked once the last is 5,000 late.
+fn late() {
+    put(b"a late drop\n");
+    let mut ws = slot_area();
+    let mut bs = payload_area();
+    let mut h = new(0, 0, true, 10, 4);
+    h = data(h, &mut ws, &mut bs, 0, 12, 0, b"twelve");
+    drop_request(h, &mut ws, 10, 10);
     h = pop(h, &ws, &bs, 4_999);
     h = pop(h, &ws, &bs, 5_000);
     end(h);
 }
 
-// P2's figures from the ACK2 at 18,000. A clear keeps seqno0 and lrsn, so 7 is again the next expected and lrsn stays.
-fn acks_and_clear() {
-    put(b"full ACKs, ACK2s and a clear\n");
+// None at first, since nothing came; one; then none, since 100 is under 2 x 10,000.
+fn full_acks() {
+    put(b"full ACKs\n");
     let mut ws = slot_area();
     let mut bs = payload_area();
     let mut hs = history_area();
@@ -656,16 +676,38 @@ fn acks_and_clear() {
     h = data(h, &mut ws, &mut bs, 0, 7, 0, b"seven");
     h = full(h, &mut hs, 0);
     h = full(h, &mut hs, 100);
+}
+
+// P2's figures from the ACK2 at 18,000; then the ACK's number is acknowledged, and the next packet is not.
+fn ack2s() {
+    put(b"ACK2s\n");
+    let mut ws = slot_area();
+    let mut bs = payload_area();
+    let mut hs = history_area();
+    let mut h = new(0, 0, true, 7, 4);
+    h = data(h, &mut ws, &mut bs, 0, 7, 0, b"seven");
+    h = full(h, &mut hs, 0);
     h = ack2(h, &hs, 18_000, 2);
     h = ack2(h, &hs, 18_000, 1);
     h = full(h, &mut hs, 20_000);
     h = data(h, &mut ws, &mut bs, 20_000, 8, 0, b"eight");
     h = full(h, &mut hs, 20_000);
+}
+
+// A clear keeps seqno0 and lrsn, so 7 is again the next expected and lrsn stays.
+fn cleared() {
+    put(b"a clear\n");
+    let mut ws = slot_area();
+    let mut bs = payload_area();
+    let mut hs = history_area();
+    let mut h = new(0, 0, true, 7, 4);
+    h = data(h, &mut ws, &mut bs, 0, 7, 0, b"seven");
+    h = full(h, &mut hs, 0);
     h = clear(h);
-    h = full(h, &mut hs, 20_000);
-    h = ack2(h, &hs, 20_000, 2);
+    h = full(h, &mut hs, 0);
+    h = ack2(h, &hs, 0, 1);
     room(h);
-    h = data(h, &mut ws, &mut bs, 20_000, 7, 0, b"seven");
+    h = data(h, &mut ws, &mut bs, 0, 7, 0, b"seven");
     end(h);
 }
 
@@ -730,18 +772,22 @@ fn bad_head() {
     put(b"refusal 1, by every call\n");
     let mut ws = slot_area();
     let mut bs = payload_area();
-    let mut hs = history_area();
     let mut h = with_bad_latency(new(0, 0, true, 0, 4));
     h = data(h, &mut ws, &mut bs, 0, 0, 0, b"");
     h = pop(h, &ws, &bs, 0);
     h = nak(h, &mut ws, 0);
     drop_request(h, &mut ws, 0, 0);
+    show(h, &ws, &bs, 0);
+}
+
+fn bad_head_beside() {
+    let mut hs = history_area();
+    let mut h = with_bad_latency(new(0, 0, true, 0, 4));
     h = clock(h, 0, 0);
     h = full(h, &mut hs, 0);
     h = ack2(h, &hs, 0, 1);
     h = clear(h);
     room(h);
-    show(h, &ws, &bs, 0);
 }
 
 // The areas of capacity 4 are short for 5; the slots are short for a history.
@@ -764,16 +810,20 @@ fn readings() {
     put(b"refusals 3 and 4\n");
     let mut ws = slot_area();
     let mut bs = payload_area();
-    let mut hs = history_area();
     let mut h = new(10, 0, true, 0, 4);
     h = data(h, &mut ws, &mut bs, 0x1000_0000_0000_0000, 0, 0, b"");
     h = pop(h, &ws, &bs, -1);
     h = nak(h, &mut ws, 9);
+    h = pop(h, &ws, &bs, 9);
+    h = pop(h, &ws, &bs, 10);
+}
+
+fn readings_beside() {
+    let mut hs = history_area();
+    let mut h = new(10, 0, true, 0, 4);
     h = clock(h, 9, 0);
     h = full(h, &mut hs, 9);
     h = ack2(h, &hs, 9, 1);
-    h = pop(h, &ws, &bs, 9);
-    h = pop(h, &ws, &bs, 10);
 }
 
 // A number of 2^31 with 1,457 bytes is 5, by order of test.
@@ -802,19 +852,25 @@ fn bad_settings() {
 
 fn main() {
     worked_example();
-    full_early_late();
+    full_early();
+    late_early();
     three_packets();
     losses();
     given_up();
-    acks_and_clear();
+    late();
+    full_acks();
+    ack2s();
+    cleared();
     light_and_rates();
     worn();
     first_drift();
     samples();
     drift_range();
     bad_head();
+    bad_head_beside();
     short_areas();
     readings();
+    readings_beside();
     bad_packets();
     bad_settings();
 }
