@@ -1,0 +1,2 @@
+-- What the answers on paper determine, and which can occur.
+pub mod Determined
