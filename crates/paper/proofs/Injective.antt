@@ -1,0 +1,246 @@
+-- An answer is read back from its line, so that two answers with one line are the same: 01, "a definition gives this paper's number and values". Assumes nothing.
+use mathlib.Core.Path.{_≡_, refl, sym, _∙_, ap}
+use mathlib.Core.Bool.{Bool, true, false, cond}
+use mathlib.Core.List.{List, [], _∷_}
+use Prim.Native.Nat.{ℕ, zero, suc}
+use lib.Dec.{eqb}
+use lib.IntN.{ℤ, pos, negsuc, natAbs}
+use lib.Ieee.{Float, nan}
+use Rattle.acks.specs.declared.rates.Speed.{Speed}
+use Rattle.acks.specs.declared.rates.Speed.the-variants as speeds
+use Rattle.acks.specs.declared.rates.Link.{Link}
+use Rattle.acks.specs.declared.rates.Link.the-variants as links
+use Rattle.head.specs.declared.state.Made.{Made}
+use Rattle.receiver.specs.declared.data.DataAnswer.{DataAnswer}
+use Rattle.receiver.specs.declared.data.DataAnswer.the-variants as datas
+use Rattle.receiver.specs.declared.message.MessageAnswer.{MessageAnswer}
+use Rattle.receiver.specs.declared.message.MessageAnswer.the-variants as messages
+use Rattle.receiver.specs.declared.loss.LossAnswer.{LossAnswer}
+use Rattle.receiver.specs.declared.loss.LossAnswer.the-variants as losses
+use Rattle.receiver.specs.declared.request.DropAnswer.{DropAnswer}
+use Rattle.receiver.specs.declared.request.DropAnswer.the-variants as drops
+use Rattle.receiver.specs.declared.request.ClearAnswer.{ClearAnswer}
+use Rattle.receiver.specs.declared.request.ClearAnswer.the-variants as clears
+use Rattle.receiver.specs.declared.request.RoomAnswer.{RoomAnswer}
+use Rattle.receiver.specs.declared.request.RoomAnswer.the-variants as rooms
+use Rattle.receiver.specs.declared.show.ShowAnswer.{ShowAnswer}
+use Rattle.receiver.specs.declared.show.ShowAnswer.the-variants as shows
+use Rattle.receiver.specs.declared.sync.ClockAnswer.{ClockAnswer}
+use Rattle.receiver.specs.declared.sync.ClockAnswer.the-variants as clocks
+use Rattle.receiver.specs.declared.acking.FullAckAnswer.{FullAckAnswer}
+use Rattle.receiver.specs.declared.acking.FullAckAnswer.the-variants as acks
+use Rattle.receiver.specs.declared.acking.RttAnswer.{RttAnswer}
+use Rattle.receiver.specs.declared.acking.RttAnswer.the-variants as rtts
+use Rattle.paper.specs.Paper.{Word, got, light, loss, refused, message, late, report, ack, rtt, gone, adjusted, unsteady, clear, none, made, room, received, other, Line, dataLine, messageLine, lossLine, dropLine, clearLine, roomLine, shownLine, clockLine, fullAckLine, rttLine, madeLine}
+
+-- a word by its place among the words
+abbrev placeOf : Word → ℕ
+placeOf got = 0
+placeOf light = 1
+placeOf loss = 2
+placeOf refused = 3
+placeOf message = 4
+placeOf late = 5
+placeOf report = 6
+placeOf ack = 7
+placeOf rtt = 8
+placeOf gone = 9
+placeOf adjusted = 10
+placeOf unsteady = 11
+placeOf clear = 12
+placeOf none = 13
+placeOf made = 14
+placeOf room = 15
+placeOf received = 16
+placeOf other = 17
+
+abbrev is : Word → Word → Bool
+is v w = eqb (placeOf v) (placeOf w)
+
+-- value i of a line, 0 if it has none
+abbrev at : List ℤ → ℕ → ℤ
+at [] i = pos 0
+at (v ∷ vs) zero = v
+at (v ∷ vs) (suc i) = at vs i
+
+abbrev whole : List ℤ → ℕ → ℕ
+whole vs i = natAbs (at vs i)
+
+abbrev isOne : ℕ → Bool
+isOne zero = false
+isOne (suc n) = true
+
+abbrev holds : List ℤ → ℕ → Bool
+holds vs i = isOne (whole vs i)
+
+-- two answers with one line are the same if each is read back from its own
+by-reading : {A : Type 0} (line : A → Line) (back : Line → A) → ((a : A) → back (line a) ≡ a) → (a b : A) → line a ≡ line b → a ≡ b
+by-reading line back r a b e = sym (r a) ∙ (ap back e ∙ r b)
+
+-- a refusal with values is 8
+abbrev tooEarly : ℕ → List ℤ → DataAnswer
+tooEarly n [] = datas.Refused n
+tooEarly n (v ∷ vs) = datas.PacketTooEarly (natAbs v) (whole vs 0)
+
+abbrev dataBack : Word → ℕ → List ℤ → DataAnswer
+dataBack w n vs =
+    cond (is w got) (datas.Got (whole vs 0) (holds vs 1))
+    (cond (is w light) (datas.Light (whole vs 0) (holds vs 1))
+    (cond (is w loss) (datas.Loss (whole vs 0) (whole vs 1))
+    (tooEarly n vs)))
+
+data-back : (a : DataAnswer) → dataBack (dataLine a .word) (dataLine a .refusal) (dataLine a .values) ≡ a
+data-back (datas.Got lrsn true) = refl
+data-back (datas.Got lrsn false) = refl
+data-back (datas.Light lrsn true) = refl
+data-back (datas.Light lrsn false) = refl
+data-back (datas.Loss first last) = refl
+data-back (datas.Refused n) = refl
+data-back (datas.PacketTooEarly places need) = refl
+
+pub data-injective : (a b : DataAnswer) → dataLine a ≡ dataLine b → a ≡ b
+data-injective = by-reading dataLine (λ l. dataBack (l .word) (l .refusal) (l .values)) data-back
+
+abbrev messageBack : Word → ℕ → List ℤ → MessageAnswer
+messageBack w n vs =
+    cond (is w none) (messages.Nothing)
+    (cond (is w message) (messages.Message (at vs 0) (whole vs 1) (whole vs 2))
+    (cond (is w late) (messages.Late (whole vs 0) (whole vs 1) (at vs 2))
+    (messages.Refused n)))
+
+message-back : (a : MessageAnswer) → messageBack (messageLine a .word) (messageLine a .refusal) (messageLine a .values) ≡ a
+message-back messages.Nothing = refl
+message-back (messages.Message time bytes packets) = refl
+message-back (messages.Late first end delay) = refl
+message-back (messages.Refused n) = refl
+
+pub message-injective : (a b : MessageAnswer) → messageLine a ≡ messageLine b → a ≡ b
+message-injective = by-reading messageLine (λ l. messageBack (l .word) (l .refusal) (l .values)) message-back
+
+abbrev lossBack : Word → ℕ → List ℤ → LossAnswer
+lossBack w n vs =
+    cond (is w none) (losses.Nothing)
+    (cond (is w report) (losses.Report (whole vs 0))
+    (losses.Refused n))
+
+loss-back : (a : LossAnswer) → lossBack (lossLine a .word) (lossLine a .refusal) (lossLine a .values) ≡ a
+loss-back losses.Nothing = refl
+loss-back (losses.Report words) = refl
+loss-back (losses.Refused n) = refl
+
+pub loss-injective : (a b : LossAnswer) → lossLine a ≡ lossLine b → a ≡ b
+loss-injective = by-reading lossLine (λ l. lossBack (l .word) (l .refusal) (l .values)) loss-back
+
+abbrev dropBack : Word → ℕ → List ℤ → DropAnswer
+dropBack w n vs =
+    cond (is w gone) (drops.Gone (whole vs 0))
+    (drops.Refused n)
+
+drop-back : (a : DropAnswer) → dropBack (dropLine a .word) (dropLine a .refusal) (dropLine a .values) ≡ a
+drop-back (drops.Gone count) = refl
+drop-back (drops.Refused n) = refl
+
+pub drop-injective : (a b : DropAnswer) → dropLine a ≡ dropLine b → a ≡ b
+drop-injective = by-reading dropLine (λ l. dropBack (l .word) (l .refusal) (l .values)) drop-back
+
+abbrev clearBack : Word → ℕ → ClearAnswer
+clearBack w n =
+    cond (is w clear) (clears.Cleared)
+    (clears.Refused n)
+
+clear-back : (a : ClearAnswer) → clearBack (clearLine a .word) (clearLine a .refusal) ≡ a
+clear-back clears.Cleared = refl
+clear-back (clears.Refused n) = refl
+
+pub clear-injective : (a b : ClearAnswer) → clearLine a ≡ clearLine b → a ≡ b
+clear-injective = by-reading clearLine (λ l. clearBack (l .word) (l .refusal)) clear-back
+
+abbrev roomBack : Word → ℕ → List ℤ → RoomAnswer
+roomBack w n vs =
+    cond (is w room) (rooms.Room (whole vs 0))
+    (rooms.Refused n)
+
+room-back : (a : RoomAnswer) → roomBack (roomLine a .word) (roomLine a .refusal) (roomLine a .values) ≡ a
+room-back (rooms.Room places) = refl
+room-back (rooms.Refused n) = refl
+
+pub room-injective : (a b : RoomAnswer) → roomLine a ≡ roomLine b → a ≡ b
+room-injective = by-reading roomLine (λ l. roomBack (l .word) (l .refusal) (l .values)) room-back
+
+abbrev shownBack : Word → ℕ → ShowAnswer
+shownBack w n =
+    cond (is w received) (shows.Received)
+    (cond (is w other) (shows.Other)
+    (shows.Refused n))
+
+shown-back : (a : ShowAnswer) → shownBack (shownLine a .word) (shownLine a .refusal) ≡ a
+shown-back shows.Received = refl
+shown-back shows.Other = refl
+shown-back (shows.Refused n) = refl
+
+pub shown-injective : (a b : ShowAnswer) → shownLine a ≡ shownLine b → a ≡ b
+shown-injective = by-reading shownLine (λ l. shownBack (l .word) (l .refusal)) shown-back
+
+abbrev firstOf : List Float → Float
+firstOf [] = nan
+firstOf (x ∷ xs) = x
+
+abbrev clockBack : Word → ℕ → List ℤ → List Float → ClockAnswer
+clockBack w n vs xs =
+    cond (is w none) (clocks.Nothing)
+    (cond (is w adjusted) (clocks.Adjusted (at vs 0) (whole vs 1))
+    (cond (is w unsteady) (clocks.Unsteady (whole vs 0) (firstOf xs))
+    (clocks.Refused n)))
+
+clock-back : (a : ClockAnswer) → clockBack (clockLine a .word) (clockLine a .refusal) (clockLine a .values) (clockLine a .exact) ≡ a
+clock-back clocks.Nothing = refl
+clock-back (clocks.Adjusted mean deviation) = refl
+clock-back (clocks.Unsteady deviation v) = refl
+clock-back (clocks.Refused n) = refl
+
+pub clock-injective : (a b : ClockAnswer) → clockLine a ≡ clockLine b → a ≡ b
+clock-injective = by-reading clockLine (λ l. clockBack (l .word) (l .refusal) (l .values) (l .exact)) clock-back
+
+-- a rate below 0 is none
+abbrev speedBack : ℤ → ℤ → Speed
+speedBack (pos packets) bytes = speeds.Known packets (natAbs bytes)
+speedBack (negsuc n) bytes = speeds.Unknown
+
+abbrev linkBack : ℤ → Link
+linkBack (pos n) = links.Known n
+linkBack (negsuc n) = links.Unknown
+
+abbrev fullAckBack : Word → ℕ → List ℤ → FullAckAnswer
+fullAckBack w n vs =
+    cond (is w none) (acks.Nothing)
+    (cond (is w ack) (acks.Ack (whole vs 0) (whole vs 1) (whole vs 2) (whole vs 3) (whole vs 4) (speedBack (at vs 5) (at vs 6)) (linkBack (at vs 7)))
+    (acks.Refused n))
+
+full-ack-back : (a : FullAckAnswer) → fullAckBack (fullAckLine a .word) (fullAckLine a .refusal) (fullAckLine a .values) ≡ a
+full-ack-back acks.Nothing = refl
+full-ack-back (acks.Ack number lrsn mean variance places speeds.Unknown links.Unknown) = refl
+full-ack-back (acks.Ack number lrsn mean variance places speeds.Unknown (links.Known n)) = refl
+full-ack-back (acks.Ack number lrsn mean variance places (speeds.Known packets bytes) links.Unknown) = refl
+full-ack-back (acks.Ack number lrsn mean variance places (speeds.Known packets bytes) (links.Known n)) = refl
+full-ack-back (acks.Refused n) = refl
+
+pub full-ack-injective : (a b : FullAckAnswer) → fullAckLine a ≡ fullAckLine b → a ≡ b
+full-ack-injective = by-reading fullAckLine (λ l. fullAckBack (l .word) (l .refusal) (l .values)) full-ack-back
+
+abbrev rttBack : Word → ℕ → List ℤ → RttAnswer
+rttBack w n vs =
+    cond (is w none) (rtts.Nothing)
+    (cond (is w rtt) (rtts.Rtt (whole vs 0) (whole vs 1))
+    (rtts.Refused n))
+
+rtt-back : (a : RttAnswer) → rttBack (rttLine a .word) (rttLine a .refusal) (rttLine a .values) ≡ a
+rtt-back rtts.Nothing = refl
+rtt-back (rtts.Rtt mean variance) = refl
+rtt-back (rtts.Refused n) = refl
+
+pub rtt-injective : (a b : RttAnswer) → rttLine a ≡ rttLine b → a ≡ b
+rtt-injective = by-reading rttLine (λ l. rttBack (l .word) (l .refusal) (l .values)) rtt-back
+
+-- making's line has its refusal, not its head
+pub made-refusal : (a b : Made) → madeLine a ≡ madeLine b → a .refusal ≡ b .refusal
+made-refusal a b e = ap (λ l. l .refusal) e

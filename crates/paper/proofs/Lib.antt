@@ -1,0 +1,3 @@
+-- What the answers on paper determine, and which can occur.
+pub mod Determined
+pub mod Injective
