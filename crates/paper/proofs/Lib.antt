@@ -1,3 +1,4 @@
 -- What the answers on paper determine, and which can occur.
 pub mod Determined
 pub mod Injective
+pub mod Reach

@@ -1,0 +1,178 @@
+-- With areas long enough, arguments in range and readings that never go back, only 7 to 14 can occur: 01, "Refused, in order of test". Assumes nothing.
+use mathlib.Core.Path.{_≡_, refl, sym, _∙_, ap}
+use mathlib.Core.Bool.{Bool, true, false, not, _&&_, cond}
+use mathlib.Core.List.{List, [], _∷_}
+use mathlib.Core.Logic.{_⊎_, inl, inr}
+use Prim.Native.Nat.{ℕ, _+_, _*_, _^_, _<_, _≤_}
+use native.Mathlib.Omega.{arith}
+use borrow.Author.Tests.{le-ltb, lt-leb}
+use lib.Dec.{eqb}
+use lib.IntN.{ℤ, natAbs}
+use lib.ListN.{length}
+use lib.Signed.{ltZ}
+use Rattle.numbers.specs.Whole.{isReading}
+use Rattle.acks.specs.History.{ack2Of, fullAckOf, lightAckOf}
+use Rattle.acks.specs.declared.history.History.{History}
+use Rattle.acks.specs.declared.history.AckAnswer.{AckAnswer}
+use Rattle.acks.specs.declared.history.AckAnswer.the-variants as acks
+use Rattle.acks.specs.declared.history.Ack2Answer.{Ack2Answer}
+use Rattle.acks.specs.declared.history.Ack2Answer.the-variants as acks2
+use Rattle.clock.specs.Sync.{synchronized}
+use Rattle.clock.specs.declared.time.SynchronizedRemoteClock.{SynchronizedRemoteClock}
+use Rattle.clock.specs.declared.time.Synchronized.{Synchronized}
+use Rattle.clock.specs.declared.time.Synchronized.the-variants as clocks
+use Rattle.window.specs.Push.{Right, pushOf}
+use Rattle.window.specs.Show.{shownOf}
+use Rattle.window.specs.Window.{roomOf}
+use Rattle.window.specs.declared.Window.{Window}
+use Rattle.window.specs.declared.push.Packet.{Packet}
+use Rattle.window.specs.declared.push.PushAnswer.{PushAnswer}
+use Rattle.window.specs.declared.push.PushAnswer.the-variants as pushes
+use Rattle.window_pop.specs.Pop.{popOf}
+use Rattle.window_pop.specs.declared.pop.PopAnswer.{PopAnswer}
+use Rattle.window_pop.specs.declared.pop.PopAnswer.the-variants as pops
+use Rattle.window_report.specs.Report.{reportOf}
+use Rattle.window_report.specs.declared.report.ReportAnswer.{ReportAnswer}
+use Rattle.window_report.specs.declared.report.ReportAnswer.the-variants as reports
+use Rattle.head.specs.Rules.{Rule, thenOf, firstFrom, firstRefusal, judged, pushRules, popRules, timedRules, dropRules, showRules, clockRules, headRules}
+use Rattle.head.specs.Head.{headOk}
+use Rattle.head.specs.declared.state.Head.{Head}
+use Rattle.head.proofs.Gates.{Clear, passed, taken}
+use Rattle.receiver.specs.Acking as acking
+use Rattle.receiver.specs.Data as calls
+use Rattle.receiver.specs.Loss as loss
+use Rattle.receiver.specs.Message as message
+use Rattle.receiver.specs.Request as request
+use Rattle.receiver.specs.Show as show
+use Rattle.receiver.specs.Sync as sync
+use Rattle.receiver.specs.declared.acking.Ack2ed.{Ack2ed}
+use Rattle.receiver.specs.declared.request.Cleared.{Cleared}
+use Rattle.receiver.specs.declared.request.RoomAnswer.{RoomAnswer}
+use Rattle.receiver.specs.declared.show.ShowAnswer.{ShowAnswer}
+use Rattle.receiver.specs.declared.show.ShowAnswer.the-variants as shows
+use Rattle.receiver.specs.declared.sync.Clocked.{Clocked}
+use Rattle.paper.specs.Paper.{Line, Late, dataLine, messageLine, lossLine, dropLine, clearLine, roomLine, shownLine, clockLine, fullAckLine, rttLine}
+
+-- no test holds, so nothing refuses
+none-from : (k : ℕ) (l : List Rule) → k ≡ 0 → Clear l → firstFrom k l ≡ 0
+none-from k [] e c = e
+none-from k (r ∷ rs) e c = none-from (thenOf k (r .bad) (r .number)) rs (sym (passed (r .number) e (c .0))) (c .1)
+
+pub none-refuses : (l : List Rule) → Clear l → firstRefusal l ≡ 0
+none-refuses l c = none-from 0 l refl c
+
+good : {t : Bool} → t ≡ true → not t ≡ false
+good e = rw e
+
+-- 7 to 14
+within : {n : ℕ} → 7 ≤ n → n ≤ 14 → (n ≡ 0) ⊎ ((7 ≤ n) × (n ≤ 14))
+within a b = inr (a, b)
+
+-- light or not, a packet that came is refused by nothing
+got-only : (light : Bool) (lrsn : ℕ) (recovered : Bool) → Late (dataLine (calls.gotAnswer light lrsn recovered))
+got-only true lrsn recovered = inl refl
+got-only false lrsn recovered = inl refl
+
+push-only : (h : Head) (w : Window) (a : PushAnswer) (now : ℤ) (number size : ℕ) → Late (dataLine (calls.afterPush h w a now number size .answer))
+unfolding calls.gotOf calls.ackedOf
+push-only h w (pushes.Got lrsn recovered) now number size =
+    let x = calls.withWindow (cond recovered h (calls.ratedOf h now number size)) w now in
+    got-only (lightAckOf (x .history) lrsn .light) lrsn recovered
+push-only h w (pushes.Loss first last) now number size = inl refl
+push-only h w pushes.BufferFull now number size = within (omega arith) (omega arith)
+push-only h w (pushes.PacketTooEarly places need) now number size = within (omega arith) (omega arith)
+push-only h w pushes.PacketTooLate now number size = within (omega arith) (omega arith)
+push-only h w pushes.DiscardedDuplicate now number size = within (omega arith) (omega arith)
+
+pop-only : (a : PopAnswer) → Late (messageLine (message.answerOf a))
+pop-only pops.Nothing = inl refl
+pop-only (pops.Message time bytes packets) = inl refl
+pop-only (pops.Late first end delay) = inl refl
+pop-only pops.OutShort = within (omega arith) (omega arith)
+
+report-only : (a : ReportAnswer) → Late (lossLine (loss.answerOf a))
+report-only reports.Nothing = inl refl
+report-only (reports.Report words) = inl refl
+report-only reports.ListShort = within (omega arith) (omega arith)
+
+place-only : (t : Bool) → Late (shownLine (cond t shows.Received shows.Other))
+place-only true = inl refl
+place-only false = inl refl
+
+sync-only : (h : Head) (k : SynchronizedRemoteClock) (a : Synchronized) (now : ℤ) → Late (clockLine (sync.afterSync h k a now .answer))
+sync-only h k clocks.Nothing now = inl refl
+sync-only h k (clocks.Adjusted mean deviation) now = inl refl
+sync-only h k (clocks.Unsteady deviation v) now = inl refl
+sync-only h k clocks.DriftRange now = within (omega arith) (omega arith)
+
+ack-only : (h : Head) (y : History) (a : AckAnswer) (now : ℤ) → Late (fullAckLine (acking.afterAck h y a now .answer))
+ack-only h y acks.Nothing now = inl refl
+ack-only h y acks.Worn now = within (omega arith) (omega arith)
+ack-only h y (acks.Ack n) now = inl refl
+
+held-only : (h : Head) (y : History) (a : Ack2Answer) (now : ℤ) → Late (rttLine (acking.afterAck2 h y a now .answer))
+held-only h y acks2.NotHeld now = inl refl
+held-only h y (acks2.Held r) now = inl refl
+
+by-both : {A : Type 0} (P : A → Type 0) (t : Bool) (x y : A) → P x → P y → P (cond t x y)
+by-both P true x y p q = p
+by-both P false x y p q = q
+
+module _ (h : Head) (ok : headOk h ≡ true) where
+  pub clear-only : Late (clearLine (request.clearOf h .answer))
+  unfolding request.clearOf
+  clear-only = rw (none-refuses (headRules (headOk h)) (good ok, tt)) (inl refl)
+
+  pub room-only : Late (roomLine (request.roomCallOf h))
+  unfolding request.roomCallOf
+  room-only = rw (none-refuses (headRules (headOk h)) (good ok, tt)) (inl refl)
+
+  pub drop-only : (ws : List ℕ) (first last : ℕ) → 3 * h .window .capacity ≤ length ws → first < 2 ^ 31 → last < 2 ^ 31
+      → Late (dropLine (request.dropCallOf h ws first last .answer))
+  unfolding request.dropCallOf
+  drop-only ws first last a b c =
+      rw (none-refuses (dropRules (headOk h) (h .window .capacity) (length ws) first last) (good ok, (le-ltb _ _ a, (lt-leb _ _ b, (lt-leb _ _ c, tt))))) (inl refl)
+
+  pub shown-only : (ws : List ℕ) (bytes number : ℕ) → 3 * h .window .capacity ≤ length ws → 1456 * h .window .capacity ≤ bytes → number < 2 ^ 31
+      → Late (shownLine (show.shownCallOf h ws bytes number))
+  unfolding show.shownCallOf
+  shown-only ws bytes number a b c =
+      rw (none-refuses (showRules (headOk h) (h .window .capacity) (length ws) bytes number) (good ok, (le-ltb _ _ a, (le-ltb _ _ b, (lt-leb _ _ c, tt))))) (place-only (shownOf (h .window) ws number .received))
+
+  module _ (now : ℤ) (reading : isReading now ≡ true) (later : ltZ now (h .latest) ≡ false) where
+    pub data-only : (ws bs : List ℕ) (p : Packet) (payload : List ℕ) → 3 * h .window .capacity ≤ length ws → 1456 * h .window .capacity ≤ length bs → Right p payload
+        → Late (dataLine (calls.dataOf h ws bs now p payload .handled .answer))
+    unfolding calls.dataOf calls.takenOf
+    data-only ws bs p payload a b r =
+        let o = pushOf (h .window) ws bs (natAbs now) p payload in
+        rw (none-refuses (pushRules (headOk h) (h .window .capacity) (length ws) (length bs) now (h .latest) p (length payload)) (good ok, (le-ltb _ _ a, (le-ltb _ _ b, (good reading, (later, (lt-leb _ _ (r .number), (lt-leb _ _ (r .message), (lt-leb _ _ (r .location), (le-ltb _ _ (r .bytes), tt)))))))))) (push-only h (o .pushed .window) (o .pushed .answer) now (p .number) (length payload))
+
+    pub message-only : (ws bs out : List ℕ) → 3 * h .window .capacity ≤ length ws → 1456 * h .window .capacity ≤ length bs
+        → Late (messageLine (message.messageOf h ws bs out now .given .answer))
+    unfolding message.messageOf message.takenOf
+    message-only ws bs out a b =
+        rw (none-refuses (popRules (headOk h) (h .window .capacity) (length ws) (length bs) now (h .latest)) (good ok, (le-ltb _ _ a, (le-ltb _ _ b, (good reading, (later, tt)))))) (pop-only (popOf (h .clock) (h .latency) (h .dropping) (h .window) ws now bs out .popped .answer))
+
+    pub loss-only : (ws list : List ℕ) → 3 * h .window .capacity ≤ length ws → Late (lossLine (loss.lossOf h ws list now .reported .answer))
+    unfolding loss.lossOf loss.reportedOf
+    loss-only ws list a =
+        rw (none-refuses (timedRules (headOk h) (length ws) (3 * h .window .capacity) now (h .latest)) (good ok, (le-ltb _ _ a, (good reading, (later, tt))))) (report-only (reportOf (h .window) ws (natAbs now) (h .rtt .mean) list .answer))
+
+    pub clock-only : (stamp : ℕ) → Late (clockLine (sync.clockOf h now stamp .answer))
+    unfolding sync.clockOf sync.syncOf
+    clock-only stamp =
+        rw (none-refuses (clockRules (headOk h) now (h .latest)) (good ok, (good reading, (later, tt)))) (sync-only h (synchronized (h .clock) now stamp .clock) (synchronized (h .clock) now stamp .answer) now)
+
+    pub full-ack-only : (a : List ℕ) → 2048 ≤ length a → Late (fullAckLine (acking.fullAckEventOf h a now .acked .answer))
+    unfolding acking.fullAckEventOf acking.dueAck acking.roomyAck
+    full-ack-only a n =
+        let o = fullAckOf (h .history) a (natAbs now) (h .rtt .mean) (h .latency) (h .window .lrsn) in
+        rw (none-refuses (timedRules (headOk h) (length a) 2048 now (h .latest)) (good ok, (le-ltb _ _ n, (good reading, (later, tt))))) (by-both (λ (x : acking.FullAckOutcome). Late (fullAckLine (x .acked .answer))) (eqb (roomOf (h .window)) 0) _ _
+        (inl refl)
+        (ack-only h (o .acked .history) (o .acked .answer) now))
+
+    pub ack2-only : (a : List ℕ) (number : ℕ) → 2048 ≤ length a → Late (rttLine (acking.ack2PacketOf h a now number .answer))
+    unfolding acking.ack2PacketOf acking.heldAck2
+    ack2-only a number n =
+        let k = ack2Of (h .history) a (natAbs now) number in
+        rw (none-refuses (timedRules (headOk h) (length a) 2048 now (h .latest)) (good ok, (le-ltb _ _ n, (good reading, (later, tt))))) (held-only h (k .history) (k .answer) now)
