@@ -2,4 +2,5 @@
 pub mod DataKept
 pub mod Parts
 pub mod PushKept
+pub mod Runs
 pub mod TimedKept
