@@ -1,4 +1,4 @@
--- New gives a head in range; a data packet, a loss report and clear keep it there: 01, "no run from new is ever refused 1". Assumes nothing.
+-- New gives a head in range; a data packet, a loss report and clear keep it there: 01, "Head and lent areas", so no run from new is ever refused 1. Assumes nothing.
 use mathlib.Core.Path.{_≡_, refl}
 use mathlib.Core.Bool.{Bool, true, false, cond}
 use mathlib.Core.List.{List}
