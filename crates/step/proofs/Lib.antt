@@ -1,0 +1,2 @@
+-- Laws of the step function.
+pub mod Turns

@@ -1,0 +1,98 @@
+-- What the code of lib.rt does at each return, as laws over plain values. A signed number stands twice, as it is and as the machine reads it
+-- back. Assumes nothing.
+use mathlib.Core.Path.{_≡_, ap, _∙_}
+use mathlib.Core.List.{List, []}
+use Prim.Native.Nat.{ℕ}
+use borrow.Author.Needs.{needs}
+use lib.IntN.{ℤ}
+use Rattle.window.specs.declared.push.Packet.{Packet}
+use Rattle.head.specs.declared.state.Head.{Head}
+use Rattle.receiver.specs.Acking.{FullAckOutcome, fullAckEnded, ack2PacketOf, fullAckEventOf}
+use Rattle.receiver.specs.Data.{DataOutcome, dataEnded, packet, dataOf}
+use Rattle.receiver.specs.Loss.{LossOutcome, lossEnded, lossOf}
+use Rattle.receiver.specs.Message.{GivenOutcome, givenEnded, messageOf}
+use Rattle.receiver.specs.Request.{DropOutcome, dropEnded, dropCallOf, clearOf}
+use Rattle.receiver.specs.Sync.{clockOf}
+use Rattle.receiver.specs.declared.acking.FullAcked.{FullAcked}
+use Rattle.receiver.specs.declared.acking.Ack2ed.{Ack2ed}
+use Rattle.receiver.specs.declared.data.Handled.{Handled}
+use Rattle.receiver.specs.declared.loss.Reported.{Reported}
+use Rattle.receiver.specs.declared.message.Given.{Given}
+use Rattle.receiver.specs.declared.request.DropAnswer.{DropAnswer}
+use Rattle.receiver.specs.declared.request.Cleared.{Cleared}
+use Rattle.receiver.specs.declared.sync.Clocked.{Clocked}
+use Rattle.step.specs.Step.{Turn, turn, PopTurn, popTurned, stepped, Ended, ended, stateOf, lentFor, dataTurn, popTurn, reportTurn, fullAckTurn, ack2Turn, dropTurn, clockTurn, clearTurn, stepOf}
+use Rattle.step.specs.declared.Call.{Call}
+use Rattle.step.specs.declared.Call.the-variants as calls
+use Rattle.step.specs.declared.Answer.the-variants as answers
+use Rattle.step.specs.declared.Stepped.{Stepped}
+
+-- each call
+pub data-turned : (h : Head) (ws bs : List ℕ) (now : ℤ) (p : Packet) (payload : List ℕ) {r : Handled} {ws₁ bs₁ : List ℕ} {n : ℤ}
+    → dataEnded r ws₁ bs₁ ≡ dataOf h ws bs n p payload → n ≡ now
+    → turn (stepped (r .head) (answers.Data (r .answer))) ws₁ bs₁ ≡ dataTurn h ws bs now p payload
+data-turned h ws bs now p payload e q =
+    ap (λ (o : DataOutcome). turn (stepped (o .handled .head) (answers.Data (o .handled .answer))) (o .slots) (o .payloads)) e ∙ rw q
+
+pub pop-turned : (h : Head) (ws bs out : List ℕ) (now : ℤ) {r : Given} {out₁ : List ℕ} {n : ℤ}
+    → givenEnded r out₁ ≡ messageOf h ws bs out n → n ≡ now → popTurned (stepped (r .head) (answers.Pop (r .answer))) ws bs out₁ ≡ popTurn h ws bs out now
+pop-turned h ws bs out now e q =
+    ap (λ (o : GivenOutcome). popTurned (stepped (o .given .head) (answers.Pop (o .given .answer))) ws bs (o .output)) e ∙ rw q
+
+pub report-turned : (h : Head) (ws list : List ℕ) (now : ℤ) {r : Reported} {ws₁ list₁ : List ℕ} {n : ℤ}
+    → lossEnded r ws₁ list₁ ≡ lossOf h ws list n → n ≡ now → turn (stepped (r .head) (answers.Report (r .answer))) ws₁ list₁ ≡ reportTurn h ws list now
+report-turned h ws list now e q =
+    ap (λ (o : LossOutcome). turn (stepped (o .reported .head) (answers.Report (o .reported .answer))) (o .slots) (o .list)) e ∙ rw q
+
+pub full-ack-turned : (h : Head) (a : List ℕ) (now : ℤ) {r : FullAcked} {a₁ : List ℕ} {n : ℤ}
+    → fullAckEnded r a₁ ≡ fullAckEventOf h a n → n ≡ now → turn (stepped (r .head) (answers.FullAck (r .answer))) a₁ [] ≡ fullAckTurn h a now
+full-ack-turned h a now e q =
+    ap (λ (o : FullAckOutcome). turn (stepped (o .acked .head) (answers.FullAck (o .acked .answer))) (o .area) []) e ∙ rw q
+
+pub ack2-turned : (h : Head) (a : List ℕ) (now : ℤ) (number : ℕ) {r : Ack2ed} {n : ℤ}
+    → r ≡ ack2PacketOf h a n number → n ≡ now → turn (stepped (r .head) (answers.Ack2 (r .answer))) [] [] ≡ ack2Turn h a now number
+ack2-turned h a now number e q = ap (λ (o : Ack2ed). turn (stepped (o .head) (answers.Ack2 (o .answer))) [] []) e ∙ rw q
+
+pub drop-turned : (h : Head) (ws : List ℕ) (first last : ℕ) {a : DropAnswer} {ws₁ : List ℕ}
+    → dropEnded a ws₁ ≡ dropCallOf h ws first last → turn (stepped h (answers.Drop a)) ws₁ [] ≡ dropTurn h ws first last
+drop-turned h ws first last e = ap (λ (o : DropOutcome). turn (stepped h (answers.Drop (o .answer))) (o .slots) []) e
+
+pub clock-turned : (h : Head) (now : ℤ) (stamp : ℕ) {r : Clocked} {n : ℤ}
+    → r ≡ clockOf h n stamp → n ≡ now → turn (stepped (r .head) (answers.Clock (r .answer))) [] [] ≡ clockTurn h now stamp
+clock-turned h now stamp e q = ap (λ (o : Clocked). turn (stepped (o .head) (answers.Clock (o .answer))) [] []) e ∙ rw q
+
+pub clear-turned : (h : Head) {r : Cleared} → r ≡ clearOf h → turn (stepped (r .head) (answers.Clear (r .answer))) [] [] ≡ clearTurn h
+clear-turned h e = ap (λ (o : Cleared). turn (stepped (o .head) (answers.Clear (o .answer))) [] []) e
+
+-- the call by its case
+module _ (h : Head) (ws bs a payload out list : List ℕ) (c : Call) where
+  abbrev Left : Stepped → List ℕ → List ℕ → List ℕ → List ℕ → List ℕ → Type 0
+  Left r ws₁ bs₁ a₁ out₁ list₁ = ended r ws₁ bs₁ a₁ out₁ list₁ ≡ stepOf (stateOf h ws bs a) (lentFor payload out list) c
+
+  pub data-left : {r : Stepped} {ws₁ bs₁ : List ℕ} {n time : ℤ} {number message location stamp : ℕ}
+      → c ≡ calls.Data time number message location stamp → turn r ws₁ bs₁ ≡ dataTurn h ws bs n (packet number message location stamp) payload → n ≡ time → Left r ws₁ bs₁ a out list
+  data-left e f q = ap (λ (t : Turn). ended (t .stepped) (t .first) (t .second) a out list) f ∙ rw (e, q)
+
+  pub pop-left : {r : Stepped} {ws₁ bs₁ out₁ : List ℕ} {n time : ℤ}
+      → c ≡ calls.Pop time → popTurned r ws₁ bs₁ out₁ ≡ popTurn h ws bs out n → n ≡ time → Left r ws₁ bs₁ a out₁ list
+  pop-left e f q = ap (λ (t : PopTurn). ended (t .stepped) (t .slots) (t .payloads) a (t .output) list) f ∙ rw (e, q)
+
+  pub report-left : {r : Stepped} {ws₁ list₁ : List ℕ} {n time : ℤ} → c ≡ calls.Report time → turn r ws₁ list₁ ≡ reportTurn h ws list n → n ≡ time → Left r ws₁ bs a out list₁
+  report-left e f q = ap (λ (t : Turn). ended (t .stepped) (t .first) bs a out (t .second)) f ∙ rw (e, q)
+
+  pub full-ack-left : {r : Stepped} {a₁ : List ℕ} {n time : ℤ} → c ≡ calls.FullAck time → turn r a₁ [] ≡ fullAckTurn h a n → n ≡ time → Left r ws bs a₁ out list
+  full-ack-left e f q = ap (λ (t : Turn). ended (t .stepped) ws bs (t .first) out list) f ∙ rw (e, q)
+
+  pub ack2-left : {r : Stepped} {n time : ℤ} {number : ℕ} → c ≡ calls.Ack2 time number → turn r [] [] ≡ ack2Turn h a n number → n ≡ time → Left r ws bs a out list
+  ack2-left e f q = ap (λ (t : Turn). ended (t .stepped) ws bs a out list) f ∙ rw (e, q)
+
+  pub drop-left : {r : Stepped} {ws₁ : List ℕ} {first last : ℕ} → c ≡ calls.Drop first last → turn r ws₁ [] ≡ dropTurn h ws first last → Left r ws₁ bs a out list
+  drop-left e f = ap (λ (t : Turn). ended (t .stepped) (t .first) bs a out list) f ∙ rw e
+
+  pub clock-left : {r : Stepped} {n time : ℤ} {stamp : ℕ} → c ≡ calls.Clock time stamp → turn r [] [] ≡ clockTurn h n stamp → n ≡ time → Left r ws bs a out list
+  clock-left e f q = ap (λ (t : Turn). ended (t .stepped) ws bs a out list) f ∙ rw (e, q)
+
+  pub clear-left : {r : Stepped} → c ≡ calls.Clear → turn r [] [] ≡ clearTurn h → Left r ws bs a out list
+  clear-left e f = ap (λ (t : Turn). ended (t .stepped) ws bs a out list) f ∙ rw e
+
+pub ruleset turns = (data-turned, pop-turned, report-turned, full-ack-turned, ack2-turned, drop-turned, clock-turned, clear-turned, data-left, pop-left, report-left, full-ack-left, ack2-left, drop-left, clock-left, clear-left, needs)

@@ -1,0 +1,2 @@
+-- The definition of one step.
+pub mod Step
