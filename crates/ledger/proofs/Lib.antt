@@ -1,0 +1,2 @@
+-- The proofs of the claims.
+pub mod Moves
