@@ -30,8 +30,7 @@ use Rattle.head.proofs.Gates.{clear}
 use Rattle.head.proofs.Ready.{InRange, in-parts, InWindow, in-window, timed-ready, PushReady, push-ready}
 use Rattle.receiver.specs.Data.{DataOutcome, withWindow, ackedOf, ratedOf, gotOf, afterPush, takenOf, dataOf}
 use Rattle.receiver.specs.Loss.{LossOutcome, withLatest, headAfter, reportedOf, lossOf}
-use Rattle.receiver.specs.Request.{clearedOf, clearOf}
-use Rattle.receiver.specs.declared.request.Cleared.{Cleared}
+use Rattle.receiver.specs.Request.{ClearOutcome, clearedOf, clearOf}
 use Rattle.kept.proofs.Parts.{from-parts, from-window}
 use Rattle.kept.proofs.PushKept.{Answers, push-kept}
 
@@ -66,10 +65,10 @@ made-kept start latency dropping first capacity =
     (fresh-in (pos 0) 0 false 0 1 refl (omega arith) (omega arith) (omega arith) (omega arith))
 
 -- clear
-pub cleared-kept : (h : Head) → headOk h ≡ true → headOk (clearOf h .head) ≡ true
+pub cleared-kept : (h : Head) → headOk h ≡ true → headOk (clearOf h .cleared .head) ≡ true
 unfolding clearOf clearedOf
 cleared-kept h e =
-    by-refusal (λ (c : Cleared). headOk (c .head) ≡ true) (firstRefusal (headRules (headOk h))) _ _
+    by-refusal (λ (o : ClearOutcome). headOk (o .cleared .head) ≡ true) (firstRefusal (headRules (headOk h))) _ _
     (λ z.
     let r = in-parts h e in
     let w = in-window (h .window) (r .window) in
