@@ -39,7 +39,7 @@ use Rattle.head.proofs.Ready.{InRange, in-parts, in-window, timed-ready, clock-
 use Rattle.receiver.specs.Acking.{withRtt, afterAck, FullAckOutcome, roomyAck, dueAck, fullAckEventOf, afterAck2, heldAck2, Ack2Outcome, ack2PacketOf}
 use Rattle.receiver.specs.Message.{GivenOutcome, withPop, headAfter, takenOf, messageOf}
 use Rattle.receiver.specs.Sync.{afterSync, syncOf, ClockOutcome, clockOf}
-use Rattle.kept.proofs.Parts.{from-parts, from-window}
+use Rattle.kept.proofs.Parts.{from-parts, from-good}
 
 -- the head with other parts in range, and a reading as its latest
 module _ (h : Head) (now : ℤ) (i : InRange h) (r : isReading now ≡ true) where
@@ -146,6 +146,6 @@ message-kept h ws bs out now o =
     let p : PopOutcome = popOf (h .clock) (h .latency) (h .dropping) (h .window) ws now bs out in
     let g = pop-good (h .clock) (h .latency) (h .dropping) (h .window) ws now bs out (pop-ready h now ws bs (eqb-true n 0 z) .good) in
     after-pop h now i (not-false (isReading now) (c .1 .1 .1 .0)) (p .popped .window) (p .popped .clock) (p .popped .answer) o
-    (from-window (p .popped .window) (record { some = g .some; most = g .most; starts = g .starts; holds = g .holds; first = g .first; next = g .next }))
+    (from-good (p .popped .window) ws g)
     (pop-clock (h .clock) (h .latency) (h .dropping) (h .window) ws now bs out (i .clock)))
     (λ z. o)
