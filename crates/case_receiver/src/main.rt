@@ -9,6 +9,7 @@ use case_calls::drop_request;
 use case_calls::end;
 use case_calls::full;
 use case_calls::history_area;
+use case_calls::nak;
 use case_calls::new;
 use case_calls::payload_area;
 use case_calls::pop;
@@ -88,6 +89,20 @@ fn worked_example() {
     end(h);
     show(h, &ws, &bs, 2147483647);
     room(h);
+}
+
+// P3 to P6 of 01: a loss at 0, due after 20,000 and then after 20,001 + 30,000.
+fn reports() {
+    put(b"loss reports\n");
+    let mut ws = slot_area();
+    let mut bs = payload_area();
+    let mut h = new(0, 0, true, 10, 4);
+    h = data(h, &mut ws, &mut bs, 0, 11, 0, b"eleven");
+    h = nak(h, &mut ws, 20_000);
+    h = nak(h, &mut ws, 20_001);
+    h = nak(h, &mut ws, 50_001);
+    h = nak(h, &mut ws, 50_002);
+    end(h);
 }
 
 // A packet given up is refused as a duplicate.
@@ -228,6 +243,7 @@ fn samples() {
 
 fn main() {
     worked_example();
+    reports();
     given_up();
     late();
     full_acks();
