@@ -12,7 +12,7 @@ use Rattle.receiver.specs.declared.data.DataAnswer.{DataAnswer}
 use Rattle.receiver.specs.declared.data.DataAnswer.the-variants as datas
 use Rattle.receiver.specs.declared.message.MessageAnswer.{MessageAnswer}
 use Rattle.receiver.specs.declared.message.MessageAnswer.the-variants as messages
-use Rattle.paper.specs.Paper.{dataLine}
+use Rattle.receiver.specs.Paper.{dataLine}
 use Rattle.step.specs.Step.{State, Lent, Ended, stepOf}
 use Rattle.step.specs.declared.Call.{Call}
 use Rattle.step.specs.declared.Call.the-variants as calls

@@ -7,12 +7,12 @@ use borrow.Author.Needs.{needs}
 use lib.IntN.{ℤ}
 use Rattle.window.specs.declared.push.Packet.{Packet}
 use Rattle.head.specs.declared.state.Head.{Head}
-use Rattle.receiver.specs.Acking.{FullAckOutcome, fullAckEnded, ack2PacketOf, fullAckEventOf}
+use Rattle.receiver.specs.Acking.{FullAckOutcome, fullAckEnded, Ack2Outcome, ack2Ended, ack2PacketOf, fullAckEventOf}
 use Rattle.receiver.specs.Data.{DataOutcome, dataEnded, packet, dataOf}
 use Rattle.receiver.specs.Loss.{LossOutcome, lossEnded, lossOf}
 use Rattle.receiver.specs.Message.{GivenOutcome, givenEnded, messageOf}
-use Rattle.receiver.specs.Request.{DropOutcome, dropEnded, dropCallOf, clearOf}
-use Rattle.receiver.specs.Sync.{clockOf}
+use Rattle.receiver.specs.Request.{DropOutcome, dropEnded, dropCallOf, ClearOutcome, clearEnded, clearOf}
+use Rattle.receiver.specs.Sync.{ClockOutcome, clockEnded, clockOf}
 use Rattle.receiver.specs.declared.acking.FullAcked.{FullAcked}
 use Rattle.receiver.specs.declared.acking.Ack2ed.{Ack2ed}
 use Rattle.receiver.specs.declared.data.Handled.{Handled}
@@ -50,19 +50,19 @@ full-ack-turned h a now e q =
     ap (λ (o : FullAckOutcome). turn (stepped (o .acked .head) (answers.FullAck (o .acked .answer))) (o .area) []) e ∙ rw q
 
 pub ack2-turned : (h : Head) (a : List ℕ) (now : ℤ) (number : ℕ) {r : Ack2ed} {n : ℤ}
-    → r ≡ ack2PacketOf h a n number → n ≡ now → turn (stepped (r .head) (answers.Ack2 (r .answer))) [] [] ≡ ack2Turn h a now number
-ack2-turned h a now number e q = ap (λ (o : Ack2ed). turn (stepped (o .head) (answers.Ack2 (o .answer))) [] []) e ∙ rw q
+    → ack2Ended r ≡ ack2PacketOf h a n number → n ≡ now → turn (stepped (r .head) (answers.Ack2 (r .answer))) [] [] ≡ ack2Turn h a now number
+ack2-turned h a now number e q = ap (λ (o : Ack2Outcome). turn (stepped (o .acked2 .head) (answers.Ack2 (o .acked2 .answer))) [] []) e ∙ rw q
 
 pub drop-turned : (h : Head) (ws : List ℕ) (first last : ℕ) {a : DropAnswer} {ws₁ : List ℕ}
     → dropEnded a ws₁ ≡ dropCallOf h ws first last → turn (stepped h (answers.Drop a)) ws₁ [] ≡ dropTurn h ws first last
 drop-turned h ws first last e = ap (λ (o : DropOutcome). turn (stepped h (answers.Drop (o .answer))) (o .slots) []) e
 
 pub clock-turned : (h : Head) (now : ℤ) (stamp : ℕ) {r : Clocked} {n : ℤ}
-    → r ≡ clockOf h n stamp → n ≡ now → turn (stepped (r .head) (answers.Clock (r .answer))) [] [] ≡ clockTurn h now stamp
-clock-turned h now stamp e q = ap (λ (o : Clocked). turn (stepped (o .head) (answers.Clock (o .answer))) [] []) e ∙ rw q
+    → clockEnded r ≡ clockOf h n stamp → n ≡ now → turn (stepped (r .head) (answers.Clock (r .answer))) [] [] ≡ clockTurn h now stamp
+clock-turned h now stamp e q = ap (λ (o : ClockOutcome). turn (stepped (o .clocked .head) (answers.Clock (o .clocked .answer))) [] []) e ∙ rw q
 
-pub clear-turned : (h : Head) {r : Cleared} → r ≡ clearOf h → turn (stepped (r .head) (answers.Clear (r .answer))) [] [] ≡ clearTurn h
-clear-turned h e = ap (λ (o : Cleared). turn (stepped (o .head) (answers.Clear (o .answer))) [] []) e
+pub clear-turned : (h : Head) {r : Cleared} → clearEnded r ≡ clearOf h → turn (stepped (r .head) (answers.Clear (r .answer))) [] [] ≡ clearTurn h
+clear-turned h e = ap (λ (o : ClearOutcome). turn (stepped (o .cleared .head) (answers.Clear (o .cleared .answer))) [] []) e
 
 -- the call by its case
 module _ (h : Head) (ws bs a payload out list : List ℕ) (c : Call) where

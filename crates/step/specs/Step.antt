@@ -9,6 +9,7 @@ use Rattle.receiver.specs.Data.{packet, dataOf}
 use Rattle.receiver.specs.Loss.{lossOf}
 use Rattle.receiver.specs.Message.{messageOf}
 use Rattle.receiver.specs.Request.{dropCallOf, clearOf}
+use Rattle.receiver.specs.Paper.{Line, dataLine, messageLine, lossLine, dropLine, clearLine, clockLine, fullAckLine, rttLine}
 use Rattle.receiver.specs.Sync.{clockOf}
 use Rattle.step.specs.declared.Call.{Call}
 use Rattle.step.specs.declared.Call.the-variants as calls
@@ -74,26 +75,38 @@ abbrev pub fullAckTurn : Head → List ℕ → ℤ → Turn
 fullAckTurn h a now = let o = fullAckEventOf h a now in turn (stepped (o .acked .head) (answers.FullAck (o .acked .answer))) (o .area) []
 
 abbrev pub ack2Turn : Head → List ℕ → ℤ → ℕ → Turn
-ack2Turn h a now number = let o = ack2PacketOf h a now number in turn (stepped (o .head) (answers.Ack2 (o .answer))) [] []
+ack2Turn h a now number = let o = ack2PacketOf h a now number in turn (stepped (o .acked2 .head) (answers.Ack2 (o .acked2 .answer))) [] []
 
 abbrev pub dropTurn : Head → List ℕ → ℕ → ℕ → Turn
 dropTurn h ws first last = let o = dropCallOf h ws first last in turn (stepped h (answers.Drop (o .answer))) (o .slots) []
 
 abbrev pub clockTurn : Head → ℤ → ℕ → Turn
-clockTurn h now stamp = let o = clockOf h now stamp in turn (stepped (o .head) (answers.Clock (o .answer))) [] []
+clockTurn h now stamp = let o = clockOf h now stamp in turn (stepped (o .clocked .head) (answers.Clock (o .clocked .answer))) [] []
 
 abbrev pub clearTurn : Head → Turn
-clearTurn h = let o = clearOf h in turn (stepped (o .head) (answers.Clear (o .answer))) [] []
+clearTurn h = let o = clearOf h in turn (stepped (o .cleared .head) (answers.Clear (o .cleared .answer))) [] []
 
--- all that a step leaves: its answer, the state, and the output and the words
+-- an answer on paper; the words of a report are the first of the list
+abbrev pub lineOf : Answer → List ℕ → Line
+lineOf (answers.Data a) list = dataLine a
+lineOf (answers.Pop a) list = messageLine a
+lineOf (answers.Report a) list = lossLine a list
+lineOf (answers.FullAck a) list = fullAckLine a
+lineOf (answers.Ack2 a) list = rttLine a
+lineOf (answers.Drop a) list = dropLine a
+lineOf (answers.Clock a) list = clockLine a
+lineOf (answers.Clear a) list = clearLine a
+
+-- all that a step leaves: its answer and that answer's line, the state, and the output and the words
 pub record Ended : Type 0 where
   pub answer : Answer
+  pub line : Line
   pub state : State
   pub output : List ℕ
   pub list : List ℕ
 
 abbrev pub ended : Stepped → List ℕ → List ℕ → List ℕ → List ℕ → List ℕ → Ended
-ended r ws bs a out list = record { answer = r .answer; state = stateOf (r .head) ws bs a; output = out; list = list }
+ended r ws bs a out list = record { answer = r .answer; line = lineOf (r .answer) list; state = stateOf (r .head) ws bs a; output = out; list = list }
 
 -- a call takes only the areas that it needs; all else stays
 module _ (s : State) (l : Lent) where
