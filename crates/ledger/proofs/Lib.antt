@@ -1,2 +1,6 @@
 -- The proofs of the claims.
+pub mod Places
+pub mod Owned
 pub mod Moves
+pub mod Moved
+pub mod Data

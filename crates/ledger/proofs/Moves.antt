@@ -117,7 +117,7 @@ module _ (h : Head) (ws bs : List ℕ) (now : ℤ) (p : Packet) (payload : List 
   abbrev missing : ℕ
   missing = distance 31 (p .number) (nextOf w)
 
-  abbrev Said : (Window → List Seen → DataAnswer → Type 0) → DataOutcome → Type 0
+  abbrev pub Said : (Window → List Seen → DataAnswer → Type 0) → DataOutcome → Type 0
   Said P o = P (o .handled .head .window) (entries (o .handled .head .window) (o .slots) (o .payloads)) (o .handled .answer)
 
   -- the window's outcome as the call's

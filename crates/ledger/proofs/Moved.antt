@@ -1,0 +1,45 @@
+-- What one call must keep of the ledger, and that each kind of change keeps it. Assumes nothing.
+use mathlib.Core.Path.{_≡_, refl, ap, sym, _∙_}
+use mathlib.Core.List.{List, [], _∷_, _++_, map, append-assoc, append-nil}
+use Prim.Native.Nat.{ℕ, _+_, _-_, _^_, _<_, _≤_}
+use native.Mathlib.Omega.{arith}
+use lib.ListN.{length, length-append, length-map, length-take, length-drop, length-set, length-replicate, take, drop, set, replicate}
+use Rattle.numbers.specs.Circular.{distance, sum}
+use Rattle.numbers.proofs.Circle.{sum-sum}
+use Rattle.window.specs.Window.{numberIn}
+use Rattle.window.specs.declared.Window.{Window}
+use Rattle.views.specs.View.{Seen, gapIn, LrsnRight, entries}
+use Rattle.ledger.specs.Ledger.{Place, lost, received, Fate, released, discarded, Ledger, numberOf, frontOf, nextOf}
+use Rattle.ledger.specs.Claims.{Agrees, placeOf, receivedRun, releasedBytes}
+use Rattle.ledger.proofs.Places.{run-gap}
+use Rattle.ledger.proofs.Owned.{OwnHeld, OwnGone}
+
+-- ledger and entries agree, and bytes belong to their numbers
+pub record Stands (S : ℕ → List ℕ → Type 0) (l : Ledger) (w : Window) (es : List Seen) : Type 0 where
+  pub front : w .seqno0 ≡ numberOf l (frontOf l)
+  pub held : map placeOf es ≡ l .held
+  pub right : LrsnRight w es
+  pub ownGone : OwnGone S (l .first) 0 (l .gone)
+  pub ownHeld : OwnHeld S (l .first) (frontOf l) (l .held)
+
+-- after a call: so many places more, and these bytes handed out
+pub record Moved (S : ℕ → List ℕ → Type 0) (l l₁ : Ledger) (w : Window) (es : List Seen) (places : ℕ) (out : List ℕ) : Type 0 where
+  pub stands : Stands S l₁ w es
+  pub handed : releasedBytes (l₁ .gone) ≡ releasedBytes (l .gone) ++ out
+  pub all : nextOf l₁ ≡ nextOf l + places
+
+pub still : (S : ℕ → List ℕ → Type 0) (l : Ledger) (w : Window) (es : List Seen) → Stands S l w es → Moved S l l w es 0 []
+still S l w es a = record { stands = a; handed = sym (append-nil (releasedBytes (l .gone))); all = omega arith }
+
+-- how many are held
+pub held-count : {S : ℕ → List ℕ → Type 0} {l : Ledger} {w : Window} {es : List Seen} → Stands S l w es → length es ≡ length (l .held)
+held-count {es = es} a = sym (length-map es placeOf) ∙ ap length (a .held)
+
+-- the number of a held place, from the front's number
+pub place-number : {S : ℕ → List ℕ → Type 0} {l : Ledger} {w : Window} {es : List Seen} → Stands S l w es → (i : ℕ) → numberIn w i ≡ numberOf l (frontOf l + i)
+place-number {l = l} a i = ap (λ (x : ℕ). sum 31 x i) (a .front) ∙ sum-sum 31 (l .first) (frontOf l) i
+
+-- lrsn, as the ledger says it and as the entries do
+pub lrsn-said : {S : ℕ → List ℕ → Type 0} {l : Ledger} {w : Window} {es : List Seen} → Stands S l w es → w .lrsn ≡ numberOf l (frontOf l + receivedRun (l .held))
+lrsn-said {l = l} {es = es} a =
+    a .right ∙ place-number a (gapIn es) ∙ ap (λ (x : ℕ). numberOf l (frontOf l + x)) (sym (run-gap es) ∙ ap receivedRun (a .held))
