@@ -4,3 +4,4 @@ pub mod Owned
 pub mod Moves
 pub mod Moved
 pub mod Data
+pub mod Pop

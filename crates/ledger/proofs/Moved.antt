@@ -1,18 +1,19 @@
 -- What one call must keep of the ledger, and that each kind of change keeps it. Assumes nothing.
-use mathlib.Core.Path.{_≡_, refl, ap, sym, _∙_}
+use mathlib.Core.Path.{_≡_, ap, sym, _∙_, subst}
 use mathlib.Core.List.{List, [], _∷_, _++_, map, append-assoc, append-nil}
 use Prim.Native.Nat.{ℕ, _+_, _-_, _^_, _<_, _≤_}
 use native.Mathlib.Omega.{arith}
-use lib.ListN.{length, length-append, length-map, length-take, length-drop, length-set, length-replicate, take, drop, set, replicate}
+use lib.ListN.{length, length-append, length-map, length-drop, take, drop}
+use lib.Seq.{length-take-le}
 use Rattle.numbers.specs.Circular.{distance, sum}
 use Rattle.numbers.proofs.Circle.{sum-sum}
 use Rattle.window.specs.Window.{numberIn}
 use Rattle.window.specs.declared.Window.{Window}
 use Rattle.views.specs.View.{Seen, gapIn, LrsnRight, entries}
-use Rattle.ledger.specs.Ledger.{Place, lost, received, Fate, released, discarded, Ledger, numberOf, frontOf, nextOf}
+use Rattle.ledger.specs.Ledger.{Place, lost, received, Fate, released, discarded, Ledger, numberOf, frontOf, nextOf, leave}
 use Rattle.ledger.specs.Claims.{Agrees, placeOf, receivedRun, releasedBytes}
-use Rattle.ledger.proofs.Places.{run-gap}
-use Rattle.ledger.proofs.Owned.{OwnHeld, OwnGone}
+use Rattle.ledger.proofs.Places.{map-drop, run-gap}
+use Rattle.ledger.proofs.Owned.{OwnHeld, OwnGone, gone-append, held-drop}
 
 -- ledger and entries agree, and bytes belong to their numbers
 pub record Stands (S : ℕ → List ℕ → Type 0) (l : Ledger) (w : Window) (es : List Seen) : Type 0 where
@@ -43,3 +44,25 @@ place-number {l = l} a i = ap (λ (x : ℕ). sum 31 x i) (a .front) ∙ sum-sum 
 pub lrsn-said : {S : ℕ → List ℕ → Type 0} {l : Ledger} {w : Window} {es : List Seen} → Stands S l w es → w .lrsn ≡ numberOf l (frontOf l + receivedRun (l .held))
 lrsn-said {l = l} {es = es} a =
     a .right ∙ place-number a (gapIn es) ∙ ap (λ (x : ℕ). numberOf l (frontOf l + x)) (sym (run-gap es) ∙ ap receivedRun (a .held))
+
+-- places leave the front
+module _ (S : ℕ → List ℕ → Type 0) (l : Ledger) (w : Window) (es : List Seen) (a : Stands S l w es) (n : ℕ) (f : Place → Fate) (h : n ≤ length (l .held)) where
+  front-after : frontOf (leave l n f) ≡ frontOf l + n
+  front-after =
+      length-append (l .gone) (map f (take n (l .held)))
+      ∙ ap (λ (x : ℕ). frontOf l + x) (length-map (take n (l .held)) f ∙ length-take-le n (l .held) h)
+
+  pub left-all : nextOf (leave l n f) ≡ nextOf l + 0
+  left-all = let x = front-after in let y = length-drop n (l .held) in omega arith
+
+  pub left-stands : (v : Window) (fs : List Seen)
+      → v .seqno0 ≡ numberIn w n → fs ≡ drop n es → LrsnRight v fs → OwnGone S (l .first) (frontOf l) (map f (take n (l .held))) → Stands S (leave l n f) v fs
+  left-stands v fs e d r o =
+      let z : 0 + frontOf l ≡ frontOf l = omega arith in
+      record {
+        front = e ∙ place-number a n ∙ ap (numberOf l) (sym front-after);
+        held = ap (map placeOf) d ∙ map-drop placeOf n es ∙ ap (drop n) (a .held);
+        right = r;
+        ownGone = gone-append S (l .first) (l .gone) (map f (take n (l .held))) 0 (a .ownGone) (subst (λ (x : ℕ). OwnGone S (l .first) x (map f (take n (l .held)))) (sym z) o);
+        ownHeld = subst (λ (x : ℕ). OwnHeld S (l .first) x (drop n (l .held))) (sym front-after) (held-drop S (l .first) n (l .held) (frontOf l) (a .ownHeld));
+      }

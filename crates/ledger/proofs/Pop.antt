@@ -1,0 +1,151 @@
+-- A pop keeps the ledger: 01, "Window", from "Pop" on, with refusals 1 to 4 and 11. Assumes nothing.
+use mathlib.Core.Path.{_≡_, refl, ap, sym, _∙_, subst}
+use mathlib.Core.Bool.{Bool}
+use mathlib.Core.List.{List, [], _∷_, _++_, map, append-nil}
+use Prim.Native.Nat.{ℕ, _+_, _-_, _^_, _<_, _≤_}
+use native.Mathlib.Omega.{arith}
+use lib.IntN.{ℤ}
+use lib.ListN.{length, take, drop}
+use lib.Seq.{take-at}
+use Rattle.numbers.specs.Circular.{distance, sum}
+use Rattle.numbers.proofs.Circle.{sum-zero, distance-sum}
+use Rattle.window.specs.Window.{Good, numberIn}
+use Rattle.window.specs.declared.Window.{Window}
+use Rattle.window_pop.specs.Pop.{PopOutcome, PopReady, discardFront, popOf}
+use Rattle.window_pop.specs.declared.pop.PopAnswer.{PopAnswer}
+use Rattle.window_pop.specs.declared.pop.PopAnswer.the-variants as pops
+use Rattle.window_pop.proofs.PopLaws.{pop-cases}
+use Rattle.head.specs.Rules.{firstRefusal, popRules}
+use Rattle.head.specs.Head.{headOk}
+use Rattle.head.specs.declared.state.Head.{Head}
+use Rattle.head.proofs.Ready.{pop-ready}
+use Rattle.receiver.specs.Message.{GivenOutcome, popped, takenOf, messageOf}
+use Rattle.receiver.specs.declared.message.MessageAnswer.{MessageAnswer}
+use Rattle.views.specs.View as views
+use Rattle.views.specs.View.{Seen, entries, LrsnRight, gapIn, joined}
+use Rattle.views.proofs.Lists.{entries-length}
+use Rattle.views.proofs.Pops.{Handed, pop-seen, pop-right, pop-handed}
+use Rattle.ledger.specs.Ledger.{Place, Fate, released, discarded, bytesOf, Ledger, frontOf, leave, enterPop}
+use Rattle.ledger.specs.Claims.{placeOf, receivedRun, releasedBytes, popBytes}
+use Rattle.ledger.proofs.Places.{map-take, run-gap, released-append, released-joined, discarded-none}
+use Rattle.ledger.proofs.Owned.{gone-released, gone-discarded}
+use Rattle.ledger.proofs.Moved.{Stands, Moved, still, held-count, left-stands, left-all}
+use Rattle.ledger.proofs.Moves.{by-refusal}
+
+-- how many places an answer of the window takes off the front
+abbrev takes : PopAnswer → ℕ
+takes pops.Nothing = 0
+takes (pops.Message time bytes packets) = packets
+takes (pops.Late first end delay) = distance 31 end first
+takes pops.OutShort = 0
+
+module _ (S : ℕ → List ℕ → Type 0) (l : Ledger) (h : Head) (ws bs out : List ℕ) (now : ℤ) (a : Stands S l (h .window) (entries (h .window) ws bs)) where
+  abbrev w : Window
+  w = h .window
+
+  abbrev es : List Seen
+  es = entries w ws bs
+
+  abbrev o : PopOutcome
+  o = popOf (h .clock) (h .latency) (h .dropping) w ws now bs out
+
+  -- what the call leaves
+  abbrev pub Kept : GivenOutcome → Type 0
+  Kept g =
+      Moved S l (enterPop l (g .given .answer)) (g .given .head .window) (entries (g .given .head .window) ws bs) 0 (popBytes (g .given .answer) (g .output))
+
+  abbrev Front : PopOutcome → Type 0
+  Front x = (x .popped .window .seqno0 ≡ numberIn w (takes (x .popped .answer))) × (takes (x .popped .answer) ≤ w .held)
+
+  front : Good w ws → Front o
+  unfolding discardFront
+  front g =
+      pop-cases (h .clock) (h .latency) (h .dropping) w ws now bs out Front
+      (sym (sum-zero 31 (g .first)), omega arith)
+      (sym (sum-zero 31 (g .first)), omega arith)
+      (λ some held fits. (refl, held))
+      (λ n stamp some held.
+      let d : distance 31 (numberIn w n) (w .seqno0) ≡ n = distance-sum 31 (w .seqno0) {n = n} (omega (arith, g .holds, g .most)) in
+      (ap (numberIn w) (sym d), omega arith))
+
+  count : w .held ≡ length (l .held)
+  count = sym (entries-length (w .capacity) (w .start) ws bs 0 (w .held)) ∙ held-count a
+
+  same : Moved S l l w es 0 []
+  same = still S l w es a
+
+  module _ (d : PopReady (h .clock) (h .latency) w ws bs now) where
+    seen : entries (o .popped .window) ws bs ≡ views.afterPop es (o .popped .answer)
+    seen = pop-seen (h .clock) (h .latency) (h .dropping) w ws now bs out (d .good)
+
+    right : LrsnRight (o .popped .window) (entries (o .popped .window) ws bs)
+    right = pop-right (h .clock) (h .latency) (h .dropping) w ws now bs out (d .good) (a .right)
+
+    -- nothing leaves
+    stays : o .popped .answer ≡ pops.Nothing → Moved S l l (o .popped .window) (entries (o .popped .window) ws bs) 0 []
+    stays e =
+        still S l (o .popped .window) (entries (o .popped .window) ws bs)
+        (record {
+          front = front (d .good) .0 ∙ ap (λ (x : PopAnswer). numberIn w (takes x)) e ∙ sum-zero 31 (d .good .first) ∙ a .front;
+          held = ap (map placeOf) (seen ∙ ap (views.afterPop es) e) ∙ a .held;
+          right = right;
+          ownGone = a .ownGone;
+          ownHeld = a .ownHeld;
+        })
+
+    -- a message: its places are all received, and the output has their bytes
+    given : (time : ℤ) (bytes packets : ℕ) → o .popped .answer ≡ pops.Message time bytes packets
+        → Moved S l (leave l packets (λ x. released (bytesOf x))) (o .popped .window) (entries (o .popped .window) ws bs) 0 (take bytes (o .output))
+    given time bytes packets e =
+        let f : Place → Fate = λ x. released (bytesOf x) in
+        let m = pop-handed (h .clock) (h .latency) (h .dropping) w ws now bs out (d .good) (d .payloads) time bytes packets e in
+        let some : packets ≤ length (l .held) = omega (arith, m .held, count) in
+        let run : packets ≤ receivedRun (l .held) = subst (λ (x : List Place). packets ≤ receivedRun x) (a .held) (subst (λ (x : ℕ). packets ≤ x) (sym (run-gap es)) (m .whole)) in
+        let own = gone-released S (l .first) packets (frontOf l) (l .held) run (a .ownHeld) in
+        let laid : take bytes (o .output) ≡ joined (take packets es) =
+        ap (take bytes) (m .output) ∙ take-at (joined (take packets es)) (drop bytes out) bytes (sym (m .long)) in
+        let places : take packets (l .held) ≡ map placeOf (take packets es) = ap (take packets) (sym (a .held)) ∙ sym (map-take placeOf packets es) in
+        let bytes-of : releasedBytes (map f (take packets (l .held))) ≡ take bytes (o .output) =
+        ap (λ (x : List Place). releasedBytes (map f x)) places ∙ released-joined (take packets es) ∙ sym laid in
+        record {
+          stands =
+              left-stands S l w es a packets f some (o .popped .window) (entries (o .popped .window) ws bs)
+              (front (d .good) .0 ∙ ap (λ (x : PopAnswer). numberIn w (takes x)) e)
+              (seen ∙ ap (views.afterPop es) e)
+              right
+              own;
+          handed = released-append (l .gone) (map f (take packets (l .held))) ∙ ap (λ (x : List ℕ). releasedBytes (l .gone) ++ x) bytes-of;
+          all = left-all S l w es a packets f some;
+        }
+
+    -- a late drop
+    dropped : (first end : ℕ) (delay : ℤ) → o .popped .answer ≡ pops.Late first end delay
+        → Moved S l (leave l (distance 31 end first) (λ x. discarded)) (o .popped .window) (entries (o .popped .window) ws bs) 0 []
+    dropped first end delay e =
+        let n = distance 31 end first in
+        let f : Place → Fate = λ x. discarded in
+        let some : n ≤ length (l .held) = subst (λ (x : ℕ). n ≤ x) count (subst (λ (x : PopAnswer). takes x ≤ w .held) e (front (d .good) .1)) in
+        record {
+          stands =
+              left-stands S l w es a n f some (o .popped .window) (entries (o .popped .window) ws bs)
+              (front (d .good) .0 ∙ ap (λ (x : PopAnswer). numberIn w (takes x)) e)
+              (seen ∙ ap (views.afterPop es) e)
+              right
+              (gone-discarded S (l .first) (frontOf l) (take n (l .held)));
+          handed = released-append (l .gone) (map f (take n (l .held))) ∙ ap (λ (x : List ℕ). releasedBytes (l .gone) ++ x) (discarded-none (take n (l .held)));
+          all = left-all S l w es a n f some;
+        }
+
+    by-answer : (x : PopAnswer) → o .popped .answer ≡ x → Kept (popped h now o)
+    by-answer pops.Nothing e = rw e (stays e)
+    by-answer (pops.Message time bytes packets) e = rw e (given time bytes packets e)
+    by-answer (pops.Late first end delay) e = rw e (dropped first end delay e)
+    by-answer pops.OutShort e = rw e same
+
+  -- the call
+  pub pop-stands : Kept (messageOf h ws bs out now)
+  unfolding messageOf takenOf
+  pop-stands =
+      by-refusal Kept (firstRefusal (popRules (headOk h) (w .capacity) (length ws) (length bs) now (h .latest))) _ _
+      (λ z. by-answer (pop-ready h now ws bs z) (o .popped .answer) refl)
+      (λ z. same)
