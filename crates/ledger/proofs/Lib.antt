@@ -5,3 +5,4 @@ pub mod Moves
 pub mod Moved
 pub mod Data
 pub mod Pop
+pub mod Others

@@ -93,6 +93,11 @@ unfolding views.givenIn givenIn
 given-places from to i [] = refl
 given-places from to i (e ∷ es) = rw (given-place (leb from i && ltb i to) e, given-places from to (suc i) es)
 
+pub given-long : (from to i : ℕ) (xs : List Place) → length (givenIn from to i xs) ≡ length xs
+unfolding givenIn
+given-long from to i [] = refl
+given-long from to i (x ∷ xs) = ap suc (given-long from to (suc i) xs)
+
 -- a loss report moves no place
 reported-place : (time mean : ℕ) (e : Seen) → placeOf (views.reportedSeen time mean e) ≡ placeOf e
 reported-place time mean (views.lost k f) = by-bool (ltb (f + k * mean) time) (λ t. rw t) (λ t. rw t)

@@ -1,0 +1,182 @@
+-- A loss report, a drop request, ACKs and the clock keep the ledger: 01, "Window", "ACKs, RTT, rates" and "Clock". Assumes nothing.
+use mathlib.Core.Path.{_≡_, refl, ap, sym, _∙_, subst}
+use mathlib.Core.Bool.{Bool, true, false, cond}
+use mathlib.Core.List.{List, [], map, append-nil}
+use Prim.Native.Nat.{ℕ, _+_, _*_, _^_, _<_, _≤_, min}
+use native.Mathlib.Omega.{arith}
+use lib.Dec.{eqb}
+use lib.IntN.{ℤ, natAbs}
+use lib.ListN.{length}
+use Rattle.numbers.specs.Circular.{saturating, sum}
+use Rattle.numbers.proofs.Flags.{by-test}
+use Rattle.numbers.proofs.Signs.{reading-size}
+use Rattle.clock.specs.Sync.{synchronized}
+use Rattle.clock.specs.declared.time.SynchronizedRemoteClock.{SynchronizedRemoteClock}
+use Rattle.clock.specs.declared.time.Synchronized.{Synchronized}
+use Rattle.clock.specs.declared.time.Synchronized.the-variants as clocks
+use Rattle.acks.specs.History.{ack2Of, fullAckOf}
+use Rattle.acks.specs.declared.history.History.{History}
+use Rattle.acks.specs.declared.history.AckAnswer.{AckAnswer}
+use Rattle.acks.specs.declared.history.AckAnswer.the-variants as acks
+use Rattle.acks.specs.declared.history.Ack2Answer.{Ack2Answer}
+use Rattle.acks.specs.declared.history.Ack2Answer.the-variants as acks2
+use Rattle.window.specs.Window.{Good, roomOf}
+use Rattle.window.specs.declared.Window.{Window}
+use Rattle.window_report.specs.Report.{ReportOutcome, reportOf}
+use Rattle.window_report.specs.Drop as dropping
+use Rattle.window_report.specs.Drop.{dropFrom, dropTo, dropOf}
+use Rattle.window_report.specs.declared.report.ReportAnswer.{ReportAnswer}
+use Rattle.window_report.specs.declared.report.ReportAnswer.the-variants as reports
+use Rattle.head.specs.Rules.{firstRefusal, timedRules, dropRules, clockRules}
+use Rattle.head.specs.Head.{headOk}
+use Rattle.head.specs.declared.state.Head.{Head}
+use Rattle.head.proofs.Ready.{good, timed-ready, drop-ready}
+use Rattle.receiver.specs.Acking.{FullAckOutcome, Ack2Outcome, afterAck, afterAck2, roomyAck, dueAck, fullAckEventOf, heldAck2, ack2PacketOf}
+use Rattle.receiver.specs.Loss.{LossOutcome, headAfter, ending, reportedOf, lossOf}
+use Rattle.receiver.specs.Request.{DropOutcome, goneOf, dropCallOf}
+use Rattle.receiver.specs.Sync.{ClockOutcome, afterSync, syncOf, clockOf}
+use Rattle.views.specs.View as views
+use Rattle.views.specs.View.{Seen, entries, LrsnRight}
+use Rattle.views.proofs.Lists.{entries-length}
+use Rattle.views.proofs.Marks.{report-seen, report-right, drop-seen, drop-right}
+use Rattle.ledger.specs.Ledger.{Place, Ledger, numberOf, frontOf, holding, givenIn, endIn, enterDrop}
+use Rattle.ledger.specs.Claims.{placeOf, releasedBytes}
+use Rattle.ledger.proofs.Places.{given-places, given-long, reported-places}
+use Rattle.ledger.proofs.Owned.{held-given}
+use Rattle.ledger.proofs.Moved.{Stands, Moved, still, held-count}
+use Rattle.ledger.proofs.Moves.{by-refusal}
+
+module _ (S : ℕ → List ℕ → Type 0) (l : Ledger) (h : Head) (ws bs : List ℕ) (a : Stands S l (h .window) (entries (h .window) ws bs)) where
+  abbrev w : Window
+  w = h .window
+
+  abbrev es : List Seen
+  es = entries w ws bs
+
+  same : Moved S l l w es 0 []
+  same = still S l w es a
+
+  -- a loss report moves no place
+  abbrev pub Reported : LossOutcome → Type 0
+  Reported o = Moved S l l (o .reported .head .window) (entries (o .reported .head .window) (o .slots) bs) 0 []
+
+  report-places : (time mean : ℕ) (x : ReportAnswer) → map placeOf (views.afterReport time mean es x) ≡ map placeOf es
+  report-places time mean reports.Nothing = refl
+  report-places time mean (reports.Report words) = reported-places time mean es
+  report-places time mean reports.ListShort = refl
+
+  report-window : (now : ℤ) (x : ReportAnswer) → headAfter h x now .window ≡ w
+  report-window now reports.Nothing = refl
+  report-window now (reports.Report words) = refl
+  report-window now reports.ListShort = refl
+
+  pub report-stands : (list : List ℕ) (now : ℤ) → Reported (lossOf h ws list now)
+  unfolding lossOf reportedOf
+  report-stands list now =
+      by-refusal Reported (firstRefusal (timedRules (headOk h) (length ws) (3 * w .capacity) now (h .latest))) _ _
+      (λ z.
+      let t = timed-ready h now (length ws) (3 * w .capacity) z in
+      let g = good w ws (t .0 .head .window) (t .1) in
+      let u = reading-size now (t .0 .reading) .1 in
+      let o = reportOf w ws (natAbs now) (h .rtt .mean) list in
+      subst (λ (v : Window). Moved S l l v (entries v (o .slots) bs) 0 []) (sym (report-window now (o .answer)))
+      (still S l w (entries w (o .slots) bs)
+      (record {
+        front = a .front;
+        held = ap (map placeOf) (report-seen w ws bs g (natAbs now) (h .rtt .mean) list u) ∙ report-places (natAbs now) (h .rtt .mean) (o .answer) ∙ a .held;
+        right = report-right w ws bs g (natAbs now) (h .rtt .mean) list u (a .right);
+        ownGone = a .ownGone;
+        ownHeld = a .ownHeld;
+      })))
+      (λ z. same)
+
+  -- a drop request gives up lost places
+  abbrev pub Requested : ℕ → ℕ → DropOutcome → Type 0
+  Requested first last o = Moved S l (enterDrop l first last (o .answer)) w (entries w (o .slots) bs) 0 []
+
+  count : w .held ≡ length (l .held)
+  count = sym (entries-length (w .capacity) (w .start) ws bs 0 (w .held)) ∙ held-count a
+
+  end-is : (number : ℕ) → dropping.endIn w number ≡ endIn l number
+  unfolding dropping.endIn
+  end-is number = rw (a .front, count)
+
+  pub drop-stands : (first last : ℕ) → Requested first last (dropCallOf h ws first last)
+  unfolding dropCallOf
+  drop-stands first last =
+      by-refusal (Requested first last) (firstRefusal (dropRules (headOk h) (w .capacity) (length ws) first last)) _ _
+      (λ z.
+      let g = drop-ready h ws first last z in
+      let given = givenIn (endIn l first) (endIn l (sum 31 last 1)) 0 (l .held) in
+      let held : map placeOf (entries w (dropOf w ws first last .slots) bs) ≡ given =
+      ap (map placeOf) (drop-seen w ws bs g first last)
+      ∙ given-places (dropFrom w first) (dropTo w last) 0 es
+      ∙ ap (givenIn (dropFrom w first) (dropTo w last) 0) (a .held)
+      ∙ ap (λ (x : ℕ). givenIn x (dropTo w last) 0 (l .held)) (end-is first)
+      ∙ ap (λ (x : ℕ). givenIn (endIn l first) x 0 (l .held)) (end-is (sum 31 last 1)) in
+      let long : length given ≡ length (l .held) = given-long (endIn l first) (endIn l (sum 31 last 1)) 0 (l .held) in
+      record {
+        stands =
+            record {
+              front = a .front;
+              held = held;
+              right = drop-right w ws bs g first last (a .right);
+              ownGone = a .ownGone;
+              ownHeld = held-given S (l .first) (endIn l first) (endIn l (sum 31 last 1)) 0 (l .held) (frontOf l) (a .ownHeld);
+            };
+        handed = sym (append-nil (releasedBytes (l .gone)));
+        all = omega (arith, long);
+      })
+      (λ z. same)
+
+  -- ACKs and the clock leave the window
+  abbrev Alike : Window → Type 0
+  Alike v = Moved S l l v (entries v ws bs) 0 []
+
+  alike : (v : Window) → v ≡ w → Alike v
+  alike v e = subst Alike (sym e) same
+
+  pub full-ack-stands : (b : List ℕ) (now : ℤ) → Alike (fullAckEventOf h b now .acked .head .window)
+  unfolding fullAckEventOf dueAck roomyAck
+  full-ack-stands b now =
+      by-refusal (λ (o : FullAckOutcome). Alike (o .acked .head .window)) (firstRefusal (timedRules (headOk h) (length b) 2048 now (h .latest))) _ _
+      (λ z.
+      by-test (λ (o : FullAckOutcome). Alike (o .acked .head .window)) (eqb (roomOf w) 0) _ _
+      (λ t. same)
+      (λ t.
+      let k = fullAckOf (h .history) b (natAbs now) (h .rtt .mean) (h .latency) (w .lrsn) in
+      alike (afterAck h (k .acked .history) (k .acked .answer) now .head .window) (go (k .acked .history) (k .acked .answer))))
+      (λ z. same)
+    where
+      go : (y : History) (x : AckAnswer) → afterAck h y x now .head .window ≡ w
+      go y acks.Nothing = refl
+      go y acks.Worn = refl
+      go y (acks.Ack n) = refl
+
+  pub ack2-stands : (b : List ℕ) (now : ℤ) (number : ℕ) → Alike (ack2PacketOf h b now number .acked2 .head .window)
+  unfolding ack2PacketOf heldAck2
+  ack2-stands b now number =
+      by-refusal (λ (o : Ack2Outcome). Alike (o .acked2 .head .window)) (firstRefusal (timedRules (headOk h) (length b) 2048 now (h .latest))) _ _
+      (λ z.
+      let k = ack2Of (h .history) b (natAbs now) number in
+      alike (afterAck2 h (k .history) (k .answer) now .head .window) (go (k .history) (k .answer)))
+      (λ z. same)
+    where
+      go : (y : History) (x : Ack2Answer) → afterAck2 h y x now .head .window ≡ w
+      go y acks2.NotHeld = refl
+      go y (acks2.Held r) = refl
+
+  pub clock-stands : (now : ℤ) (stamp : ℕ) → Alike (clockOf h now stamp .clocked .head .window)
+  unfolding clockOf syncOf
+  clock-stands now stamp =
+      by-refusal (λ (o : ClockOutcome). Alike (o .clocked .head .window)) (firstRefusal (clockRules (headOk h) now (h .latest))) _ _
+      (λ z.
+      let k = synchronized (h .clock) now stamp in
+      alike (afterSync h (k .clock) (k .answer) now .head .window) (go (k .clock) (k .answer)))
+      (λ z. same)
+    where
+      go : (k : SynchronizedRemoteClock) (x : Synchronized) → afterSync h k x now .head .window ≡ w
+      go k clocks.Nothing = refl
+      go k (clocks.Adjusted mean deviation) = refl
+      go k (clocks.Unsteady deviation v) = refl
+      go k clocks.DriftRange = refl
