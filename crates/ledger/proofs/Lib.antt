@@ -6,3 +6,4 @@ pub mod Moved
 pub mod Data
 pub mod Pop
 pub mod Others
+pub mod Theorem

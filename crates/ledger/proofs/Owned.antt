@@ -33,10 +33,10 @@ module _ (S : ℕ → List ℕ → Type 0) (first : ℕ) where
   clash₂ : {bytes : List ℕ} {P : Type 0} → givenUp ≡ received bytes → P
   clash₂ e = absurd (let z : _≡_ {A = ℕ} 0 1 = cc in omega arith)
 
-  nothing : (i : ℕ) (bytes : List ℕ) {P : Type 0} → getD [] i lost ≡ received bytes → P
+  pub nothing : (i : ℕ) (bytes : List ℕ) {P : Type 0} → getD [] i lost ≡ received bytes → P
   nothing i bytes e = clash e
 
-  empty : (i : ℕ) (bytes : List ℕ) {P : Type 0} → getD [] i discarded ≡ released bytes → P
+  pub empty : (i : ℕ) (bytes : List ℕ) {P : Type 0} → getD [] i discarded ≡ released bytes → P
   empty i bytes e = clash₁ e
 
   -- a list and its parts
