@@ -6,4 +6,5 @@ pub mod Moved
 pub mod Data
 pub mod Pop
 pub mod Others
+pub mod Judged
 pub mod Theorem

@@ -26,10 +26,10 @@ use Rattle.views.specs.View.{Seen, entries, LrsnRight, gapIn, joined}
 use Rattle.views.proofs.Lists.{entries-length}
 use Rattle.views.proofs.Pops.{Handed, pop-seen, pop-right, pop-handed}
 use Rattle.ledger.specs.Ledger.{Place, Fate, released, discarded, bytesOf, Ledger, frontOf, leave, enterPop}
-use Rattle.ledger.specs.Claims.{placeOf, receivedRun, releasedBytes, popBytes}
+use Rattle.ledger.specs.Claims.{placeOf, receivedRun, releasedBytes, popBytes, Tells}
 use Rattle.ledger.proofs.Places.{map-take, run-gap, released-append, released-joined, discarded-none}
 use Rattle.ledger.proofs.Owned.{gone-released, gone-discarded}
-use Rattle.ledger.proofs.Moved.{Stands, Moved, still, held-count, left-stands, left-all}
+use Rattle.ledger.proofs.Moved.{Stands, Moved, still, held-count, place-number, left-stands, left-all}
 use Rattle.ledger.proofs.Moves.{by-refusal}
 
 -- how many places an answer of the window takes off the front
@@ -53,6 +53,9 @@ module _ (S : ℕ → List ℕ → Type 0) (l : Ledger) (h : Head) (ws bs out : 
   abbrev pub Kept : GivenOutcome → Type 0
   Kept g =
       Moved S l (enterPop l (g .given .answer)) (g .given .head .window) (entries (g .given .head .window) ws bs) 0 (popBytes (g .given .answer) (g .output))
+
+  abbrev pub Told : GivenOutcome → Type 0
+  Told g = Tells l (g .given .answer) (g .output)
 
   abbrev Front : PopOutcome → Type 0
   Front x = (x .popped .window .seqno0 ≡ numberIn w (takes (x .popped .answer))) × (takes (x .popped .answer) ≤ w .held)
@@ -142,6 +145,40 @@ module _ (S : ℕ → List ℕ → Type 0) (l : Ledger) (h : Head) (ws bs out : 
     by-answer (pops.Late first end delay) e = rw e (dropped first end delay e)
     by-answer pops.OutShort e = rw e same
 
+    -- what the answer says of the places that leave
+    abbrev Named : PopAnswer → Type 0
+    Named pops.Nothing = Unit
+    Named (pops.Message time bytes packets) = Unit
+    Named (pops.Late first end delay) = (0 < distance 31 end first) × (first ≡ w .seqno0) × (end ≡ numberIn w (distance 31 end first))
+    Named pops.OutShort = Unit
+
+    named : Named (o .popped .answer)
+    unfolding discardFront
+    named =
+        pop-cases (h .clock) (h .latency) (h .dropping) w ws now bs out (λ (x : PopOutcome). Named (x .popped .answer))
+        tt
+        tt
+        (λ some held fits. tt)
+        (λ n stamp some held.
+        let e : distance 31 (numberIn w n) (w .seqno0) ≡ n = distance-sum 31 (w .seqno0) {n = n} (omega (arith, d .good .holds, d .good .most)) in
+        (omega arith, refl, ap (numberIn w) (sym e)))
+
+    tells : (x : PopAnswer) → o .popped .answer ≡ x → Told (popped h now o)
+    tells pops.Nothing e = rw e tt
+    tells (pops.Message time bytes packets) e =
+        let m = pop-handed (h .clock) (h .latency) (h .dropping) w ws now bs out (d .good) (d .payloads) time bytes packets e in
+        let f : Place → Fate = λ x. released (bytesOf x) in
+        let run : packets ≤ receivedRun (l .held) = subst (λ (x : List Place). packets ≤ receivedRun x) (a .held) (subst (λ (x : ℕ). packets ≤ x) (sym (run-gap es)) (m .whole)) in
+        let places : take packets (l .held) ≡ map placeOf (take packets es) = ap (take packets) (sym (a .held)) ∙ sym (map-take placeOf packets es) in
+        let laid : take bytes (o .output) ≡ joined (take packets es) =
+        ap (take bytes) (m .output) ∙ take-at (joined (take packets es)) (drop bytes out) bytes (sym (m .long)) in
+        rw e (m .some, run, laid ∙ sym (ap (λ (x : List Place). releasedBytes (map f x)) places ∙ released-joined (take packets es)))
+    tells (pops.Late first end delay) e =
+        let n = subst Named e named in
+        let some : distance 31 end first ≤ length (l .held) = subst (λ (x : ℕ). distance 31 end first ≤ x) count (subst (λ (x : PopAnswer). takes x ≤ w .held) e (front (d .good) .1)) in
+        rw e (n .0, some, n .1 ∙ a .front, n .2 ∙ place-number a (distance 31 end first))
+    tells pops.OutShort e = rw e tt
+
   -- the call
   pub pop-stands : Kept (messageOf h ws bs out now)
   unfolding messageOf takenOf
@@ -149,3 +186,10 @@ module _ (S : ℕ → List ℕ → Type 0) (l : Ledger) (h : Head) (ws bs out : 
       by-refusal Kept (firstRefusal (popRules (headOk h) (w .capacity) (length ws) (length bs) now (h .latest))) _ _
       (λ z. by-answer (pop-ready h now ws bs z) (o .popped .answer) refl)
       (λ z. same)
+
+  pub pop-tells : Told (messageOf h ws bs out now)
+  unfolding messageOf takenOf
+  pop-tells =
+      by-refusal Told (firstRefusal (popRules (headOk h) (w .capacity) (length ws) (length bs) now (h .latest))) _ _
+      (λ z. tells (pop-ready h now ws bs z) (o .popped .answer) refl)
+      (λ z. tt)

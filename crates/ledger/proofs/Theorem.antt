@@ -2,13 +2,13 @@
 use mathlib.Core.Path.{_≡_, refl, ap, sym, _∙_, subst}
 use mathlib.Core.Bool.{Bool, true}
 use mathlib.Core.List.{List, [], _∷_, _++_, map}
-use Prim.Native.Nat.{ℕ, _+_, _^_, _<_, _≤_}
+use Prim.Native.Nat.{ℕ, zero, suc, _+_, _^_, _<_, _≤_}
 use native.Mathlib.Omega.{arith}
 use borrow.Author.Tests.{leb-false}
 use lib.Dec.{lit<}
 use lib.IntN.{ℤ}
-use lib.ListN.{length, getD}
-use Rattle.numbers.specs.Circular.{sum}
+use lib.ListN.{length, getD, take}
+use Rattle.numbers.specs.Circular.{distance, sum}
 use Rattle.numbers.proofs.Circle.{sum-zero}
 use Rattle.numbers.proofs.Places.{place-one}
 use Rattle.head.specs.Rules.{firstRefusal, makeRules}
@@ -17,21 +17,31 @@ use Rattle.head.specs.declared.state.Head.{Head}
 use Rattle.head.specs.declared.state.Made.{Made}
 use Rattle.head.proofs.Gates.{clear}
 use Rattle.head.proofs.Ready.{in-parts, in-window}
-use Rattle.receiver.specs.Data.{packet}
+use Rattle.receiver.specs.Data.{packet, dataOf}
+use Rattle.receiver.specs.Paper.{dataLine}
+use Rattle.receiver.specs.declared.data.DataAnswer.{DataAnswer}
+use Rattle.receiver.specs.declared.data.DataAnswer.the-variants as datas
+use Rattle.receiver.specs.declared.message.MessageAnswer.{MessageAnswer}
+use Rattle.receiver.specs.declared.message.MessageAnswer.the-variants as messages
+use Rattle.receiver.specs.declared.request.DropAnswer.{DropAnswer}
+use Rattle.receiver.specs.declared.request.DropAnswer.the-variants as drops
 use Rattle.kept.proofs.DataKept.{made-kept, data-kept, loss-kept}
 use Rattle.kept.proofs.TimedKept.{ack2-kept, full-ack-kept, clock-kept, message-kept}
 use Rattle.step.specs.Step.{State, Lent, Ended, stepOf}
 use Rattle.step.specs.declared.Call.{Call}
 use Rattle.step.specs.declared.Call.the-variants as calls
+use Rattle.step.specs.declared.Answer.{Answer}
+use Rattle.step.specs.declared.Answer.the-variants as answers
 use Rattle.views.specs.View.{Seen, entriesFrom, entries, gapIn}
 use Rattle.views.proofs.Lists.{entries-length}
-use Rattle.ledger.specs.Ledger.{Ledger, opened, numberOf, frontOf, nextOf, enter}
-use Rattle.ledger.specs.Claims.{Event, Book, answered, turned, after, Fresh, Plain, AllPlain, Agrees, outBytes, handedOut, releasedBytes, Sent, now, before, placesIn, entered, Holds}
+use Rattle.ledger.specs.Ledger.{Fate, released, discarded, bytesOf, Ledger, opened, numberOf, frontOf, nextOf, numberIn, lastIn, enterData, enterPop, enterDrop, enter}
+use Rattle.ledger.specs.Claims.{Event, Book, answered, turned, after, Fresh, Plain, AllPlain, Agrees, outBytes, handedOut, releasedBytes, Sent, now, before, placesIn, entered, Holds, Answers, Settled, Told}
 use Rattle.ledger.proofs.Owned.{nothing, empty}
 use Rattle.ledger.proofs.Moved.{Stands, Moved, held-count, lrsn-said}
 use Rattle.ledger.proofs.Moves.{by-refusal}
 use Rattle.ledger.proofs.Data.{data-stands}
-use Rattle.ledger.proofs.Pop.{pop-stands}
+use Rattle.ledger.proofs.Pop.{pop-stands, pop-tells}
+use Rattle.ledger.proofs.Judged.{data-judged}
 use Rattle.ledger.proofs.Others.{report-stands, drop-stands, full-ack-stands, ack2-stands, clock-stands}
 
 -- one call: what it was fed belongs to its number
@@ -61,6 +71,52 @@ step-stands S l s t (calls.Ack2 time number) p a f = ack2-stands S l (s .head) (
 step-stands S l s t (calls.Drop first last) p a f = drop-stands S l (s .head) (s .slots) (s .payloads) a first last
 step-stands S l s t (calls.Clock time stamp) p a f = clock-stands S l (s .head) (s .slots) (s .payloads) a time stamp
 step-stands S l s t calls.Clear p a f = absurd p
+
+-- what its answer says is so
+step-answers : (S : ℕ → List ℕ → Type 0) (l : Ledger) (s : State) (t : Lent) (c : Call) → Plain c → Stands S l (s .head .window) (seen s)
+    → Answers l c (stepOf s t c .answer) (stepOf s t c .output)
+step-answers S l s t (calls.Data time number message location stamp) p a =
+    data-judged S l (s .head) (s .slots) (s .payloads) time (packet number message location stamp) (t .payload) p a
+step-answers S l s t (calls.Pop time) p a = pop-tells S l (s .head) (s .slots) (s .payloads) (t .output) time a
+step-answers S l s t (calls.Report time) p a = tt
+step-answers S l s t (calls.FullAck time) p a = tt
+step-answers S l s t (calls.Ack2 time number) p a = tt
+step-answers S l s t (calls.Drop first last) p a = tt
+step-answers S l s t (calls.Clock time stamp) p a = tt
+step-answers S l s t calls.Clear p a = absurd p
+
+-- what is gone stays as it is
+kept-fate : (fs gs : List Fate) (p : ℕ) → p < length fs → getD (fs ++ gs) p discarded ≡ getD fs p discarded
+kept-fate [] gs p h = absurd (omega arith)
+kept-fate (f ∷ fs) gs zero h = refl
+kept-fate (f ∷ fs) gs (suc p) h = kept-fate fs gs p (omega arith)
+
+pop-settled : (l : Ledger) (a : MessageAnswer) → Settled l (enterPop l a)
+pop-settled l messages.Nothing p h = refl
+pop-settled l (messages.Message time bytes packets) p h = kept-fate (l .gone) (map (λ x. released (bytesOf x)) (take packets (l .held))) p h
+pop-settled l (messages.Late first end delay) p h = kept-fate (l .gone) (map (λ x. discarded) (take (distance 31 end first) (l .held))) p h
+pop-settled l (messages.Refused n) p h = refl
+
+data-settled : (l : Ledger) (number : ℕ) (bytes : List ℕ) (a : DataAnswer) → Settled l (enterData l number bytes a)
+data-settled l number bytes (datas.Got lrsn recovered) p h = refl
+data-settled l number bytes (datas.Light lrsn recovered) p h = refl
+data-settled l number bytes (datas.Loss x y) p h = refl
+data-settled l number bytes (datas.Refused n) p h = refl
+data-settled l number bytes (datas.PacketTooEarly room need) p h = refl
+
+drop-settled : (l : Ledger) (first last : ℕ) (a : DropAnswer) → Settled l (enterDrop l first last a)
+drop-settled l first last (drops.Gone n) p h = refl
+drop-settled l first last (drops.Refused n) p h = refl
+
+settled : (l : Ledger) (c : Call) (bytes : List ℕ) (a : Answer) → Settled l (enter l c bytes a)
+settled l c bytes (answers.Data a) p h = data-settled l (numberIn c) bytes a p h
+settled l c bytes (answers.Pop a) p h = pop-settled l a p h
+settled l c bytes (answers.Report a) p h = refl
+settled l c bytes (answers.FullAck a) p h = refl
+settled l c bytes (answers.Ack2 a) p h = refl
+settled l c bytes (answers.Drop a) p h = drop-settled l (numberIn c) (lastIn c) a p h
+settled l c bytes (answers.Clock a) p h = refl
+settled l c bytes (answers.Clear a) p h = refl
 
 -- a head in range stays there
 step-kept : (s : State) (t : Lent) (c : Call) → Plain c → headOk (s .head) ≡ true → headOk (stepOf s t c .state .head) ≡ true
@@ -189,3 +245,22 @@ module _ (first : ℕ) (s : State) (f : Fresh first s) where
     where
       zero-add : (i : ℕ) → 0 + i ≡ i
       zero-add i = omega arith
+
+  -- and what each answer says is so
+  pub ledger-answers : (e : Event) (past : List Event) → AllPlain (e ∷ past) → Told b past e
+  ledger-answers e past p =
+      let l = after b past .ledger in
+      record {
+        answers = step-answers (Sent past) l (after b past .state) (e .lent) (e .call) (p .0) (run-stands past (p .1));
+        settled = settled l (e .call) (e .lent .payload) (answered (after b past) e .answer);
+        inRange = run-kept (e ∷ past) p;
+      }
+
+  -- the fault that lost three passes: a fresh packet, of the number next expected after any number of wraps, is never refused as a duplicate
+  pub fresh-never-duplicate : (past : List Event) → AllPlain past → (time : ℤ) (number message location stamp : ℕ) (t : Lent) → stamp < 2 ^ 32
+      → number ≡ numberOf (after b past .ledger) (nextOf (after b past .ledger))
+      → dataLine (dataOf (after b past .state .head) (after b past .state .slots) (after b past .state .payloads) time (packet number message location stamp) (t .payload) .handled .answer) .refusal ≡ 10 → ⊥
+  fresh-never-duplicate past p time number message location stamp t k e q =
+      let j = step-answers (Sent past) (after b past .ledger) (after b past .state) t (calls.Data time number message location stamp) k (run-stands past p) in
+      let m = j .fresh e in
+      omega arith

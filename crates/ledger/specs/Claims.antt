@@ -7,7 +7,7 @@ use Prim.Native.Nat.{ℕ, _+_, _^_, _<_, _≤_}
 use lib.IntN.{ℤ}
 use lib.ListN.{length, take, getD}
 use Rattle.numbers.specs.Circular.{distance, sum}
-use Rattle.head.specs.Head.{madeOf}
+use Rattle.head.specs.Head.{headOk, madeOf}
 use Rattle.receiver.specs.declared.data.DataAnswer.{DataAnswer}
 use Rattle.receiver.specs.declared.data.DataAnswer.the-variants as datas
 use Rattle.receiver.specs.declared.message.MessageAnswer.{MessageAnswer}
@@ -19,7 +19,7 @@ use Rattle.step.specs.declared.Call.the-variants as calls
 use Rattle.step.specs.declared.Answer.{Answer}
 use Rattle.step.specs.declared.Answer.the-variants as answers
 use Rattle.views.specs.View as views
-use Rattle.ledger.specs.Ledger.{Place, lost, received, givenUp, Fate, released, discarded, Ledger, opened, numberOf, frontOf, nextOf, enter}
+use Rattle.ledger.specs.Ledger.{Place, lost, received, givenUp, Fate, released, discarded, Ledger, opened, numberOf, frontOf, nextOf, bytesOf, numberIn, enter}
 
 -- a call and what is lent for it; any contents
 pub record Event : Type 0 where
@@ -159,3 +159,50 @@ pub record Holds (b : Book) (past : List Event) : Type 0 where
       → i < length (after b past .ledger .held) → j < length (after b past .ledger .held)
       → numberOf (after b past .ledger) (frontOf (after b past .ledger) + i) ≡ numberOf (after b past .ledger) (frontOf (after b past .ledger) + j)
       → i ≡ j
+
+-- the answer to a packet, by the place of its number
+abbrev pub recovers : DataAnswer → Bool
+recovers (datas.Got lrsn recovered) = recovered
+recovers (datas.Light lrsn recovered) = recovered
+recovers (datas.Loss a b) = false
+recovers (datas.Refused n) = false
+recovers (datas.PacketTooEarly room need) = false
+
+pub record Judges (l : Ledger) (number : ℕ) (a : DataAnswer) : Type 0 where
+  -- refused as a duplicate only if its held place is received or given up
+  pub duplicate : dataLine a .refusal ≡ 10 → (i : ℕ) × (i < length (l .held)) × (numberOf l (frontOf l + i) ≡ number) × (getD (l .held) i lost ≡ lost → ⊥)
+  -- a packet whose held place is lost is taken, unless it is refused by 1 to 6, which look at no place
+  pub taken : (i : ℕ) → i < length (l .held) → numberOf l (frontOf l + i) ≡ number → getD (l .held) i givenUp ≡ lost
+      → ((1 ≤ dataLine a .refusal) × (dataLine a .refusal ≤ 6)) ⊎ (recovers a ≡ true)
+  -- a fresh packet is never too late nor a duplicate, after any number of wraps; 7 is a full buffer
+  pub fresh : number ≡ numberOf l (nextOf l) → dataLine a .refusal ≤ 7
+
+-- what a pop says of the places that leave
+abbrev pub Tells : Ledger → MessageAnswer → List ℕ → Type 0
+Tells l messages.Nothing out = Unit
+Tells l (messages.Message time bytes packets) out =
+    (0 < packets) × (packets ≤ receivedRun (l .held)) × (take bytes out ≡ releasedBytes (map (λ x. released (bytesOf x)) (take packets (l .held))))
+Tells l (messages.Late first end delay) out =
+    (0 < distance 31 end first) × (distance 31 end first ≤ length (l .held)) × (first ≡ numberOf l (frontOf l)) × (end ≡ numberOf l (frontOf l + distance 31 end first))
+Tells l (messages.Refused n) out = Unit
+
+-- of the answer to one call more: what it says is so, and no place that is gone changes its fate
+abbrev pub Answers : Ledger → Call → Answer → List ℕ → Type 0
+Answers l c (answers.Data a) out = Judges l (numberIn c) a
+Answers l c (answers.Pop a) out = Tells l a out
+Answers l c (answers.Report a) out = Unit
+Answers l c (answers.FullAck a) out = Unit
+Answers l c (answers.Ack2 a) out = Unit
+Answers l c (answers.Drop a) out = Unit
+Answers l c (answers.Clock a) out = Unit
+Answers l c (answers.Clear a) out = Unit
+
+abbrev pub Settled : Ledger → Ledger → Type 0
+Settled l l₁ = (p : ℕ) → p < frontOf l → getD (l₁ .gone) p discarded ≡ getD (l .gone) p discarded
+
+-- after any calls, of one more
+pub record Told (b : Book) (past : List Event) (e : Event) : Type 0 where
+  pub answers : Answers (after b past .ledger) (e .call) (answered (after b past) e .answer) (answered (after b past) e .output)
+  pub settled : Settled (after b past .ledger) (turned (after b past) e .ledger)
+  -- no call of a run is refused 1
+  pub inRange : headOk (after b (e ∷ past) .state .head) ≡ true
