@@ -17,18 +17,18 @@ use Rattle.window.specs.Push.{grown}
 use Rattle.window.specs.declared.Window.{Window}
 use Rattle.window.specs.declared.push.Packet.{Packet}
 use Rattle.head.specs.declared.state.Head.{Head}
-use Rattle.head.proofs.Ready.{PushReady}
 use Rattle.receiver.specs.Data.{gotAnswer, dataOf}
 use Rattle.receiver.specs.declared.data.DataAnswer.{DataAnswer}
 use Rattle.views.specs.View as views
 use Rattle.views.specs.View.{Seen, entries, LrsnRight, packetSeen}
 use Rattle.views.proofs.Lists.{entries-length}
-use Rattle.ledger.specs.Ledger.{Place, lost, received, Ledger, numberOf, frontOf, nextOf, holding, marked, tookIn, enterData}
-use Rattle.ledger.specs.Claims.{placeOf, dataPlaces, releasedBytes}
+use Rattle.ledger.specs.Ledger.{Place, lost, received, Ledger, numberOf, frontOf, nextOf, holding, marked, tookIn, enterData, releasedBytes}
+use Rattle.ledger.specs.Reading.{dataPlaces}
+use Rattle.ledger.specs.Runs.{placeOf}
 use Rattle.ledger.proofs.Places.{map-append, map-set, map-replicate, marked-one}
 use Rattle.ledger.proofs.Owned.{held-append, held-packet, held-gaps, held-marked}
 use Rattle.ledger.proofs.Moved.{Stands, Moved, still, held-count, place-number}
-use Rattle.ledger.proofs.Moves.{Said, data-moves}
+use Rattle.ledger.proofs.Moves.{Admitted, Said, data-moves}
 
 -- the places before the packet that a gap names: from the next expected to the one before the packet
 gap-named : (a n gap : ℕ) → n ≡ sum 31 a gap → 0 < gap → gap < 2 ^ 31 → distance 31 (sum 31 n (2 ^ 31 - 1)) a + 1 ≡ gap
@@ -135,7 +135,7 @@ module _ (S : ℕ → List ℕ → Type 0) (l : Ledger) (h : Head) (ws bs : List
         all = let n = length-append gaps (received payload ∷ []) in omega arith;
       }
 
-  beyond : PushReady h ws bs now p payload → p .number ≡ sum 31 (windows.nextOf w) (distance 31 (p .number) (windows.nextOf w))
+  beyond : Admitted h ws bs now p payload → p .number ≡ sum 31 (windows.nextOf w) (distance 31 (p .number) (windows.nextOf w))
   unfolding sum
   beyond d = sym (mod-eq-of-lt (d .right .number)) ∙ sym (stepped 31 (p .number) (windows.nextOf w))
 
@@ -146,9 +146,9 @@ module _ (S : ℕ → List ℕ → Type 0) (l : Ledger) (h : Head) (ws bs : List
   pub data-stands : Said h ws bs now p payload hs (a .right) Kept (dataOf h ws bs now p payload)
   data-stands =
       data-moves h ws bs now p payload hs (a .right) Kept
-      (λ n x y. same)
-      (λ d q. same)
-      (λ d room need x y. same)
+      (λ n q x y. same)
+      (λ d q c. same)
+      (λ d room need x y c. same)
       (λ d b. same)
       (λ d i n. same)
       next
@@ -158,12 +158,12 @@ module _ (S : ℕ → List ℕ → Type 0) (l : Ledger) (h : Head) (ws bs : List
       gapped (natAbs now) (d .right .number) some (omega (arith, d .good .most)) r (distance 31 (sum 31 (p .number) (2 ^ 31 - 1)) (windows.nextOf w)) n)
       recovered
     where
-      next : PushReady h ws bs now p payload → (light : Bool) (lrsn : ℕ) → p .number ≡ windows.nextOf w
+      next : Admitted h ws bs now p payload → (light : Bool) (lrsn : ℕ) → p .number ≡ windows.nextOf w
           → LrsnRight (grown w p 1) (es ++ (packetSeen p payload ∷ [])) → Kept (grown w p 1) (es ++ (packetSeen p payload ∷ [])) (gotAnswer light lrsn false)
       next d true lrsn q r = took q r
       next d false lrsn q r = took q r
 
-      recovered : PushReady h ws bs now p payload → (light : Bool) (lrsn : ℕ) → distance 31 (p .number) (w .seqno0) < w .held
+      recovered : Admitted h ws bs now p payload → (light : Bool) (lrsn : ℕ) → distance 31 (p .number) (w .seqno0) < w .held
           → words.isLost (entryIn w ws (distance 31 (p .number) (w .seqno0))) ≡ true
           → LrsnRight (withLrsn w lrsn) (set es (distance 31 (p .number) (w .seqno0)) (packetSeen p payload))
           → Kept (withLrsn w lrsn) (set es (distance 31 (p .number) (w .seqno0)) (packetSeen p payload)) (gotAnswer light lrsn true)

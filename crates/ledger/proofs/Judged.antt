@@ -16,12 +16,13 @@ use Rattle.slots.specs.Words as words
 use Rattle.slots.specs.declared.entry.Entry.{Entry}
 use Rattle.slots.specs.declared.entry.Entry.the-variants.{Lost, Received, GivenUp}
 use Rattle.window.specs.Window as windows
-use Rattle.window.specs.Window.{Good, slotIn, entryIn, withLrsn}
+use Rattle.window.specs.Window.{Good, slotIn, entryIn, withLrsn, roomOf}
 use Rattle.window.specs.Push.{grown}
 use Rattle.window.specs.declared.Window.{Window}
 use Rattle.window.specs.declared.push.Packet.{Packet}
+use Rattle.head.specs.Rules.{firstRefusal, pushRules}
+use Rattle.head.specs.Head.{headOk}
 use Rattle.head.specs.declared.state.Head.{Head}
-use Rattle.head.proofs.Ready.{PushReady}
 use Rattle.receiver.specs.Data.{gotAnswer, dataOf}
 use Rattle.receiver.specs.Paper.{dataLine}
 use Rattle.receiver.specs.declared.data.DataAnswer.{DataAnswer}
@@ -30,9 +31,11 @@ use Rattle.views.specs.View as views
 use Rattle.views.specs.View.{Seen, seenOf, seenAt, entries, LrsnRight, packetSeen}
 use Rattle.views.proofs.Lists.{entries-length, entries-at}
 use Rattle.ledger.specs.Ledger.{Place, lost, received, givenUp, Ledger, numberOf, frontOf, nextOf}
-use Rattle.ledger.specs.Claims.{placeOf, recovers, Judges}
+use Rattle.ledger.specs.Runs.{placeOf}
+use Rattle.ledger.specs.Reading.{appends, recovers}
+use Rattle.ledger.specs.Claims.{Judges}
 use Rattle.ledger.proofs.Moved.{Stands, held-count, place-number}
-use Rattle.ledger.proofs.Moves.{Said, data-moves}
+use Rattle.ledger.proofs.Moves.{Admitted, Said, data-moves}
 
 getD-map : {A B : Type 0} (f : A → B) (xs : List A) (i : ℕ) (d : A) → getD (map f xs) i (f d) ≡ f (getD xs i d)
 getD-map f [] i d = refl
@@ -93,57 +96,129 @@ module _ (S : ℕ → List ℕ → Type 0) (l : Ledger) (h : Head) (ws bs : List
   fresh-index : Good w ws → p .number ≡ numberOf l (nextOf l) → at ≡ w .held
   fresh-index g e = index-is g (w .held) (omega arith) (ap (λ (x : ℕ). numberOf l (frontOf l + x)) count ∙ sym e)
 
-  -- a number that no held place has is refused, or taken, for other reasons
-  unnamed : (x : DataAnswer) → (dataLine x .refusal ≡ 10 → ⊥) → ((i : ℕ) → i < w .held → numberOf l (frontOf l + i) ≡ p .number → ⊥)
-      → (p .number ≡ numberOf l (nextOf l) → dataLine x .refusal ≤ 7) → Judges l (p .number) x
-  unnamed x ten none f =
-      record {
-        duplicate = λ e. absurd (ten e);
-        taken = λ i k e q. absurd (none i (omega (arith, count)) e);
-        fresh = f;
-      }
+  not-next : Good w ws → p .number ≡ windows.nextOf w → (i : ℕ) → i < length (l .held) → numberOf l (frontOf l + i) ≡ p .number → ⊥
+  not-next g q i k e = let f = far g i (omega (arith, count)) e in let z = none-missing (q ∙ next-is) in omega arith
 
-  not-next : Good w ws → p .number ≡ windows.nextOf w → (i : ℕ) → i < w .held → numberOf l (frontOf l + i) ≡ p .number → ⊥
-  not-next g q i k e = let f = far g i k e in let z = none-missing (q ∙ next-is) in omega arith
+  not-far : Good w ws → distance 31 (p .number) (windows.nextOf w) < 2 ^ 30 → (i : ℕ) → i < length (l .held) → numberOf l (frontOf l + i) ≡ p .number → ⊥
+  not-far g m i k e = let f = far g i (omega (arith, count)) e in omega arith
 
-  not-far : Good w ws → distance 31 (p .number) (windows.nextOf w) < 2 ^ 30 → (i : ℕ) → i < w .held → numberOf l (frontOf l + i) ≡ p .number → ⊥
-  not-far g m i k e = let f = far g i k e in omega arith
+  not-late : Good w ws → before 31 (p .number) (w .seqno0) ≡ true → (i : ℕ) → i ≤ w .held → numberOf l (frontOf l + i) ≡ p .number → ⊥
+  not-late g b i k e =
+      let z = index-is g i k e in impossible (sym b ∙ before-not 31 (p .number) (w .seqno0) (omega (arith, g .holds, g .most)))
 
-  number : PushReady h ws bs time p payload → numberOf l (frontOf l + at) ≡ p .number
+  number : Admitted h ws bs time p payload → numberOf l (frontOf l + at) ≡ p .number
   unfolding sum
   number d = sym (place-number a at) ∙ stepped 31 (p .number) (w .seqno0) ∙ mod-eq-of-lt (d .right .number)
 
-  pub data-judged : Said h ws bs time p payload hs (a .right) (λ v fs x. Judges l (p .number) x) (dataOf h ws bs time p payload)
-  data-judged =
-      data-moves h ws bs time p payload hs (a .right) (λ v fs x. Judges l (p .number) x)
-      (λ n some most.
+  abbrev tests : ℕ
+  tests = firstRefusal (pushRules (headOk h) (w .capacity) (length ws) (length bs) time (h .latest) p (length payload))
+
+  abbrev Judged : DataAnswer → Type 0
+  Judged x = Judges l (w .capacity) tests (p .number) x
+
+  -- what each kind of answer says
+  refused : (n : ℕ) → n ≡ tests → 1 ≤ n → n ≤ 6 → Judged (datas.Refused n)
+  refused n t some most =
       record {
+        tested = inl t;
+        full = λ e. absurd (omega arith);
+        early = λ e. absurd (omega arith);
+        unplaced = λ b c i k e. omega arith;
         duplicate = λ e. absurd (omega arith);
-        taken = λ i k e q. inl (some, most);
-        fresh = λ e. omega arith;
-      })
-      (λ d q. unnamed (datas.Refused 7) (λ e. omega arith) (not-next (d .good) q) (λ e. omega arith))
-      (λ d room need some under.
-      unnamed (datas.PacketTooEarly room need) (λ e. omega arith) (not-far (d .good) under) (λ e. absurd (let z = none-missing e in omega arith)))
-      (λ d b.
-      unnamed (datas.Refused 9) (λ e. omega arith)
-      (λ i k e. let z = index-is (d .good) i (omega arith) e in impossible (sym b ∙ before-not 31 (p .number) (w .seqno0) (omega (arith, d .good .holds, d .good .most))))
-      (λ e. let z = fresh-index (d .good) e in impossible (sym b ∙ before-not 31 (p .number) (w .seqno0) (omega (arith, d .good .holds, d .good .most)))))
-      (λ d i n.
+        taken = λ z i k e q. absurd (omega (arith, t, z));
+        next = λ z e r. absurd (omega (arith, t, z));
+      }
+
+  full : Admitted h ws bs time p payload → p .number ≡ windows.nextOf w → w .held ≡ w .capacity → Judged (datas.Refused 7)
+  full d q c =
       record {
-        duplicate = λ e. (at, omega (arith, count), number d, λ q. impossible (sym (lost-is bs (slotIn w at) (entryIn w ws at) (sym (place-is (views.lost 0 0) at i) ∙ q)) ∙ n));
-        taken = λ j k e q. let z = index-is (d .good) j (omega (arith, count)) e in impossible (sym (lost-is bs (slotIn w at) (entryIn w ws at) (sym (place-is views.givenUp at i) ∙ ap (λ (x : ℕ). getD (l .held) x givenUp) z ∙ q)) ∙ n);
-        fresh = λ e. absurd (let z = fresh-index (d .good) e in omega arith);
-      })
+        tested = inr (d .tests, omega arith);
+        full = λ e. (q ∙ next-is, sym count ∙ c);
+        early = λ e. absurd (omega arith);
+        unplaced = λ b m. not-next (d .good) q;
+        duplicate = λ e. absurd (omega arith);
+        taken = λ z i k e x. absurd (not-next (d .good) q i k e);
+        next = λ z e r. absurd (omega (arith, count, c));
+      }
+
+  early : Admitted h ws bs time p payload → (room need : ℕ) → 0 < distance 31 (p .number) (windows.nextOf w) → distance 31 (p .number) (windows.nextOf w) < 2 ^ 30
+      → roomOf w < distance 31 (p .number) (windows.nextOf w) + 1 → Judged (datas.PacketTooEarly room need)
+  early d room need some under r =
+      let n = ap (distance 31 (p .number)) next-is in
+      record {
+        tested = inr (d .tests, omega arith);
+        full = λ e. absurd (omega arith);
+        early = λ e. omega (arith, count, n, r);
+        unplaced = λ b m. not-far (d .good) under;
+        duplicate = λ e. absurd (omega arith);
+        taken = λ z i k e x. absurd (not-far (d .good) under i k e);
+        next = λ z e x. absurd (let y = none-missing e in omega arith);
+      }
+
+  late : Admitted h ws bs time p payload → before 31 (p .number) (w .seqno0) ≡ true → Judged (datas.Refused 9)
+  late d b =
+      record {
+        tested = inr (d .tests, omega arith);
+        full = λ e. absurd (omega arith);
+        early = λ e. absurd (omega arith);
+        unplaced = λ c m i k e. not-late (d .good) b i (omega (arith, count)) e;
+        duplicate = λ e. absurd (omega arith);
+        taken = λ z i k e x. absurd (not-late (d .good) b i (omega (arith, count)) e);
+        next = λ z e x. absurd (not-late (d .good) b (w .held) (omega arith) (ap (λ (y : ℕ). numberOf l (frontOf l + y)) count ∙ sym e));
+      }
+
+  twice : Admitted h ws bs time p payload → at < w .held → words.isLost (entryIn w ws at) ≡ false → Judged (datas.Refused 10)
+  twice d i n =
+      record {
+        tested = inr (d .tests, omega arith);
+        full = λ e. absurd (omega arith);
+        early = λ e. absurd (omega arith);
+        unplaced = λ b m j k e. omega arith;
+        duplicate =
+            λ e.
+            (at, omega (arith, count), number d, λ q. impossible (sym (lost-is bs (slotIn w at) (entryIn w ws at) (sym (place-is (views.lost 0 0) at i) ∙ q)) ∙ n));
+        taken =
+            λ z j k e q.
+            let y = index-is (d .good) j (omega (arith, count)) e in
+            impossible (sym (lost-is bs (slotIn w at) (entryIn w ws at) (sym (place-is views.givenUp at i) ∙ ap (λ (x : ℕ). getD (l .held) x givenUp) y ∙ q)) ∙ n);
+        next = λ z e x. absurd (let y = fresh-index (d .good) e in omega arith);
+      }
+
+  -- one that is taken
+  took : (x : DataAnswer) → dataLine x .refusal ≡ 0 → Admitted h ws bs time p payload
+      → ((i : ℕ) → i < length (l .held) → numberOf l (frontOf l + i) ≡ p .number → getD (l .held) i givenUp ≡ lost → recovers x ≡ true)
+      → (p .number ≡ numberOf l (nextOf l) → appends x ≡ true) → Judged x
+  took x z d r f =
+      record {
+        tested = inl (z ∙ sym (d .tests));
+        full = λ e. absurd (omega (arith, z));
+        early = λ e. absurd (omega (arith, z));
+        unplaced = λ b m i k e. omega (arith, z);
+        duplicate = λ e. absurd (omega (arith, z));
+        taken = λ t. r;
+        next = λ t e y. f e;
+      }
+
+  pub data-judged : Said h ws bs time p payload hs (a .right) (λ v fs x. Judged x) (dataOf h ws bs time p payload)
+  data-judged =
+      data-moves h ws bs time p payload hs (a .right) (λ v fs x. Judged x)
+      refused
+      full
+      early
+      late
+      twice
       next
       (λ d some room r.
-      unnamed (datas.Loss (windows.nextOf w) (sum 31 (p .number) (2 ^ 31 - 1))) (λ e. omega arith) (not-far (d .good) (omega (arith, d .good .most))) (λ e. omega arith))
+      took (datas.Loss (windows.nextOf w) (sum 31 (p .number) (2 ^ 31 - 1))) refl d
+      (λ i k e q. absurd (not-far (d .good) (omega (arith, d .good .most)) i k e))
+      (λ e. absurd (let y = none-missing e in omega arith)))
       recovered
     where
-      next : PushReady h ws bs time p payload → (light : Bool) (lrsn : ℕ) → p .number ≡ windows.nextOf w → LrsnRight (grown w p 1) (es ++ (packetSeen p payload ∷ [])) → Judges l (p .number) (gotAnswer light lrsn false)
-      next d true lrsn q r = unnamed (datas.Light lrsn false) (λ e. omega arith) (not-next (d .good) q) (λ e. omega arith)
-      next d false lrsn q r = unnamed (datas.Got lrsn false) (λ e. omega arith) (not-next (d .good) q) (λ e. omega arith)
+      next : Admitted h ws bs time p payload → (light : Bool) (lrsn : ℕ) → p .number ≡ windows.nextOf w → LrsnRight (grown w p 1) (es ++ (packetSeen p payload ∷ [])) → Judged (gotAnswer light lrsn false)
+      next d true lrsn q r = took (datas.Light lrsn false) refl d (λ i k e x. absurd (not-next (d .good) q i k e)) (λ e. refl)
+      next d false lrsn q r = took (datas.Got lrsn false) refl d (λ i k e x. absurd (not-next (d .good) q i k e)) (λ e. refl)
 
-      recovered : PushReady h ws bs time p payload → (light : Bool) (lrsn : ℕ) → at < w .held → words.isLost (entryIn w ws at) ≡ true → LrsnRight (withLrsn w lrsn) (set es at (packetSeen p payload)) → Judges l (p .number) (gotAnswer light lrsn true)
-      recovered d true lrsn i n r = record { duplicate = λ e. absurd (omega arith); taken = λ i k e q. inr refl; fresh = λ e. omega arith }
-      recovered d false lrsn i n r = record { duplicate = λ e. absurd (omega arith); taken = λ i k e q. inr refl; fresh = λ e. omega arith }
+      recovered : Admitted h ws bs time p payload → (light : Bool) (lrsn : ℕ) → at < w .held → words.isLost (entryIn w ws at) ≡ true
+          → LrsnRight (withLrsn w lrsn) (set es at (packetSeen p payload)) → Judged (gotAnswer light lrsn true)
+      recovered d true lrsn i n r = took (datas.Light lrsn true) refl d (λ j k e q. refl) (λ e. absurd (let y = fresh-index (d .good) e in omega arith))
+      recovered d false lrsn i n r = took (datas.Got lrsn true) refl d (λ j k e q. refl) (λ e. absurd (let y = fresh-index (d .good) e in omega arith))

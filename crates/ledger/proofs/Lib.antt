@@ -5,6 +5,7 @@ pub mod Moves
 pub mod Moved
 pub mod Data
 pub mod Pop
+pub mod Dropped
 pub mod Others
 pub mod Judged
 pub mod Theorem

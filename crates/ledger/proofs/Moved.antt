@@ -10,8 +10,8 @@ use Rattle.numbers.proofs.Circle.{sum-sum}
 use Rattle.window.specs.Window.{numberIn}
 use Rattle.window.specs.declared.Window.{Window}
 use Rattle.views.specs.View.{Seen, gapIn, LrsnRight, entries}
-use Rattle.ledger.specs.Ledger.{Place, lost, received, Fate, released, discarded, Ledger, numberOf, frontOf, nextOf, leave}
-use Rattle.ledger.specs.Claims.{Agrees, placeOf, receivedRun, releasedBytes}
+use Rattle.ledger.specs.Ledger.{Place, lost, received, Fate, released, discarded, Ledger, numberOf, frontOf, nextOf, leave, receivedRun, releasedBytes}
+use Rattle.ledger.specs.Runs.{placeOf}
 use Rattle.ledger.proofs.Places.{map-drop, run-gap}
 use Rattle.ledger.proofs.Owned.{OwnHeld, OwnGone, gone-append, held-drop}
 

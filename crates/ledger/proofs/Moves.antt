@@ -4,7 +4,7 @@ use mathlib.Core.Bool.{Bool, true, false, cond}
 use mathlib.Core.List.{List, [], _∷_, _++_}
 use Prim.Native.Nat.{ℕ, _+_, _-_, _*_, _^_, _<_, _≤_}
 use native.Mathlib.Omega.{arith}
-use borrow.Author.Tests.{eqb-true, eqb-false, ltb-false}
+use borrow.Author.Tests.{eqb-true, eqb-false, ltb-true, ltb-false}
 use lib.Dec.{eqb, ltb, lit≤}
 use lib.IntN.{ℤ, natAbs}
 use lib.ListN.{length, set, replicate}
@@ -30,7 +30,7 @@ use Rattle.window.specs.declared.push.PushAnswer.the-variants as pushes
 use Rattle.head.specs.Rules.{Rule, thenOf, firstFrom, firstRefusal, pushRules}
 use Rattle.head.specs.Head.{headOk}
 use Rattle.head.specs.declared.state.Head.{Head}
-use Rattle.head.proofs.Ready.{PushReady, push-ready}
+use Rattle.head.proofs.Ready.{push-ready}
 use Rattle.receiver.specs.Data.{DataOutcome, dataEnded, refusedBy, gotAnswer, ackedOf, gotOf, takenOf, dataOf}
 use Rattle.receiver.specs.Data as receiving
 use Rattle.receiver.specs.declared.data.DataAnswer.{DataAnswer}
@@ -54,6 +54,12 @@ then-under m k bad n a b =
 pub refusal-under : (m k : ℕ) (rs : List Rule) → k ≤ m → Under m rs → firstFrom k rs ≤ m
 refusal-under m k [] a u = a
 refusal-under m k (r ∷ rs) a u = refusal-under m (thenOf k (r .bad) (r .number)) rs (then-under m k (r .bad) (r .number) a (u .0)) (u .1)
+
+-- what a packet has that no test of 1 to 6 refuses
+pub record Admitted (h : Head) (ws bs : List ℕ) (time : ℤ) (p : Packet) (payload : List ℕ) : Type 0 where
+  pub tests : firstRefusal (pushRules (headOk h) (h .window .capacity) (length ws) (length bs) time (h .latest) p (length payload)) ≡ 0
+  pub good : Good (h .window) ws
+  pub right : Right p payload
 
 -- by the refusal of a call: what it does if nothing refuses, else the refusal
 pub by-refusal : {A : Type 0} (P : A → Type 0) (n : ℕ) (a b : A) → (n ≡ 0 → P a) → ((n ≡ 0 → ⊥) → P b) → P (cond (eqb n 0) a b)
@@ -82,9 +88,9 @@ module _ (w : Window) (ws bs : List ℕ) (time : ℕ) (p : Packet) (payload : Li
       (withPayload bs (slotIn w (w .held + gap)) payload)
 
   push-cases : (P : PushOutcome → Type 0)
-      → (order 31 (p .number) (nextOf w) ≡ Equal → P (push.refused w ws bs time p payload pushes.BufferFull))
+      → (order 31 (p .number) (nextOf w) ≡ Equal → w .held ≡ w .capacity → P (push.refused w ws bs time p payload pushes.BufferFull))
       → (order 31 (p .number) (nextOf w) ≡ Equal → P appended)
-      → ((room need : ℕ) → order 31 (p .number) (nextOf w) ≡ After → P (push.refused w ws bs time p payload (pushes.PacketTooEarly room need)))
+      → ((room need : ℕ) → order 31 (p .number) (nextOf w) ≡ After → roomOf w < gap + 1 → P (push.refused w ws bs time p payload (pushes.PacketTooEarly room need)))
       → (order 31 (p .number) (nextOf w) ≡ After → gap + 1 ≤ roomOf w → P appendedWithLoss)
       → (before 31 (p .number) (w .seqno0) ≡ true → P (push.refused w ws bs time p payload pushes.PacketTooLate))
       → (index < w .held → words.isLost (entryIn w ws index) ≡ true → P (recoveredOf w ws bs time p payload index))
@@ -94,8 +100,8 @@ module _ (w : Window) (ws bs : List ℕ) (time : ℕ) (p : Packet) (payload : Li
   push-cases P full next early loss late recovered duplicate = go (order 31 (p .number) (nextOf w)) refl
     where
       go : (o : Order) → order 31 (p .number) (nextOf w) ≡ o → P (push.byOrder w ws bs time p payload o)
-      go Equal q = by-test P (eqb (w .held) (w .capacity)) _ _ (λ t. full q) (λ t. next q)
-      go After q = by-test P (ltb (roomOf w) (gap + 1)) _ _ (λ t. early (roomOf w) (gap + 1) q) (λ t. loss q (ltb-false (roomOf w) (gap + 1) t))
+      go Equal q = by-test P (eqb (w .held) (w .capacity)) _ _ (λ t. full q (eqb-true (w .held) (w .capacity) t)) (λ t. next q)
+      go After q = by-test P (ltb (roomOf w) (gap + 1)) _ _ (λ t. early (roomOf w) (gap + 1) q (ltb-true (roomOf w) (gap + 1) t)) (λ t. loss q (ltb-false (roomOf w) (gap + 1) t))
       go Before q =
           by-test P (before 31 (p .number) (w .seqno0)) _ _
           late
@@ -129,43 +135,44 @@ module _ (h : Head) (ws bs : List ℕ) (now : ℤ) (p : Packet) (payload : List 
   lit recovered v lrsn = lightAckOf (receiving.withWindow (cond recovered h (receiving.ratedOf h now (p .number) (length payload))) v now .history) lrsn .light
 
   -- at the next expected number
-  same : PushReady h ws bs now p payload → order 31 (p .number) (nextOf w) ≡ Equal → p .number ≡ nextOf w
+  same : Admitted h ws bs now p payload → order 31 (p .number) (nextOf w) ≡ Equal → p .number ≡ nextOf w
   same d q = distance-zero 31 (d .right .number) (sum-below 31 (w .seqno0) (w .held)) (order-equal 31 (p .number) (nextOf w) q)
 
   pub data-moves : (P : Window → List Seen → DataAnswer → Type 0)
-      → ((n : ℕ) → 1 ≤ n → n ≤ 6 → P w es (datas.Refused n))
-      → (PushReady h ws bs now p payload → p .number ≡ nextOf w → P w es (datas.Refused 7))
-      → (PushReady h ws bs now p payload → (room need : ℕ) → 0 < missing → missing < 2 ^ 30 → P w es (datas.PacketTooEarly room need))
-      → (PushReady h ws bs now p payload → before 31 (p .number) (w .seqno0) ≡ true → P w es (datas.Refused 9))
-      → (PushReady h ws bs now p payload → at < w .held → words.isLost (entryIn w ws at) ≡ false → P w es (datas.Refused 10))
-      → (PushReady h ws bs now p payload → (light : Bool) (lrsn : ℕ) → p .number ≡ nextOf w → LrsnRight (grown w p 1) (es ++ (packetSeen p payload ∷ []))
+      → ((n : ℕ) → n ≡ firstRefusal (pushRules (headOk h) (w .capacity) (length ws) (length bs) now (h .latest) p (length payload)) → 1 ≤ n → n ≤ 6 → P w es (datas.Refused n))
+      → (Admitted h ws bs now p payload → p .number ≡ nextOf w → w .held ≡ w .capacity → P w es (datas.Refused 7))
+      → (Admitted h ws bs now p payload → (room need : ℕ) → 0 < missing → missing < 2 ^ 30 → roomOf w < missing + 1 → P w es (datas.PacketTooEarly room need))
+      → (Admitted h ws bs now p payload → before 31 (p .number) (w .seqno0) ≡ true → P w es (datas.Refused 9))
+      → (Admitted h ws bs now p payload → at < w .held → words.isLost (entryIn w ws at) ≡ false → P w es (datas.Refused 10))
+      → (Admitted h ws bs now p payload → (light : Bool) (lrsn : ℕ) → p .number ≡ nextOf w → LrsnRight (grown w p 1) (es ++ (packetSeen p payload ∷ []))
       → P (grown w p 1) (es ++ (packetSeen p payload ∷ [])) (gotAnswer light lrsn false))
-      → (PushReady h ws bs now p payload → 0 < missing → missing + 1 ≤ roomOf w
+      → (Admitted h ws bs now p payload → 0 < missing → missing + 1 ≤ roomOf w
       → LrsnRight (grown w p (missing + 1)) (es ++ replicate missing (lost 2 (natAbs now)) ++ (packetSeen p payload ∷ []))
       → P (grown w p (missing + 1)) (es ++ replicate missing (lost 2 (natAbs now)) ++ (packetSeen p payload ∷ [])) (datas.Loss (nextOf w) (sum 31 (p .number) (2 ^ 31 - 1))))
-      → (PushReady h ws bs now p payload → (light : Bool) (lrsn : ℕ) → at < w .held → words.isLost (entryIn w ws at) ≡ true → LrsnRight (withLrsn w lrsn) (set es at (packetSeen p payload))
+      → (Admitted h ws bs now p payload → (light : Bool) (lrsn : ℕ) → at < w .held → words.isLost (entryIn w ws at) ≡ true → LrsnRight (withLrsn w lrsn) (set es at (packetSeen p payload))
       → P (withLrsn w lrsn) (set es at (packetSeen p payload)) (gotAnswer light lrsn true))
       → Said P (dataOf h ws bs now p payload)
   unfolding dataOf takenOf gotOf ackedOf recoveredOf
   data-moves P refused full early late duplicate next loss recovered =
       by-refusal (Said P) (firstRefusal (pushRules (headOk h) (w .capacity) (length ws) (length bs) now (h .latest) p (length payload))) _ _
       (λ z.
-      let d = push-ready h ws bs now p payload z in
-      let t = reading-size now (d .reading) .1 in
+      let r = push-ready h ws bs now p payload z in
+      let d : Admitted h ws bs now p payload = record { tests = z; good = r .good; right = r .right } in
+      let t = reading-size now (r .reading) .1 in
       push-cases w ws bs (natAbs now) p payload (λ (o : PushOutcome). entries (o .pushed .window) (o .slots) (o .payloads) ≡ afterPush w (natAbs now) p payload es (o .pushed .answer)
       → LrsnRight (o .pushed .window) (entries (o .pushed .window) (o .slots) (o .payloads)) → Said P (made o))
-      (λ q s r. full d (same d q))
-      (λ q s r.
-      rw s (next d (lit false (grown w p 1) (movedPast (w .lrsn) (p .number))) (movedPast (w .lrsn) (p .number)) (same d q) (subst (LrsnRight (grown w p 1)) s r)))
-      (λ room need q s r. early d room need (order-after 31 (p .number) (nextOf w) q .0) (order-after 31 (p .number) (nextOf w) q .1))
-      (λ q m s r. rw s (loss d (order-after 31 (p .number) (nextOf w) q .0) m (subst (LrsnRight (grown w p (missing + 1))) s r)))
-      (λ b s r. late d b)
-      (λ i l s r.
+      (λ q c s v. full d (same d q) c)
+      (λ q s v.
+      rw s (next d (lit false (grown w p 1) (movedPast (w .lrsn) (p .number))) (movedPast (w .lrsn) (p .number)) (same d q) (subst (LrsnRight (grown w p 1)) s v)))
+      (λ room need q c s v. early d room need (order-after 31 (p .number) (nextOf w) q .0) (order-after 31 (p .number) (nextOf w) q .1) c)
+      (λ q m s v. rw s (loss d (order-after 31 (p .number) (nextOf w) q .0) m (subst (LrsnRight (grown w p (missing + 1))) s v)))
+      (λ b s v. late d b)
+      (λ i l s u.
       let v = recoveredLrsn w (p .number) (writeAt ws (slotIn w at) (push.received p payload)) at in
-      rw s (recovered d (lit true (withLrsn w v) v) v i l (subst (LrsnRight (withLrsn w v)) s r)))
-      (λ i l s r. duplicate d i l)
-      (push-seen w ws bs (natAbs now) p payload (d .good) (d .payloads) (d .right) t hs)
-      (push-right w ws bs (natAbs now) p payload (d .good) (d .payloads) (d .right) t hs right))
+      rw s (recovered d (lit true (withLrsn w v) v) v i l (subst (LrsnRight (withLrsn w v)) s u)))
+      (λ i l s u. duplicate d i l)
+      (push-seen w ws bs (natAbs now) p payload (d .good) (r .payloads) (d .right) t hs)
+      (push-right w ws bs (natAbs now) p payload (d .good) (r .payloads) (d .right) t hs right))
       (λ z.
       let n = firstRefusal (pushRules (headOk h) (w .capacity) (length ws) (length bs) now (h .latest) p (length payload)) in
-      refused n (omega (arith, z)) (refusal-under 6 0 (pushRules (headOk h) (w .capacity) (length ws) (length bs) now (h .latest) p (length payload)) (omega arith) (lit≤ tt, (lit≤ tt, (lit≤ tt, (lit≤ tt, (lit≤ tt, (lit≤ tt, (lit≤ tt, (lit≤ tt, (lit≤ tt, tt)))))))))))
+      refused n refl (omega (arith, z)) (refusal-under 6 0 (pushRules (headOk h) (w .capacity) (length ws) (length bs) now (h .latest) p (length payload)) (omega arith) (lit≤ tt, (lit≤ tt, (lit≤ tt, (lit≤ tt, (lit≤ tt, (lit≤ tt, (lit≤ tt, (lit≤ tt, (lit≤ tt, tt)))))))))))

@@ -39,12 +39,14 @@ use Rattle.views.specs.View as views
 use Rattle.views.specs.View.{Seen, entries, LrsnRight}
 use Rattle.views.proofs.Lists.{entries-length}
 use Rattle.views.proofs.Marks.{report-seen, report-right, drop-seen, drop-right}
-use Rattle.ledger.specs.Ledger.{Place, Ledger, numberOf, frontOf, holding, givenIn, endIn, enterDrop}
-use Rattle.ledger.specs.Claims.{placeOf, releasedBytes}
+use Rattle.ledger.specs.Ledger.{Place, Ledger, numberOf, frontOf, holding, givenIn, endIn, enterDrop, lostCount, releasedBytes}
+use Rattle.ledger.specs.Runs.{placeOf}
+use Rattle.ledger.specs.Claims.{Counts}
 use Rattle.ledger.proofs.Places.{given-places, given-long, reported-places}
 use Rattle.ledger.proofs.Owned.{held-given}
 use Rattle.ledger.proofs.Moved.{Stands, Moved, still, held-count}
 use Rattle.ledger.proofs.Moves.{by-refusal}
+use Rattle.ledger.proofs.Dropped.{counts}
 
 module _ (S : ℕ → List ℕ → Type 0) (l : Ledger) (h : Head) (ws bs : List ℕ) (a : Stands S l (h .window) (entries (h .window) ws bs)) where
   abbrev w : Window
@@ -128,6 +130,18 @@ module _ (S : ℕ → List ℕ → Type 0) (l : Ledger) (h : Head) (ws bs : List
         all = omega (arith, long);
       })
       (λ z. same)
+
+  pub drop-counted : (first last : ℕ) → Counts l first last (dropCallOf h ws first last .answer)
+  unfolding dropCallOf
+  drop-counted first last =
+      by-refusal (λ (o : DropOutcome). Counts l first last (o .answer)) (firstRefusal (dropRules (headOk h) (w .capacity) (length ws) first last)) _ _
+      (λ z.
+      let g = drop-ready h ws first last z in
+      let n = dropOf w ws first last .count in
+      subst (λ (x : List Place). lostCount x ≡ lostCount (givenIn (endIn l first) (endIn l (sum 31 last 1)) 0 x) + n) (a .held)
+      (subst (λ (x : ℕ). lostCount (map placeOf es) ≡ lostCount (givenIn x (endIn l (sum 31 last 1)) 0 (map placeOf es)) + n) (end-is first)
+      (subst (λ (x : ℕ). lostCount (map placeOf es) ≡ lostCount (givenIn (dropFrom w first) x 0 (map placeOf es)) + n) (end-is (sum 31 last 1)) (counts w ws bs g first last))))
+      (λ z. tt)
 
   -- ACKs and the clock leave the window
   abbrev Alike : Window → Type 0

@@ -9,8 +9,7 @@ use lib.Dec.{eqb, ltb, leb}
 use lib.ListN.{length, take, drop, replicate, getD}
 use Rattle.numbers.specs.Circular.{sum}
 use Rattle.numbers.proofs.Flags.{by-bool}
-use Rattle.ledger.specs.Ledger.{Place, lost, received, givenUp, Fate, released, discarded, Ledger, numberOf, frontOf, nextOf, holding, leave, bytesOf, gaveUp, givenIn, marked}
-use Rattle.ledger.specs.Claims.{receivedRun}
+use Rattle.ledger.specs.Ledger.{Place, lost, received, givenUp, Fate, released, discarded, Ledger, numberOf, frontOf, nextOf, holding, leave, bytesOf, gaveUp, givenIn, marked, receivedRun}
 
 module _ (S : ℕ → List ℕ → Type 0) (first : ℕ) where
   -- the places of a list, the first of which is place p

@@ -12,8 +12,8 @@ use Rattle.numbers.proofs.Flags.{by-bool}
 use Rattle.numbers.proofs.Places.{place-one}
 use Rattle.views.specs.View as views
 use Rattle.views.specs.View.{Seen, gapIn}
-use Rattle.ledger.specs.Ledger.{Place, lost, received, givenUp, Fate, released, discarded, bytesOf, gaveUp, givenIn, marked}
-use Rattle.ledger.specs.Claims.{placeOf, receivedRun, releasedBytes}
+use Rattle.ledger.specs.Ledger.{Place, lost, received, givenUp, Fate, released, discarded, bytesOf, gaveUp, givenIn, marked, receivedRun, releasedBytes}
+use Rattle.ledger.specs.Runs.{placeOf}
 
 module _ {A B : Type 0} (f : A → B) where
   pub map-append : (xs ys : List A) → map f (xs ++ ys) ≡ map f xs ++ map f ys

@@ -25,8 +25,10 @@ use Rattle.views.specs.View as views
 use Rattle.views.specs.View.{Seen, entries, LrsnRight, gapIn, joined}
 use Rattle.views.proofs.Lists.{entries-length}
 use Rattle.views.proofs.Pops.{Handed, pop-seen, pop-right, pop-handed}
-use Rattle.ledger.specs.Ledger.{Place, Fate, released, discarded, bytesOf, Ledger, frontOf, leave, enterPop}
-use Rattle.ledger.specs.Claims.{placeOf, receivedRun, releasedBytes, popBytes, Tells}
+use Rattle.ledger.specs.Ledger.{Place, Fate, released, discarded, bytesOf, Ledger, frontOf, leave, enterPop, receivedRun, releasedBytes}
+use Rattle.ledger.specs.Reading.{popBytes}
+use Rattle.ledger.specs.Runs.{placeOf}
+use Rattle.ledger.specs.Claims.{Tells}
 use Rattle.ledger.proofs.Places.{map-take, run-gap, released-append, released-joined, discarded-none}
 use Rattle.ledger.proofs.Owned.{gone-released, gone-discarded}
 use Rattle.ledger.proofs.Moved.{Stands, Moved, still, held-count, place-number, left-stands, left-all}

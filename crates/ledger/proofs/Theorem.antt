@@ -34,15 +34,17 @@ use Rattle.step.specs.declared.Answer.{Answer}
 use Rattle.step.specs.declared.Answer.the-variants as answers
 use Rattle.views.specs.View.{Seen, entriesFrom, entries, gapIn}
 use Rattle.views.proofs.Lists.{entries-length}
-use Rattle.ledger.specs.Ledger.{Fate, released, discarded, bytesOf, Ledger, opened, numberOf, frontOf, nextOf, numberIn, lastIn, enterData, enterPop, enterDrop, enter}
-use Rattle.ledger.specs.Claims.{Event, Book, answered, turned, after, Fresh, Plain, AllPlain, Agrees, outBytes, handedOut, releasedBytes, Sent, now, before, placesIn, entered, Holds, Answers, Settled, Told}
+use Rattle.ledger.specs.Ledger.{Fate, released, discarded, bytesOf, Ledger, opened, numberOf, frontOf, nextOf, enterData, enterPop, enterDrop, enter, releasedBytes}
+use Rattle.ledger.specs.Reading.{numberIn, lastIn, Plain, outBytes, placesIn}
+use Rattle.ledger.specs.Runs.{Event, Book, answered, turned, after, Fresh, fresh, AllPlain, handedOut, Sent, now, before, entered}
+use Rattle.ledger.specs.Claims.{Holds, Judges, testsOf, Says, Settled, Told, Demand3}
 use Rattle.ledger.proofs.Owned.{nothing, empty}
 use Rattle.ledger.proofs.Moved.{Stands, Moved, held-count, lrsn-said}
 use Rattle.ledger.proofs.Moves.{by-refusal}
 use Rattle.ledger.proofs.Data.{data-stands}
 use Rattle.ledger.proofs.Pop.{pop-stands, pop-tells}
 use Rattle.ledger.proofs.Judged.{data-judged}
-use Rattle.ledger.proofs.Others.{report-stands, drop-stands, full-ack-stands, ack2-stands, clock-stands}
+use Rattle.ledger.proofs.Others.{report-stands, drop-stands, drop-counted, full-ack-stands, ack2-stands, clock-stands}
 
 -- one call: what it was fed belongs to its number
 abbrev Fed : (ℕ → List ℕ → Type 0) → Call → List ℕ → Type 0
@@ -73,17 +75,17 @@ step-stands S l s t (calls.Clock time stamp) p a f = clock-stands S l (s .head) 
 step-stands S l s t calls.Clear p a f = absurd p
 
 -- what its answer says is so
-step-answers : (S : ℕ → List ℕ → Type 0) (l : Ledger) (s : State) (t : Lent) (c : Call) → Plain c → Stands S l (s .head .window) (seen s)
-    → Answers l c (stepOf s t c .answer) (stepOf s t c .output)
-step-answers S l s t (calls.Data time number message location stamp) p a =
+step-says : (S : ℕ → List ℕ → Type 0) (l : Ledger) (s : State) (t : Lent) (c : Call) → Plain c → Stands S l (s .head .window) (seen s)
+    → Says l s t c (stepOf s t c .answer) (stepOf s t c .output)
+step-says S l s t (calls.Data time number message location stamp) p a =
     data-judged S l (s .head) (s .slots) (s .payloads) time (packet number message location stamp) (t .payload) p a
-step-answers S l s t (calls.Pop time) p a = pop-tells S l (s .head) (s .slots) (s .payloads) (t .output) time a
-step-answers S l s t (calls.Report time) p a = tt
-step-answers S l s t (calls.FullAck time) p a = tt
-step-answers S l s t (calls.Ack2 time number) p a = tt
-step-answers S l s t (calls.Drop first last) p a = tt
-step-answers S l s t (calls.Clock time stamp) p a = tt
-step-answers S l s t calls.Clear p a = absurd p
+step-says S l s t (calls.Pop time) p a = pop-tells S l (s .head) (s .slots) (s .payloads) (t .output) time a
+step-says S l s t (calls.Report time) p a = tt
+step-says S l s t (calls.FullAck time) p a = tt
+step-says S l s t (calls.Ack2 time number) p a = tt
+step-says S l s t (calls.Drop first last) p a = drop-counted S l (s .head) (s .slots) (s .payloads) a first last
+step-says S l s t (calls.Clock time stamp) p a = tt
+step-says S l s t calls.Clear p a = absurd p
 
 -- what is gone stays as it is
 kept-fate : (fs gs : List Fate) (p : ℕ) → p < length fs → getD (fs ++ gs) p discarded ≡ getD fs p discarded
@@ -173,67 +175,68 @@ older e past l s a =
       ownHeld = λ i bytes q. before e past (sum 31 (l .first) (frontOf l + i)) bytes (a .ownHeld i bytes q);
     }
 
-abbrev book : ℕ → State → Book
-book first s = record { ledger = opened first; state = s }
-
 module _ (first : ℕ) (s : State) (f : Fresh first s) where
   abbrev b : Book
-  b = book first s
+  b = fresh first s
+
+  abbrev at : List Event → Book
+  at past = after stepOf b past
+
+  abbrev then : Event → List Event → Ended
+  then e past = answered stepOf (at past) e
 
   -- one call more
   abbrev Next : Event → List Event → Type 0
   Next e past =
-      Moved (Sent (e ∷ past)) (after b past .ledger) (turned (after b past) e .ledger) (turned (after b past) e .state .head .window) (seen (turned (after b past) e .state))
-      (placesIn (answered (after b past) e .answer))
-      (outBytes (answered (after b past) e .answer) (answered (after b past) e .output))
+      Moved (Sent (e ∷ past)) (at past .ledger) (turned stepOf (at past) e .ledger) (turned stepOf (at past) e .state .head .window) (seen (turned stepOf (at past) e .state))
+      (placesIn (then e past .answer))
+      (outBytes (then e past .answer) (then e past .output))
 
   abbrev At : List Event → Type 0
-  At past = Stands (Sent past) (after b past .ledger) (after b past .state .head .window) (seen (after b past .state))
+  At past = Stands (Sent past) (at past .ledger) (at past .state .head .window) (seen (at past .state))
 
   one-more : (e : Event) (past : List Event) → Plain (e .call) → At past → Next e past
   one-more e past p a =
-      step-stands (Sent (e ∷ past)) (after b past .ledger) (after b past .state) (e .lent) (e .call) p (older e past (after b past .ledger) (after b past .state) a) (feeds (e .call) (e .lent) past)
+      step-stands (Sent (e ∷ past)) (at past .ledger) (at past .state) (e .lent) (e .call) p (older e past (at past .ledger) (at past .state) a) (feeds (e .call) (e .lent) past)
 
-  pub run-stands : (past : List Event) → AllPlain past → At past
+  run-stands : (past : List Event) → AllPlain past → At past
   unfolding after
   run-stands [] p = fresh-stands (Sent []) first s f
   run-stands (e ∷ past) p = one-more e past (p .0) (run-stands past (p .1)) .stands
 
-  pub run-kept : (past : List Event) → AllPlain past → headOk (after b past .state .head) ≡ true
+  run-kept : (past : List Event) → AllPlain past → headOk (at past .state .head) ≡ true
   unfolding after
   run-kept [] p = fresh-kept first s f
-  run-kept (e ∷ past) p = step-kept (after b past .state) (e .lent) (e .call) (p .0) (run-kept past (p .1))
+  run-kept (e ∷ past) p = step-kept (at past .state) (e .lent) (e .call) (p .0) (run-kept past (p .1))
 
-  run-handed : (past : List Event) → AllPlain past → handedOut b past ≡ releasedBytes (after b past .ledger .gone)
+  run-handed : (past : List Event) → AllPlain past → handedOut stepOf b past ≡ releasedBytes (at past .ledger .gone)
   unfolding after handedOut releasedBytes
   run-handed [] p = refl
   run-handed (e ∷ past) p =
-      ap (λ (x : List ℕ). x ++ outBytes (answered (after b past) e .answer) (answered (after b past) e .output)) (run-handed past (p .1))
+      ap (λ (x : List ℕ). x ++ outBytes (then e past .answer) (then e past .output)) (run-handed past (p .1))
       ∙ sym (one-more e past (p .0) (run-stands past (p .1)) .handed)
 
-  run-all : (past : List Event) → AllPlain past → nextOf (after b past .ledger) ≡ entered b past
+  run-all : (past : List Event) → AllPlain past → nextOf (at past .ledger) ≡ entered stepOf b past
   unfolding after entered
   run-all [] p = refl
   run-all (e ∷ past) p =
-      one-more e past (p .0) (run-stands past (p .1)) .all ∙ ap (λ (x : ℕ). x + placesIn (answered (after b past) e .answer)) (run-all past (p .1))
+      one-more e past (p .0) (run-stands past (p .1)) .all ∙ ap (λ (x : ℕ). x + placesIn (then e past .answer)) (run-all past (p .1))
 
-  run-apart : (past : List Event) → AllPlain past → (i j : ℕ)
-      → i < length (after b past .ledger .held) → j < length (after b past .ledger .held)
-      → numberOf (after b past .ledger) (frontOf (after b past .ledger) + i) ≡ numberOf (after b past .ledger) (frontOf (after b past .ledger) + j) → i ≡ j
+  run-apart : (past : List Event) → AllPlain past → (i j : ℕ) → i < length (at past .ledger .held) → j < length (at past .ledger .held)
+      → numberOf (at past .ledger) (frontOf (at past .ledger) + i) ≡ numberOf (at past .ledger) (frontOf (at past .ledger) + j) → i ≡ j
   run-apart past p i j hi hj e =
-      let l = after b past .ledger in
-      let w = after b past .state .head .window in
+      let l = at past .ledger in
+      let w = at past .state .head .window in
       let n = held-count (run-stands past p) in
-      let m = entries-length (w .capacity) (w .start) (after b past .state .slots) (after b past .state .payloads) 0 (w .held) in
-      let r = in-window w (in-parts (after b past .state .head) (run-kept past p) .window) in
+      let m = entries-length (w .capacity) (w .start) (at past .state .slots) (at past .state .payloads) 0 (w .held) in
+      let r = in-window w (in-parts (at past .state .head) (run-kept past p) .window) in
       let q = place-one 31 (l .first) (frontOf l) (frontOf l + i) (frontOf l + j) (omega arith) (omega (arith, n, m, r .holds, r .most)) (omega arith) (omega (arith, n, m, r .holds, r .most)) e in
       omega arith
 
-  -- demand 3
-  pub ledger-holds : (past : List Event) → AllPlain past → Holds b past
-  ledger-holds past p =
+  run-holds : (past : List Event) → AllPlain past → Holds (at past .ledger) (at past .state) past (handedOut stepOf b past) (entered stepOf b past)
+  run-holds past p =
       let a = run-stands past p in
-      let l = after b past .ledger in
+      let l = at past .ledger in
       record {
         agrees = record { front = a .front; entries = a .held; lrsn = lrsn-said a };
         handed = run-handed past p;
@@ -241,26 +244,37 @@ module _ (first : ℕ) (s : State) (f : Fresh first s) where
         held = a .ownHeld;
         all = run-all past p;
         apart = run-apart past p;
+        inRange = run-kept past p;
       }
     where
       zero-add : (i : ℕ) → 0 + i ≡ i
       zero-add i = omega arith
 
-  -- and what each answer says is so
-  pub ledger-answers : (e : Event) (past : List Event) → AllPlain (e ∷ past) → Told b past e
-  ledger-answers e past p =
-      let l = after b past .ledger in
+  run-told : (past : List Event) → AllPlain past → (e : Event) → Plain (e .call) → Told (at past) (turned stepOf (at past) e) e (then e past)
+  run-told past p e q =
       record {
-        answers = step-answers (Sent past) l (after b past .state) (e .lent) (e .call) (p .0) (run-stands past (p .1));
-        settled = settled l (e .call) (e .lent .payload) (answered (after b past) e .answer);
-        inRange = run-kept (e ∷ past) p;
+        says = step-says (Sent past) (at past .ledger) (at past .state) (e .lent) (e .call) q (run-stands past p);
+        settled = settled (at past .ledger) (e .call) (e .lent .payload) (then e past .answer);
       }
 
-  -- the fault that lost three passes: a fresh packet, of the number next expected after any number of wraps, is never refused as a duplicate
-  pub fresh-never-duplicate : (past : List Event) → AllPlain past → (time : ℤ) (number message location stamp : ℕ) (t : Lent) → stamp < 2 ^ 32
-      → number ≡ numberOf (after b past .ledger) (nextOf (after b past .ledger))
-      → dataLine (dataOf (after b past .state .head) (after b past .state .slots) (after b past .state .payloads) time (packet number message location stamp) (t .payload) .handled .answer) .refusal ≡ 10 → ⊥
-  fresh-never-duplicate past p time number message location stamp t k e q =
-      let j = step-answers (Sent past) (after b past .ledger) (after b past .state) t (calls.Data time number message location stamp) k (run-stands past p) in
-      let m = j .fresh e in
-      omega arith
+-- demand 3, of the receiver
+pub ledger-theorem : Demand3 stepOf
+ledger-theorem first s f past p = record { holds = run-holds first s f past p; told = run-told first s f past p }
+
+-- the fault that lost three passes: a fresh packet, of the number next expected after any number of wraps, is never refused as a duplicate
+pub fresh-never-duplicate : (first : ℕ) (s : State) → Fresh first s → (past : List Event) → AllPlain past → (time : ℤ) (number message location stamp : ℕ) (t : Lent) → stamp < 2 ^ 32
+    → number ≡ numberOf (after stepOf (fresh first s) past .ledger) (nextOf (after stepOf (fresh first s) past .ledger))
+    → (a : DataAnswer) → stepOf (after stepOf (fresh first s) past .state) t (calls.Data time number message location stamp) .answer ≡ answers.Data a
+    → dataLine a .refusal ≡ 10 → ⊥
+fresh-never-duplicate first s f past p time number message location stamp t k e a x q =
+    let b = after stepOf (fresh first s) past in
+    let u = run-told first s f past p (record { call = calls.Data time number message location stamp; lent = t }) k .says in
+    let v : Judges (b .ledger) (b .state .head .window .capacity) (testsOf (b .state) t (calls.Data time number message location stamp)) number a =
+    subst (λ (y : Answer). Says (b .ledger) (b .state) t (calls.Data time number message location stamp) y (stepOf (b .state) t (calls.Data time number message location stamp) .output)) x u in
+    let d = v .duplicate q in
+    let r = in-window (b .state .head .window) (in-parts (b .state .head) (run-kept first s f past p) .window) in
+    let n = held-count (run-stands first s f past p) in
+    let m = entries-length (b .state .head .window .capacity) (b .state .head .window .start) (b .state .slots) (b .state .payloads) 0 (b .state .head .window .held) in
+    let z = place-one 31 (b .ledger .first) (frontOf (b .ledger)) (frontOf (b .ledger) + d .0) (nextOf (b .ledger)) (omega arith) (omega (arith, n, m, r .holds, r .most, d .1)) (omega arith) (omega (arith, n, m, r .holds, r .most)) (d .2 ∙ e) in
+    let y = d .1 in
+    omega arith

@@ -1,183 +1,63 @@
--- What is claimed of the ledger: demand 3, for a fresh receiver and any calls but clear, past any number of wraps. Each claim's phrase of the demand stands above it.
+-- What is claimed: demand 3, "for a fresh receiver and any calls past any number of wraps, nothing is released twice, out of order, with other bytes, or
+-- dropped unseen". The ledger is in Ledger, a run in Runs. Above each claim stands its phrase of the demand.
 use mathlib.Core.Path.{_≡_}
-use mathlib.Core.Bool.{Bool, true, false}
-use mathlib.Core.List.{List, [], _∷_, _++_, map}
+use mathlib.Core.Bool.{true}
+use mathlib.Core.List.{List, _∷_, map}
 use mathlib.Core.Logic.{_⊎_}
-use Prim.Native.Nat.{ℕ, _+_, _^_, _<_, _≤_}
-use lib.IntN.{ℤ}
+use Prim.Native.Nat.{ℕ, _+_, _<_, _≤_}
 use lib.ListN.{length, take, getD}
-use Rattle.numbers.specs.Circular.{distance, sum}
-use Rattle.head.specs.Head.{headOk, madeOf}
+use Rattle.numbers.specs.Circular.{distance}
+use Rattle.head.specs.Head.{headOk}
+use Rattle.head.specs.Rules.{firstRefusal, pushRules}
+use Rattle.receiver.specs.Data.{packet}
+use Rattle.receiver.specs.Paper.{dataLine}
 use Rattle.receiver.specs.declared.data.DataAnswer.{DataAnswer}
-use Rattle.receiver.specs.declared.data.DataAnswer.the-variants as datas
 use Rattle.receiver.specs.declared.message.MessageAnswer.{MessageAnswer}
 use Rattle.receiver.specs.declared.message.MessageAnswer.the-variants as messages
-use Rattle.receiver.specs.Paper.{dataLine}
-use Rattle.step.specs.Step.{State, Lent, Ended, stepOf}
+use Rattle.receiver.specs.declared.request.DropAnswer.{DropAnswer}
+use Rattle.receiver.specs.declared.request.DropAnswer.the-variants as drops
+use Rattle.step.specs.Step.{State, Lent, Ended}
 use Rattle.step.specs.declared.Call.{Call}
 use Rattle.step.specs.declared.Call.the-variants as calls
 use Rattle.step.specs.declared.Answer.{Answer}
 use Rattle.step.specs.declared.Answer.the-variants as answers
-use Rattle.views.specs.View as views
-use Rattle.ledger.specs.Ledger.{Place, lost, received, givenUp, Fate, released, discarded, Ledger, opened, numberOf, frontOf, nextOf, bytesOf, numberIn, enter}
+use Rattle.ledger.specs.Reading.{Plain, numberIn, lastIn, appends, recovers}
+use Rattle.ledger.specs.Ledger.{lost, received, givenUp, released, discarded, Ledger, numberOf, frontOf, nextOf, bytesOf, receivedRun, lostCount, releasedBytes, enterDrop}
+use Rattle.ledger.specs.Runs.{Event, Book, Fresh, fresh, AllPlain, answered, turned, after, handedOut, entered, Sent, Agrees}
 
--- a call and what is lent for it; any contents
-pub record Event : Type 0 where
-  pub call : Call
-  pub lent : Lent
-
--- the station's ledger beside the receiver's state
-pub record Book : Type 0 where
-  pub ledger : Ledger
-  pub state : State
-
-abbrev pub answered : Book → Event → Ended
-answered b e = stepOf (b .state) (e .lent) (e .call)
-
-abbrev pub turned : Book → Event → Book
-turned b e =
-    record { ledger = enter (b .ledger) (e .call) (e .lent .payload) (answered b e .answer); state = answered b e .state }
-
--- the book after any calls, each given what the last left; the newest call stands first in the list
-unfoldable pub after : Book → List Event → Book
-after b [] = b
-after b (e ∷ past) = turned (after b past) e
-
--- a fresh receiver: what new made, with areas of any length and any contents
-pub record Fresh (first : ℕ) (s : State) : Type 0 where
-  pub start : ℤ
-  pub latency : ℕ
-  pub dropping : Bool
-  pub capacity : ℕ
-  pub made : madeOf start latency dropping first capacity .refusal ≡ 0
-  pub head : s .head ≡ madeOf start latency dropping first capacity .head
-
--- any call but clear; a stamp is a number of 32 bits, as its type in the code says
-abbrev pub Plain : Call → Type 0
-Plain (calls.Data time number message location stamp) = stamp < 2 ^ 32
-Plain (calls.Pop time) = Unit
-Plain (calls.Report time) = Unit
-Plain (calls.FullAck time) = Unit
-Plain (calls.Ack2 time number) = Unit
-Plain (calls.Drop first last) = Unit
-Plain (calls.Clock time stamp) = Unit
-Plain calls.Clear = ⊥
-
-abbrev pub AllPlain : List Event → Type 0
-AllPlain [] = Unit
-AllPlain (e ∷ past) = Plain (e .call) × AllPlain past
-
--- ledger and receiver agree: the front, the entries held with their marks and bytes, and the acknowledgement number, which is that of the first
--- held place not received, else of the next
-abbrev pub placeOf : views.Seen → Place
-placeOf (views.lost k f) = lost
-placeOf (views.received l m t bytes) = received bytes
-placeOf views.givenUp = givenUp
-
-unfoldable pub receivedRun : List Place → ℕ
-receivedRun [] = 0
-receivedRun (lost ∷ xs) = 0
-receivedRun (received bytes ∷ xs) = receivedRun xs + 1
-receivedRun (givenUp ∷ xs) = 0
-
-pub record Agrees (l : Ledger) (s : State) : Type 0 where
-  pub front : s .head .window .seqno0 ≡ numberOf l (frontOf l)
-  pub entries : map placeOf (views.entries (s .head .window) (s .slots) (s .payloads)) ≡ l .held
-  pub lrsn : s .head .window .lrsn ≡ numberOf l (frontOf l + receivedRun (l .held))
-
--- the bytes that an answer handed out, and those of all answers, oldest first
-abbrev pub popBytes : MessageAnswer → List ℕ → List ℕ
-popBytes messages.Nothing out = []
-popBytes (messages.Message time bytes packets) out = take bytes out
-popBytes (messages.Late first end delay) out = []
-popBytes (messages.Refused n) out = []
-
-abbrev pub outBytes : Answer → List ℕ → List ℕ
-outBytes (answers.Data a) out = []
-outBytes (answers.Pop a) out = popBytes a out
-outBytes (answers.Report a) out = []
-outBytes (answers.FullAck a) out = []
-outBytes (answers.Ack2 a) out = []
-outBytes (answers.Drop a) out = []
-outBytes (answers.Clock a) out = []
-outBytes (answers.Clear a) out = []
-
-unfoldable pub handedOut : Book → List Event → List ℕ
-handedOut b [] = []
-handedOut b (e ∷ past) = handedOut b past ++ outBytes (answered (after b past) e .answer) (answered (after b past) e .output)
-
--- the bytes of the places released, in the order of the places
-unfoldable pub releasedBytes : List Fate → List ℕ
-releasedBytes [] = []
-releasedBytes (released bytes ∷ fs) = bytes ++ releasedBytes fs
-releasedBytes (discarded ∷ fs) = releasedBytes fs
-
--- a packet of this number with these bytes was handed in
-pub data Sent : List Event → ℕ → List ℕ → Type 0 where
-  now : (time : ℤ) (number message location stamp : ℕ) (l : Lent) (past : List Event)
-      → Sent (record { call = calls.Data time number message location stamp; lent = l } ∷ past) number (l .payload)
-  before : (e : Event) (past : List Event) (number : ℕ) (bytes : List ℕ) → Sent past number bytes → Sent (e ∷ past) number bytes
-
--- the places that an answer entered, and all that were ever entered
-abbrev pub dataPlaces : DataAnswer → ℕ
-dataPlaces (datas.Got lrsn true) = 0
-dataPlaces (datas.Got lrsn false) = 1
-dataPlaces (datas.Light lrsn true) = 0
-dataPlaces (datas.Light lrsn false) = 1
-dataPlaces (datas.Loss a b) = distance 31 b a + 2
-dataPlaces (datas.Refused n) = 0
-dataPlaces (datas.PacketTooEarly room need) = 0
-
-abbrev pub placesIn : Answer → ℕ
-placesIn (answers.Data a) = dataPlaces a
-placesIn (answers.Pop a) = 0
-placesIn (answers.Report a) = 0
-placesIn (answers.FullAck a) = 0
-placesIn (answers.Ack2 a) = 0
-placesIn (answers.Drop a) = 0
-placesIn (answers.Clock a) = 0
-placesIn (answers.Clear a) = 0
-
-unfoldable pub entered : Book → List Event → ℕ
-entered b [] = 0
-entered b (e ∷ past) = entered b past + placesIn (answered (after b past) e .answer)
-
--- after any calls
-pub record Holds (b : Book) (past : List Event) : Type 0 where
+-- after any calls: past has them all, out is all that they handed out, count how many places they entered
+pub record Holds (l : Ledger) (s : State) (past : List Event) (out : List ℕ) (count : ℕ) : Type 0 where
   -- what the receiver holds is what the ledger says
-  pub agrees : Agrees (after b past .ledger) (after b past .state)
+  pub agrees : Agrees l s
   -- nothing twice, nothing out of order: all that was handed out is the bytes of the places released, place by place
-  pub handed : handedOut b past ≡ releasedBytes (after b past .ledger .gone)
+  pub handed : out ≡ releasedBytes (l .gone)
   -- no other bytes: what a place was released with, or holds, came in a packet of its number
-  pub own : (p : ℕ) (bytes : List ℕ) → getD (after b past .ledger .gone) p discarded ≡ released bytes → Sent past (numberOf (after b past .ledger) p) bytes
-  pub held : (i : ℕ) (bytes : List ℕ)
-      → getD (after b past .ledger .held) i lost ≡ received bytes → Sent past (numberOf (after b past .ledger) (frontOf (after b past .ledger) + i)) bytes
+  pub own : (p : ℕ) (bytes : List ℕ) → getD (l .gone) p discarded ≡ released bytes → Sent past (numberOf l p) bytes
+  pub held : (i : ℕ) (bytes : List ℕ) → getD (l .held) i lost ≡ received bytes → Sent past (numberOf l (frontOf l + i)) bytes
   -- nothing dropped unseen: released, discarded and held are all places ever entered
-  pub all : nextOf (after b past .ledger) ≡ entered b past
+  pub all : nextOf l ≡ count
   -- two held places never share a number
-  pub apart : (i j : ℕ)
-      → i < length (after b past .ledger .held) → j < length (after b past .ledger .held)
-      → numberOf (after b past .ledger) (frontOf (after b past .ledger) + i) ≡ numberOf (after b past .ledger) (frontOf (after b past .ledger) + j)
-      → i ≡ j
+  pub apart : (i j : ℕ) → i < length (l .held) → j < length (l .held) → numberOf l (frontOf l + i) ≡ numberOf l (frontOf l + j) → i ≡ j
+  -- no run is ever refused 1
+  pub inRange : headOk (s .head) ≡ true
 
--- the answer to a packet, by the place of its number
-abbrev pub recovers : DataAnswer → Bool
-recovers (datas.Got lrsn recovered) = recovered
-recovers (datas.Light lrsn recovered) = recovered
-recovers (datas.Loss a b) = false
-recovers (datas.Refused n) = false
-recovers (datas.PacketTooEarly room need) = false
-
-pub record Judges (l : Ledger) (number : ℕ) (a : DataAnswer) : Type 0 where
+-- the answer to a packet, by its number and by the first of the tests 1 to 6 that holds (0 for none), which look at no place
+pub record Judges (l : Ledger) (capacity tests number : ℕ) (a : DataAnswer) : Type 0 where
+  -- refused by 1 to 6 just if a test holds
+  pub tested : (dataLine a .refusal ≡ tests) ⊎ ((tests ≡ 0) × (7 ≤ dataLine a .refusal))
+  -- 7 and 8: there is no room
+  pub full : dataLine a .refusal ≡ 7 → (number ≡ numberOf l (nextOf l)) × (length (l .held) ≡ capacity)
+  pub early : dataLine a .refusal ≡ 8 → capacity < length (l .held) + distance 31 number (numberOf l (nextOf l)) + 1
+  -- 7, 8 and 9: it has no held place
+  pub unplaced : 7 ≤ dataLine a .refusal → dataLine a .refusal ≤ 9 → (i : ℕ) → i < length (l .held) → numberOf l (frontOf l + i) ≡ number → ⊥
   -- refused as a duplicate only if its held place is received or given up
   pub duplicate : dataLine a .refusal ≡ 10 → (i : ℕ) × (i < length (l .held)) × (numberOf l (frontOf l + i) ≡ number) × (getD (l .held) i lost ≡ lost → ⊥)
-  -- a packet whose held place is lost is taken, unless it is refused by 1 to 6, which look at no place
-  pub taken : (i : ℕ) → i < length (l .held) → numberOf l (frontOf l + i) ≡ number → getD (l .held) i givenUp ≡ lost
-      → ((1 ≤ dataLine a .refusal) × (dataLine a .refusal ≤ 6)) ⊎ (recovers a ≡ true)
-  -- a fresh packet is never too late nor a duplicate, after any number of wraps; 7 is a full buffer
-  pub fresh : number ≡ numberOf l (nextOf l) → dataLine a .refusal ≤ 7
+  -- a packet whose held place is lost is taken
+  pub taken : tests ≡ 0 → (i : ℕ) → i < length (l .held) → numberOf l (frontOf l + i) ≡ number → getD (l .held) i givenUp ≡ lost → recovers a ≡ true
+  -- a fresh packet, of the number next expected after any number of wraps, is taken if there is room
+  pub next : tests ≡ 0 → number ≡ numberOf l (nextOf l) → length (l .held) < capacity → appends a ≡ true
 
--- what a pop says of the places that leave
+-- a pop: a message's places are all received and its output is their bytes, in order; a late drop names the places that it discards
 abbrev pub Tells : Ledger → MessageAnswer → List ℕ → Type 0
 Tells l messages.Nothing out = Unit
 Tells l (messages.Message time bytes packets) out =
@@ -186,23 +66,47 @@ Tells l (messages.Late first end delay) out =
     (0 < distance 31 end first) × (distance 31 end first ≤ length (l .held)) × (first ≡ numberOf l (frontOf l)) × (end ≡ numberOf l (frontOf l + distance 31 end first))
 Tells l (messages.Refused n) out = Unit
 
--- of the answer to one call more: what it says is so, and no place that is gone changes its fate
-abbrev pub Answers : Ledger → Call → Answer → List ℕ → Type 0
-Answers l c (answers.Data a) out = Judges l (numberIn c) a
-Answers l c (answers.Pop a) out = Tells l a out
-Answers l c (answers.Report a) out = Unit
-Answers l c (answers.FullAck a) out = Unit
-Answers l c (answers.Ack2 a) out = Unit
-Answers l c (answers.Drop a) out = Unit
-Answers l c (answers.Clock a) out = Unit
-Answers l c (answers.Clear a) out = Unit
+-- a drop request counts the places that it gives up
+abbrev pub Counts : Ledger → ℕ → ℕ → DropAnswer → Type 0
+Counts l first last (drops.Gone n) = lostCount (l .held) ≡ lostCount (enterDrop l first last (drops.Gone n) .held) + n
+Counts l first last (drops.Refused n) = Unit
 
+-- the first of the tests 1 to 6 that holds for a call with a packet
+abbrev pub testsOf : State → Lent → Call → ℕ
+testsOf s t (calls.Data time number message location stamp) =
+    firstRefusal (pushRules (headOk (s .head)) (s .head .window .capacity) (length (s .slots)) (length (s .payloads)) time (s .head .latest) (packet number message location stamp) (length (t .payload)))
+testsOf s t (calls.Pop time) = 0
+testsOf s t (calls.Report time) = 0
+testsOf s t (calls.FullAck time) = 0
+testsOf s t (calls.Ack2 time number) = 0
+testsOf s t (calls.Drop first last) = 0
+testsOf s t (calls.Clock time stamp) = 0
+testsOf s t calls.Clear = 0
+
+-- what an answer says is so
+abbrev pub Says : Ledger → State → Lent → Call → Answer → List ℕ → Type 0
+Says l s t c (answers.Data a) out = Judges l (s .head .window .capacity) (testsOf s t c) (numberIn c) a
+Says l s t c (answers.Pop a) out = Tells l a out
+Says l s t c (answers.Report a) out = Unit
+Says l s t c (answers.FullAck a) out = Unit
+Says l s t c (answers.Ack2 a) out = Unit
+Says l s t c (answers.Drop a) out = Counts l (numberIn c) (lastIn c) a
+Says l s t c (answers.Clock a) out = Unit
+Says l s t c (answers.Clear a) out = Unit
+
+-- each place leaves once: the fate of a place that is gone never changes
 abbrev pub Settled : Ledger → Ledger → Type 0
 Settled l l₁ = (p : ℕ) → p < frontOf l → getD (l₁ .gone) p discarded ≡ getD (l .gone) p discarded
 
--- after any calls, of one more
-pub record Told (b : Book) (past : List Event) (e : Event) : Type 0 where
-  pub answers : Answers (after b past .ledger) (e .call) (answered (after b past) e .answer) (answered (after b past) e .output)
-  pub settled : Settled (after b past .ledger) (turned (after b past) e .ledger)
-  -- no call of a run is refused 1
-  pub inRange : headOk (after b (e ∷ past) .state .head) ≡ true
+-- one call more
+pub record Told (b b₁ : Book) (e : Event) (r : Ended) : Type 0 where
+  pub says : Says (b .ledger) (b .state) (e .lent) (e .call) (r .answer) (r .output)
+  pub settled : Settled (b .ledger) (b₁ .ledger)
+
+-- demand 3, of what makes a call
+pub record Demanded (step : State → Lent → Call → Ended) (first : ℕ) (s : State) (past : List Event) : Type 0 where
+  pub holds : Holds (after step (fresh first s) past .ledger) (after step (fresh first s) past .state) past (handedOut step (fresh first s) past) (entered step (fresh first s) past)
+  pub told : (e : Event) → Plain (e .call) → Told (after step (fresh first s) past) (turned step (after step (fresh first s) past) e) e (answered step (after step (fresh first s) past) e)
+
+abbrev pub Demand3 : (State → Lent → Call → Ended) → Type 0
+Demand3 step = (first : ℕ) (s : State) → Fresh first s → (past : List Event) → AllPlain past → Demanded step first s past

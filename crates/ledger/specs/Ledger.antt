@@ -13,9 +13,9 @@ use Rattle.receiver.specs.declared.message.MessageAnswer.the-variants as messag
 use Rattle.receiver.specs.declared.request.DropAnswer.{DropAnswer}
 use Rattle.receiver.specs.declared.request.DropAnswer.the-variants as drops
 use Rattle.step.specs.declared.Call.{Call}
-use Rattle.step.specs.declared.Call.the-variants as calls
 use Rattle.step.specs.declared.Answer.{Answer}
 use Rattle.step.specs.declared.Answer.the-variants as answers
+use Rattle.ledger.specs.Reading.{numberIn, lastIn}
 
 -- a place that is still held: a gap, a packet with the bytes handed in for it, or a gap that a drop request gave up
 pub data Place : Type 0 where
@@ -101,27 +101,6 @@ abbrev pub enterDrop : Ledger → ℕ → ℕ → DropAnswer → Ledger
 enterDrop l first last (drops.Gone n) = holding l (givenIn (endIn l first) (endIn l (sum 31 last 1)) 0 (l .held))
 enterDrop l first last (drops.Refused n) = l
 
--- the numbers of a call
-abbrev pub numberIn : Call → ℕ
-numberIn (calls.Data time number message location stamp) = number
-numberIn (calls.Pop time) = 0
-numberIn (calls.Report time) = 0
-numberIn (calls.FullAck time) = 0
-numberIn (calls.Ack2 time number) = 0
-numberIn (calls.Drop first last) = first
-numberIn (calls.Clock time stamp) = 0
-numberIn calls.Clear = 0
-
-abbrev pub lastIn : Call → ℕ
-lastIn (calls.Data time number message location stamp) = 0
-lastIn (calls.Pop time) = 0
-lastIn (calls.Report time) = 0
-lastIn (calls.FullAck time) = 0
-lastIn (calls.Ack2 time number) = 0
-lastIn (calls.Drop first last) = last
-lastIn (calls.Clock time stamp) = 0
-lastIn calls.Clear = 0
-
 -- a call with the bytes handed in for it and its answer; reports, ACKs and the clock move no place
 abbrev pub enter : Ledger → Call → List ℕ → Answer → Ledger
 enter l c bytes (answers.Data a) = enterData l (numberIn c) bytes a
@@ -132,3 +111,22 @@ enter l c bytes (answers.Ack2 a) = l
 enter l c bytes (answers.Drop a) = enterDrop l (numberIn c) (lastIn c) a
 enter l c bytes (answers.Clock a) = l
 enter l c bytes (answers.Clear a) = l
+
+-- of the places held, how many from the front on are received, and how many are lost
+unfoldable pub receivedRun : List Place → ℕ
+receivedRun [] = 0
+receivedRun (lost ∷ xs) = 0
+receivedRun (received bytes ∷ xs) = receivedRun xs + 1
+receivedRun (givenUp ∷ xs) = 0
+
+unfoldable pub lostCount : List Place → ℕ
+lostCount [] = 0
+lostCount (lost ∷ xs) = lostCount xs + 1
+lostCount (received bytes ∷ xs) = lostCount xs
+lostCount (givenUp ∷ xs) = lostCount xs
+
+-- the bytes of the places released, in the order of the places
+unfoldable pub releasedBytes : List Fate → List ℕ
+releasedBytes [] = []
+releasedBytes (released bytes ∷ fs) = bytes ++ releasedBytes fs
+releasedBytes (discarded ∷ fs) = releasedBytes fs

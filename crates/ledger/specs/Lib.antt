@@ -1,3 +1,5 @@
--- The ledger: what it is, and what is claimed of it.
+-- The ledger: what it is, what a run is, and what is claimed.
+pub mod Reading
 pub mod Ledger
+pub mod Runs
 pub mod Claims

@@ -1,0 +1,101 @@
+-- What the ledger reads of a call and of its answer: plain cases, one a constructor.
+use mathlib.Core.Bool.{Bool, true, false}
+use mathlib.Core.List.{List, []}
+use Prim.Native.Nat.{ℕ, _+_, _^_, _<_}
+use lib.ListN.{take}
+use Rattle.numbers.specs.Circular.{distance}
+use Rattle.receiver.specs.declared.data.DataAnswer.{DataAnswer}
+use Rattle.receiver.specs.declared.data.DataAnswer.the-variants as datas
+use Rattle.receiver.specs.declared.message.MessageAnswer.{MessageAnswer}
+use Rattle.receiver.specs.declared.message.MessageAnswer.the-variants as messages
+use Rattle.step.specs.declared.Call.{Call}
+use Rattle.step.specs.declared.Call.the-variants as calls
+use Rattle.step.specs.declared.Answer.{Answer}
+use Rattle.step.specs.declared.Answer.the-variants as answers
+
+-- the numbers of a call
+abbrev pub numberIn : Call → ℕ
+numberIn (calls.Data time number message location stamp) = number
+numberIn (calls.Pop time) = 0
+numberIn (calls.Report time) = 0
+numberIn (calls.FullAck time) = 0
+numberIn (calls.Ack2 time number) = 0
+numberIn (calls.Drop first last) = first
+numberIn (calls.Clock time stamp) = 0
+numberIn calls.Clear = 0
+
+abbrev pub lastIn : Call → ℕ
+lastIn (calls.Data time number message location stamp) = 0
+lastIn (calls.Pop time) = 0
+lastIn (calls.Report time) = 0
+lastIn (calls.FullAck time) = 0
+lastIn (calls.Ack2 time number) = 0
+lastIn (calls.Drop first last) = last
+lastIn (calls.Clock time stamp) = 0
+lastIn calls.Clear = 0
+
+-- any call but clear; a stamp is a number of 32 bits, as its type in the code says
+abbrev pub Plain : Call → Type 0
+Plain (calls.Data time number message location stamp) = stamp < 2 ^ 32
+Plain (calls.Pop time) = Unit
+Plain (calls.Report time) = Unit
+Plain (calls.FullAck time) = Unit
+Plain (calls.Ack2 time number) = Unit
+Plain (calls.Drop first last) = Unit
+Plain (calls.Clock time stamp) = Unit
+Plain calls.Clear = ⊥
+
+-- the bytes that an answer handed out
+abbrev pub popBytes : MessageAnswer → List ℕ → List ℕ
+popBytes messages.Nothing out = []
+popBytes (messages.Message time bytes packets) out = take bytes out
+popBytes (messages.Late first end delay) out = []
+popBytes (messages.Refused n) out = []
+
+abbrev pub outBytes : Answer → List ℕ → List ℕ
+outBytes (answers.Data a) out = []
+outBytes (answers.Pop a) out = popBytes a out
+outBytes (answers.Report a) out = []
+outBytes (answers.FullAck a) out = []
+outBytes (answers.Ack2 a) out = []
+outBytes (answers.Drop a) out = []
+outBytes (answers.Clock a) out = []
+outBytes (answers.Clear a) out = []
+
+-- how many places an answer entered
+abbrev pub dataPlaces : DataAnswer → ℕ
+dataPlaces (datas.Got lrsn true) = 0
+dataPlaces (datas.Got lrsn false) = 1
+dataPlaces (datas.Light lrsn true) = 0
+dataPlaces (datas.Light lrsn false) = 1
+dataPlaces (datas.Loss a b) = distance 31 b a + 2
+dataPlaces (datas.Refused n) = 0
+dataPlaces (datas.PacketTooEarly room need) = 0
+
+abbrev pub placesIn : Answer → ℕ
+placesIn (answers.Data a) = dataPlaces a
+placesIn (answers.Pop a) = 0
+placesIn (answers.Report a) = 0
+placesIn (answers.FullAck a) = 0
+placesIn (answers.Ack2 a) = 0
+placesIn (answers.Drop a) = 0
+placesIn (answers.Clock a) = 0
+placesIn (answers.Clear a) = 0
+
+-- whether a packet came for a place that was lost
+abbrev pub recovers : DataAnswer → Bool
+recovers (datas.Got lrsn recovered) = recovered
+recovers (datas.Light lrsn recovered) = recovered
+recovers (datas.Loss a b) = false
+recovers (datas.Refused n) = false
+recovers (datas.PacketTooEarly room need) = false
+
+-- whether it came in order
+abbrev pub appends : DataAnswer → Bool
+appends (datas.Got lrsn true) = false
+appends (datas.Got lrsn false) = true
+appends (datas.Light lrsn true) = false
+appends (datas.Light lrsn false) = true
+appends (datas.Loss a b) = false
+appends (datas.Refused n) = false
+appends (datas.PacketTooEarly room need) = false

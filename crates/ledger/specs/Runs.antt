@@ -1,0 +1,80 @@
+-- Runs: any calls but clear on a fresh receiver, each given what the last left, with the ledger kept beside. `step` is what makes a call: the receiver's, or a wrong one.
+use mathlib.Core.Path.{_≡_}
+use mathlib.Core.Bool.{Bool}
+use mathlib.Core.List.{List, [], _∷_, _++_, map}
+use Prim.Native.Nat.{ℕ, _+_}
+use lib.IntN.{ℤ}
+use Rattle.head.specs.Head.{madeOf}
+use Rattle.step.specs.Step.{State, Lent, Ended}
+use Rattle.step.specs.declared.Call.{Call}
+use Rattle.step.specs.declared.Call.the-variants as calls
+use Rattle.views.specs.View as views
+use Rattle.ledger.specs.Reading.{Plain, outBytes, placesIn}
+use Rattle.ledger.specs.Ledger.{Place, lost, received, givenUp, Ledger, opened, numberOf, frontOf, receivedRun, enter}
+
+-- a call and what is lent for it; any contents
+pub record Event : Type 0 where
+  pub call : Call
+  pub lent : Lent
+
+-- the station's ledger beside the receiver's state
+pub record Book : Type 0 where
+  pub ledger : Ledger
+  pub state : State
+
+-- a fresh receiver: what new made, with areas of any length and any contents
+pub record Fresh (first : ℕ) (s : State) : Type 0 where
+  pub start : ℤ
+  pub latency : ℕ
+  pub dropping : Bool
+  pub capacity : ℕ
+  pub made : madeOf start latency dropping first capacity .refusal ≡ 0
+  pub head : s .head ≡ madeOf start latency dropping first capacity .head
+
+abbrev pub fresh : ℕ → State → Book
+fresh first s = record { ledger = opened first; state = s }
+
+abbrev pub AllPlain : List Event → Type 0
+AllPlain [] = Unit
+AllPlain (e ∷ past) = Plain (e .call) × AllPlain past
+
+module _ (step : State → Lent → Call → Ended) where
+  abbrev pub answered : Book → Event → Ended
+  answered b e = step (b .state) (e .lent) (e .call)
+
+  abbrev pub turned : Book → Event → Book
+  turned b e =
+      record { ledger = enter (b .ledger) (e .call) (e .lent .payload) (answered b e .answer); state = answered b e .state }
+
+  -- the book after these calls; the newest stands first in the list
+  unfoldable pub after : Book → List Event → Book
+  after b [] = b
+  after b (e ∷ past) = turned (after b past) e
+
+  -- the bytes that all answers handed out, oldest first
+  unfoldable pub handedOut : Book → List Event → List ℕ
+  handedOut b [] = []
+  handedOut b (e ∷ past) = handedOut b past ++ outBytes (answered (after b past) e .answer) (answered (after b past) e .output)
+
+  -- how many places were ever entered
+  unfoldable pub entered : Book → List Event → ℕ
+  entered b [] = 0
+  entered b (e ∷ past) = entered b past + placesIn (answered (after b past) e .answer)
+
+-- a packet of this number with these bytes was handed in
+pub data Sent : List Event → ℕ → List ℕ → Type 0 where
+  now : (time : ℤ) (number message location stamp : ℕ) (l : Lent) (past : List Event)
+      → Sent (record { call = calls.Data time number message location stamp; lent = l } ∷ past) number (l .payload)
+  before : (e : Event) (past : List Event) (number : ℕ) (bytes : List ℕ) → Sent past number bytes → Sent (e ∷ past) number bytes
+
+-- ledger and receiver agree: the front, the entries held with their marks and bytes, and the acknowledgement number, which is that of the first
+-- held place not received, else of the next
+abbrev pub placeOf : views.Seen → Place
+placeOf (views.lost k f) = lost
+placeOf (views.received l m t bytes) = received bytes
+placeOf views.givenUp = givenUp
+
+pub record Agrees (l : Ledger) (s : State) : Type 0 where
+  pub front : s .head .window .seqno0 ≡ numberOf l (frontOf l)
+  pub entries : map placeOf (views.entries (s .head .window) (s .slots) (s .payloads)) ≡ l .held
+  pub lrsn : s .head .window .lrsn ≡ numberOf l (frontOf l + receivedRun (l .held))
