@@ -35,7 +35,7 @@ use Rattle.step.specs.declared.Answer.the-variants as answers
 use Rattle.views.specs.View.{Seen, entriesFrom, entries, gapIn}
 use Rattle.views.proofs.Lists.{entries-length}
 use Rattle.ledger.specs.Ledger.{Fate, released, discarded, bytesOf, Ledger, opened, numberOf, frontOf, nextOf, enterData, enterPop, enterDrop, enter, releasedBytes}
-use Rattle.ledger.specs.Reading.{numberIn, lastIn, Plain, outBytes, placesIn}
+use Rattle.ledger.specs.Reading.{numberIn, lastIn, Plain, outBytes, placesIn, kindOf, kindIn}
 use Rattle.ledger.specs.Runs.{Event, Book, answered, turned, after, Fresh, fresh, AllPlain, handedOut, Sent, now, before, entered}
 use Rattle.ledger.specs.Claims.{Holds, Judges, testsOf, Says, Settled, Told, Demand3}
 use Rattle.ledger.proofs.Owned.{nothing, empty}
@@ -73,6 +73,17 @@ step-stands S l s t (calls.Ack2 time number) p a f = ack2-stands S l (s .head) (
 step-stands S l s t (calls.Drop first last) p a f = drop-stands S l (s .head) (s .slots) (s .payloads) a first last
 step-stands S l s t (calls.Clock time stamp) p a f = clock-stands S l (s .head) (s .slots) (s .payloads) a time stamp
 step-stands S l s t calls.Clear p a f = absurd p
+
+-- its answer is of its kind
+step-kind : (s : State) (t : Lent) (c : Call) → kindIn (stepOf s t c .answer) ≡ kindOf c
+step-kind s t (calls.Data time number message location stamp) = refl
+step-kind s t (calls.Pop time) = refl
+step-kind s t (calls.Report time) = refl
+step-kind s t (calls.FullAck time) = refl
+step-kind s t (calls.Ack2 time number) = refl
+step-kind s t (calls.Drop first last) = refl
+step-kind s t (calls.Clock time stamp) = refl
+step-kind s t calls.Clear = refl
 
 -- what its answer says is so
 step-says : (S : ℕ → List ℕ → Type 0) (l : Ledger) (s : State) (t : Lent) (c : Call) → Plain c → Stands S l (s .head .window) (seen s)
@@ -253,6 +264,7 @@ module _ (first : ℕ) (s : State) (f : Fresh first s) where
   run-told : (past : List Event) → AllPlain past → (e : Event) → Plain (e .call) → Told (at past) (turned stepOf (at past) e) e (then e past)
   run-told past p e q =
       record {
+        kind = step-kind (at past .state) (e .lent) (e .call);
         says = step-says (Sent past) (at past .ledger) (at past .state) (e .lent) (e .call) q (run-stands past p);
         settled = settled (at past .ledger) (e .call) (e .lent .payload) (then e past .answer);
       }

@@ -21,7 +21,7 @@ use Rattle.step.specs.declared.Call.{Call}
 use Rattle.step.specs.declared.Call.the-variants as calls
 use Rattle.step.specs.declared.Answer.{Answer}
 use Rattle.step.specs.declared.Answer.the-variants as answers
-use Rattle.ledger.specs.Reading.{Plain, numberIn, lastIn, appends, recovers}
+use Rattle.ledger.specs.Reading.{Plain, numberIn, lastIn, appends, recovers, kindOf, kindIn}
 use Rattle.ledger.specs.Ledger.{lost, received, givenUp, released, discarded, Ledger, numberOf, frontOf, nextOf, bytesOf, receivedRun, lostCount, releasedBytes, enterDrop}
 use Rattle.ledger.specs.Runs.{Event, Book, Fresh, fresh, AllPlain, answered, turned, after, handedOut, entered, Sent, Agrees}
 
@@ -100,6 +100,7 @@ Settled l l₁ = (p : ℕ) → p < frontOf l → getD (l₁ .gone) p discarded �
 
 -- one call more
 pub record Told (b b₁ : Book) (e : Event) (r : Ended) : Type 0 where
+  pub kind : kindIn (r .answer) ≡ kindOf (e .call)
   pub says : Says (b .ledger) (b .state) (e .lent) (e .call) (r .answer) (r .output)
   pub settled : Settled (b .ledger) (b₁ .ledger)
 

@@ -99,3 +99,24 @@ appends (datas.Light lrsn false) = true
 appends (datas.Loss a b) = false
 appends (datas.Refused n) = false
 appends (datas.PacketTooEarly room need) = false
+
+-- an answer is of its call's kind
+abbrev pub kindOf : Call → ℕ
+kindOf (calls.Data time number message location stamp) = 1
+kindOf (calls.Pop time) = 2
+kindOf (calls.Report time) = 3
+kindOf (calls.FullAck time) = 4
+kindOf (calls.Ack2 time number) = 5
+kindOf (calls.Drop first last) = 6
+kindOf (calls.Clock time stamp) = 7
+kindOf calls.Clear = 8
+
+abbrev pub kindIn : Answer → ℕ
+kindIn (answers.Data a) = 1
+kindIn (answers.Pop a) = 2
+kindIn (answers.Report a) = 3
+kindIn (answers.FullAck a) = 4
+kindIn (answers.Ack2 a) = 5
+kindIn (answers.Drop a) = 6
+kindIn (answers.Clock a) = 7
+kindIn (answers.Clear a) = 8
