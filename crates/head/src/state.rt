@@ -1,6 +1,7 @@
 // The head of a receiver: 01, "Head and lent areas". It goes into a call by value and comes out of it.
 ghost use mathlib.Core.Path.{_≡_};
 ghost use Rattle.head.specs.Head.{windowOk, freshHead, headOk, madeOf};
+ghost use Rattle.head.specs.Parts.{withWindow, withClock, withRtt, withRates, withHistory, withLatest};
 ghost use Rattle.head.specs.Rules.{firstRefusal, makeRules};
 use acks::history::History;
 use acks::rates::Arrivals;
@@ -106,5 +107,56 @@ impl Head {
             & links.in_range()
             & history.in_range()
             & numbers::instant::is_reading(self.latest)
+    }
+
+    // The head with another part.
+
+    pub fn with_window(self, window: Window) -> Self
+        ensures { λ r. ⌜ r ≡ withWindow self window ⌝ }
+    {
+        let mut next = self;
+        next.window = window;
+        next
+    }
+
+    pub fn with_clock(self, clock: SynchronizedRemoteClock) -> Self
+        ensures { λ r. ⌜ r ≡ withClock self clock ⌝ }
+    {
+        let mut next = self;
+        next.clock = clock;
+        next
+    }
+
+    pub fn with_rtt(self, rtt: Rtt) -> Self
+        ensures { λ r. ⌜ r ≡ withRtt self rtt ⌝ }
+    {
+        let mut next = self;
+        next.rtt = rtt;
+        next
+    }
+
+    pub fn with_rates(self, arrivals: Arrivals, links: Links) -> Self
+        ensures { λ r. ⌜ r ≡ withRates self arrivals links ⌝ }
+    {
+        let mut next = self;
+        next.arrivals = arrivals;
+        next.links = links;
+        next
+    }
+
+    pub fn with_history(self, history: History) -> Self
+        ensures { λ r. ⌜ r ≡ withHistory self history ⌝ }
+    {
+        let mut next = self;
+        next.history = history;
+        next
+    }
+
+    pub fn with_latest(self, time: i64) -> Self
+        ensures { λ r. ⌜ r ≡ withLatest self time ⌝ }
+    {
+        let mut next = self;
+        next.latest = time;
+        next
     }
 }

@@ -25,12 +25,13 @@ use Rattle.window_report.specs.declared.report.ReportAnswer.{ReportAnswer}
 use Rattle.window_report.specs.declared.report.ReportAnswer.the-variants as reports
 use Rattle.head.specs.Rules.{firstRefusal, makeRules, pushRules, timedRules, headRules}
 use Rattle.head.specs.Head.{windowOk, headOk, freshHead, madeOf}
+use Rattle.head.specs.Parts.{withLatest}
 use Rattle.head.specs.declared.state.Head.{Head}
 use Rattle.head.specs.declared.state.Made.{Made}
 use Rattle.head.proofs.Gates.{clear}
 use Rattle.head.proofs.Ready.{InRange, in-parts, in-window, timed-ready, PushReady, push-ready}
-use Rattle.receiver.specs.Data.{DataOutcome, withWindow, ackedOf, ratedOf, gotOf, afterPush, takenOf, dataOf}
-use Rattle.receiver.specs.Loss.{LossOutcome, withLatest, headAfter, reportedOf, lossOf}
+use Rattle.receiver.specs.Data.{DataOutcome, placedOf, ackedOf, ratedOf, gotOf, afterPush, takenOf, dataOf}
+use Rattle.receiver.specs.Loss.{LossOutcome, headAfter, reportedOf, lossOf}
 use Rattle.receiver.specs.Request.{ClearOutcome, clearedOf, clearOf}
 use Rattle.kept.proofs.Parts.{from-parts, from-window, from-good}
 use Rattle.kept.proofs.Says.{Says, push-says}
@@ -106,7 +107,7 @@ loss-kept h ws list now e =
 
 -- a data packet: the parts of the head that change, one after the other
 module _ (h : Head) (r : InRange h) where
-  window-in : (w : Window) (now : ℤ) → windowOk w ≡ true → isReading now ≡ true → InRange (withWindow h w now)
+  window-in : (w : Window) (now : ℤ) → windowOk w ≡ true → isReading now ≡ true → InRange (placedOf h w now)
   window-in w now i n =
       record { window = i; latency = r .latency; clock = r .clock; rtt = r .rtt; arrivals = r .arrivals; links = r .links; history = r .history; latest = n }
 
@@ -142,7 +143,7 @@ module _ (h : Head) (r : InRange h) (now : ℤ) (n : isReading now ≡ true) (nu
   got-in : (lrsn : ℕ) (recovered : Bool) → lrsn < 2 ^ 31 → InRange (gotOf h w lrsn recovered now number size .head)
   unfolding gotOf
   got-in lrsn recovered l =
-      acked-in (withWindow (cond recovered h (ratedOf h now number size)) w now)
+      acked-in (placedOf (cond recovered h (ratedOf h now number size)) w now)
       (window-in (cond recovered h (ratedOf h now number size))
       (by-test InRange recovered h (ratedOf h now number size) (λ t. r) (λ t. rated-in h r now number size n s))
       w now i n)

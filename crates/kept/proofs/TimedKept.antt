@@ -33,19 +33,20 @@ use Rattle.window_pop.specs.declared.pop.PopAnswer.the-variants as pops
 use Rattle.window_pop.proofs.PopLaws.{pop-good, pop-clock}
 use Rattle.head.specs.Rules.{firstRefusal, popRules, timedRules, clockRules}
 use Rattle.head.specs.Head.{windowOk, headOk}
+use Rattle.head.specs.Parts.{withRtt, withHistory, withLatest}
 use Rattle.head.specs.declared.state.Head.{Head}
 use Rattle.head.proofs.Gates.{clear}
 use Rattle.head.proofs.Ready.{InRange, in-parts, in-window, timed-ready, clock-ready, pop-ready}
-use Rattle.receiver.specs.Acking.{withRtt, afterAck, FullAckOutcome, roomyAck, dueAck, fullAckEventOf, afterAck2, heldAck2, Ack2Outcome, ack2PacketOf}
-use Rattle.receiver.specs.Message.{GivenOutcome, withPop, headAfter, takenOf, messageOf}
+use Rattle.receiver.specs.Acking.{afterAck, FullAckOutcome, roomyAck, dueAck, fullAckEventOf, afterAck2, heldAck2, Ack2Outcome, ack2PacketOf}
+use Rattle.receiver.specs.Message.{GivenOutcome, poppedOf, headAfter, takenOf, messageOf}
 use Rattle.receiver.specs.Sync.{afterSync, syncOf, ClockOutcome, clockOf}
 use Rattle.kept.proofs.Parts.{from-parts, from-good}
 
 -- the head with other parts in range, and a reading as its latest
 module _ (h : Head) (now : ℤ) (i : InRange h) (r : isReading now ≡ true) where
-  rtt-set : (y : History) (t : Rtt) → historyOk y ≡ true → rttOk t ≡ true → headOk (withRtt h y t now) ≡ true
+  rtt-set : (y : History) (t : Rtt) → historyOk y ≡ true → rttOk t ≡ true → headOk (withLatest (withRtt (withHistory h y) t) now) ≡ true
   rtt-set y t e f =
-      from-parts (withRtt h y t now)
+      from-parts (withLatest (withRtt (withHistory h y) t) now)
       (record {
         window = i .window;
         latency = i .latency;
@@ -57,9 +58,9 @@ module _ (h : Head) (now : ℤ) (i : InRange h) (r : isReading now ≡ true) whe
         latest = r;
       })
 
-  pop-set : (w : Window) (k : SynchronizedRemoteClock) → windowOk w ≡ true → clockOk k ≡ true → headOk (withPop h w k now) ≡ true
+  pop-set : (w : Window) (k : SynchronizedRemoteClock) → windowOk w ≡ true → clockOk k ≡ true → headOk (poppedOf h w k now) ≡ true
   pop-set w k e f =
-      from-parts (withPop h w k now)
+      from-parts (poppedOf h w k now)
       (record {
         window = e;
         latency = i .latency;

@@ -72,7 +72,7 @@ got-only false lrsn recovered = inl refl
 push-only : (h : Head) (w : Window) (a : PushAnswer) (now : ℤ) (number size : ℕ) → Late (dataLine (calls.afterPush h w a now number size .answer))
 unfolding calls.gotOf calls.ackedOf
 push-only h w (pushes.Got lrsn recovered) now number size =
-    let x = calls.withWindow (cond recovered h (calls.ratedOf h now number size)) w now in
+    let x = calls.placedOf (cond recovered h (calls.ratedOf h now number size)) w now in
     got-only (lightAckOf (x .history) lrsn .light) lrsn recovered
 push-only h w (pushes.Loss first last) now number size = inl refl
 push-only h w pushes.BufferFull now number size = within (omega arith) (omega arith)

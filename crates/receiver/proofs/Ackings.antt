@@ -31,15 +31,24 @@ use Rattle.window.specs.Window.{roomOf}
 use Rattle.window.specs.declared.Window.{Window}
 use Rattle.head.specs.Rules.{firstRefusal, timedRules}
 use Rattle.head.specs.Head.{windowOk, headOk}
+use Rattle.head.specs.Parts.{withRtt, withHistory, withLatest}
 use Rattle.head.specs.declared.state.Head.{Head}
 use Rattle.head.proofs.Gates.{taken, refused}
 use Rattle.head.proofs.Ready.{InRange, timed-ready}
-use Rattle.receiver.specs.Acking.{AckReady, withLatest, withHistory, withRtt, figuresOf, afterAck, fullAckEnded, ofHistory, roomyAck, dueAck, fullAckEventOf, FullAckOutcome, afterAck2, heldAck2, Ack2Outcome, ack2Ended, ack2PacketOf}
+use Rattle.receiver.specs.Acking.{AckReady, figuresOf, afterAck, fullAckEnded, ofHistory, roomyAck, dueAck, fullAckEventOf, FullAckOutcome, afterAck2, heldAck2, Ack2Outcome, ack2Ended, ack2PacketOf}
 use Rattle.receiver.specs.declared.acking.FullAcked.{FullAcked}
 use Rattle.receiver.specs.declared.acking.FullAckAnswer.{FullAckAnswer}
 use Rattle.receiver.specs.declared.acking.FullAckAnswer.the-variants as answers
 use Rattle.receiver.specs.declared.acking.Ack2ed.{Ack2ed}
 use Rattle.receiver.specs.declared.acking.RttAnswer.the-variants as rtts
+
+-- with_history, with_rtt
+module _ (h : Head) (y : History) (now : ℤ) {f g : Head} {n : ℤ} where
+  pub history-set : f ≡ withHistory h y → g ≡ withLatest f n → n ≡ now → g ≡ withLatest (withHistory h y) now
+  history-set a b c = rw (b, a, c)
+
+  pub rtt-set : (t : Rtt) {e : Head} → e ≡ withHistory h y → f ≡ withRtt e t → g ≡ withLatest f n → n ≡ now → g ≡ withLatest (withRtt (withHistory h y) t) now
+  rtt-set t a b c d = rw (c, b, a, d)
 
 -- figures
 pub figured : (n : ℕ) (w : Window) (t : Rtt) (a : Arrivals) (l : Links) {room : ℕ} {speed : Speed} {link : Link}
@@ -71,7 +80,7 @@ module _ (h : Head) (y : History) (now : ℤ) {a : AckAnswer} where
   ack-worn e = rw e
 
   pub ack-given : {k : ℕ} {g : Head} {n : ℤ} {r : FullAckAnswer}
-      → a ≡ acks.Ack k → g ≡ withHistory h y n → n ≡ now → r ≡ figuresOf k (h .window) (h .rtt) (h .arrivals) (h .links)
+      → a ≡ acks.Ack k → g ≡ withLatest (withHistory h y) n → n ≡ now → r ≡ figuresOf k (h .window) (h .rtt) (h .arrivals) (h .links)
       → _≡_ {A = FullAcked} (record { head = g; answer = r }) (afterAck h y a now)
   ack-given e f p g = rw (e, f, p, g)
 
@@ -101,7 +110,7 @@ module _ (h : Head) (y : History) (now : ℤ) {a : Ack2Answer} {g : Head} {n : �
   pub ack2-nothing : a ≡ acks2.NotHeld → g ≡ withLatest h n → n ≡ now → _≡_ {A = Ack2ed} (record { head = g; answer = rtts.Nothing }) (afterAck2 h y a now)
   ack2-nothing e f p = rw (e, f, p)
 
-  pub ack2-held : {r : ℕ} {t : Rtt} → a ≡ acks2.Held r → t ≡ updated (h .rtt) r → g ≡ withRtt h y t n → n ≡ now
+  pub ack2-held : {r : ℕ} {t : Rtt} → a ≡ acks2.Held r → t ≡ updated (h .rtt) r → g ≡ withLatest (withRtt (withHistory h y) t) n → n ≡ now
       → _≡_ {A = Ack2ed} (record { head = g; answer = rtts.Rtt (t .mean) (t .variance) }) (afterAck2 h y a now)
   ack2-held e f i p = rw (e, i, f, p)
 
@@ -153,4 +162,4 @@ module _ (h : Head) (a : List ℕ) (now : ℤ) where
   unfolding roomyAck history.fullAckOf
   worn-stays e f = rw (e, f)
 
-pub ruleset ackings = (figured, room-ready, history-ready, ack-nothing, ack-worn, ack-given, acked, ack-roomy, ack-no-room, acking-ready, event-taken, event-refused, ack2-nothing, ack2-held, ack2-answered, packet-taken, packet-refused, needs)
+pub ruleset ackings = (history-set, rtt-set, figured, room-ready, history-ready, ack-nothing, ack-worn, ack-given, acked, ack-roomy, ack-no-room, acking-ready, event-taken, event-refused, ack2-nothing, ack2-held, ack2-answered, packet-taken, packet-refused, needs)

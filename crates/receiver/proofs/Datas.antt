@@ -26,13 +26,18 @@ use Rattle.window.specs.declared.push.PushAnswer.the-variants as pushes
 use Rattle.window.proofs.push.PushAnswer.{the-type}
 use Rattle.head.specs.Rules.{firstRefusal, pushRules}
 use Rattle.head.specs.Head.{headOk}
+use Rattle.head.specs.Parts.{withWindow, withRates, withHistory, withLatest}
 use Rattle.head.specs.declared.state.Head.{Head}
 use Rattle.head.proofs.Gates.{taken, refused}
 use Rattle.head.proofs.Ready.{PushReady, push-ready}
-use Rattle.receiver.specs.Data.{withWindow, withRates, withHistory, refusedBy, refusedOf, ackedOf, ratedOf, gotOf, afterPush, DataOutcome, dataEnded, takenOf, dataOf}
+use Rattle.receiver.specs.Data.{placedOf, refusedBy, refusedOf, ackedOf, ratedOf, gotOf, afterPush, DataOutcome, dataEnded, takenOf, dataOf}
 use Rattle.receiver.specs.declared.data.Handled.{Handled}
 use Rattle.receiver.specs.declared.data.DataAnswer.{DataAnswer}
 use Rattle.receiver.specs.declared.data.DataAnswer.the-variants as answers
+
+-- placed
+pub put-in : (h : Head) (w : Window) (now : ℤ) {f g : Head} {n : ℤ} → f ≡ withWindow h w → g ≡ withLatest f n → n ≡ now → g ≡ placedOf h w now
+put-in h w now a b c = rw (b, a, c)
 
 -- refused_by: the case that has numbers
 pub too-early : {a : PushAnswer} {room need : ℕ} → a ≡ pushes.PacketTooEarly room need → answers.PacketTooEarly room need ≡ refusedBy a
@@ -63,12 +68,12 @@ module _ (h : Head) (lrsn : ℕ) (recovered : Bool) {l : LightAcked} {g : Head} 
 
 -- got
 module _ (h : Head) (w : Window) (lrsn : ℕ) (now : ℤ) (number size : ℕ) {recovered : Bool} {r : Handled} where
-  pub got-recovered : {n : ℤ} {g : Head} → recovered ≡ true → r ≡ ackedOf g lrsn true → g ≡ withWindow h w n → n ≡ now → r ≡ gotOf h w lrsn recovered now number size
+  pub got-recovered : {n : ℤ} {g : Head} → recovered ≡ true → r ≡ ackedOf g lrsn true → g ≡ placedOf h w n → n ≡ now → r ≡ gotOf h w lrsn recovered now number size
   unfolding gotOf
   got-recovered t e f p = rw t (e ∙ rw (f, p))
 
   pub got-appended : {n n₁ : ℤ} {f g : Head}
-      → recovered ≡ false → r ≡ ackedOf g lrsn false → g ≡ withWindow f w n → n ≡ now → f ≡ ratedOf h n₁ number size → n₁ ≡ now → r ≡ gotOf h w lrsn recovered now number size
+      → recovered ≡ false → r ≡ ackedOf g lrsn false → g ≡ placedOf f w n → n ≡ now → f ≡ ratedOf h n₁ number size → n₁ ≡ now → r ≡ gotOf h w lrsn recovered now number size
   unfolding gotOf
   got-appended t e g p f q = rw t (e ∙ rw (g, p, f, q))
 
@@ -79,7 +84,7 @@ module _ (h : Head) (w : Window) (now : ℤ) (number size : ℕ) {a : PushAnswer
   after-got e f p = f ∙ rw (e, p)
 
   pub after-loss : {first last : ℕ} {g : Head} {n : ℤ}
-      → a ≡ pushes.Loss first last → g ≡ withWindow h w n → n ≡ now → _≡_ {A = Handled} (record { head = g; answer = answers.Loss first last }) (afterPush h w a now number size)
+      → a ≡ pushes.Loss first last → g ≡ placedOf h w n → n ≡ now → _≡_ {A = Handled} (record { head = g; answer = answers.Loss first last }) (afterPush h w a now number size)
   after-loss e f p = rw (e, f, p)
 
 others : (h : Head) (w : Window) (a : PushAnswer) (now : ℤ) (number size : ℕ) → OneOf (1 ∷ 2 ∷ 3 ∷ 4 ∷ 5 ∷ []) (tagOf the-type a) → OneOf (0 ∷ 2 ∷ 3 ∷ 4 ∷ 5 ∷ []) (tagOf the-type a)
@@ -132,4 +137,4 @@ module _ (h : Head) (ws bs : List ℕ) (now : ℤ) (p : Packet) (payload : List 
     unfolding dataOf
     data-refused z = sym (refused (takenOf h ws bs now p payload) (λ n. dataEnded (record { head = h; answer = answers.Refused n }) ws bs) same z)
 
-pub ruleset datas = (too-early, arrivals-fit, links-fit, rated, acked-light, acked, got-recovered, got-appended, after-got, after-loss, after-refused, reading-under, pushed-at, taken-up, data-ready, data-taken, data-refused, needs)
+pub ruleset datas = (put-in, too-early, arrivals-fit, links-fit, rated, acked-light, acked, got-recovered, got-appended, after-got, after-loss, after-refused, reading-under, pushed-at, taken-up, data-ready, data-taken, data-refused, needs)

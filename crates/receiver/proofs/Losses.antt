@@ -22,10 +22,11 @@ use Rattle.window_report.specs.declared.report.ReportAnswer.the-variants as rep
 use Rattle.window_report.proofs.report.ReportAnswer.{the-type}
 use Rattle.head.specs.Rules.{firstRefusal, timedRules}
 use Rattle.head.specs.Head.{headOk}
+use Rattle.head.specs.Parts.{withLatest}
 use Rattle.head.specs.declared.state.Head.{Head}
 use Rattle.head.proofs.Gates.{taken, refused}
 use Rattle.head.proofs.Ready.{timed-ready, good}
-use Rattle.receiver.specs.Loss.{ReportReady, lossEnded, withLatest, answerOf, afterReport, ending, reportedOf, lossOf}
+use Rattle.receiver.specs.Loss.{ReportReady, lossEnded, answerOf, afterReport, ending, reportedOf, lossOf}
 use Rattle.receiver.specs.declared.loss.Reported.{Reported}
 use Rattle.receiver.specs.declared.loss.LossAnswer.{LossAnswer}
 use Rattle.receiver.specs.declared.loss.LossAnswer.the-variants as answers

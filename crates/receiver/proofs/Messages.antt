@@ -17,13 +17,19 @@ use Rattle.window_pop.specs.declared.pop.PopAnswer.the-variants as pops
 use Rattle.window_pop.proofs.pop.PopAnswer.{the-type}
 use Rattle.head.specs.Rules.{firstRefusal, popRules}
 use Rattle.head.specs.Head.{headOk}
+use Rattle.head.specs.Parts.{withWindow, withClock, withLatest}
 use Rattle.head.specs.declared.state.Head.{Head}
 use Rattle.head.proofs.Gates.{taken, refused}
 use Rattle.head.proofs.Ready.{pop-ready}
-use Rattle.receiver.specs.Message.{givenEnded, withPop, answerOf, afterPop, popped, takenOf, messageOf}
+use Rattle.receiver.specs.Message.{givenEnded, poppedOf, answerOf, afterPop, popped, takenOf, messageOf}
 use Rattle.receiver.specs.declared.message.Given.{Given}
 use Rattle.receiver.specs.declared.message.MessageAnswer.{MessageAnswer}
 use Rattle.receiver.specs.declared.message.MessageAnswer.the-variants as answers
+
+-- popped
+pub taken-out : (h : Head) (w : Window) (k : SynchronizedRemoteClock) (now : ℤ) {e f g : Head} {n : ℤ}
+    → e ≡ withWindow h w → f ≡ withClock e k → g ≡ withLatest f n → n ≡ now → g ≡ poppedOf h w k now
+taken-out h w k now a b c d = rw (c, b, a, d)
 
 -- answer_of
 pub answer-message : {a : PopAnswer} {t t₁ : ℤ} {b p : ℕ} → a ≡ pops.Message t b p → t₁ ≡ t → answers.Message t₁ b p ≡ answerOf a
@@ -37,7 +43,7 @@ module _ (h : Head) (w : Window) (k : SynchronizedRemoteClock) (now : ℤ) where
   pub out-short : {a : PopAnswer} → a ≡ pops.OutShort → _≡_ {A = Given} (record { head = h; answer = answers.Refused 11 }) (afterPop h w k a now)
   out-short e = rw e
 
-  moved : (a : PopAnswer) {g : Head} {b : MessageAnswer} → OneOf (0 ∷ 1 ∷ 2 ∷ []) (tagOf the-type a) → g ≡ withPop h w k now → b ≡ answerOf a
+  moved : (a : PopAnswer) {g : Head} {b : MessageAnswer} → OneOf (0 ∷ 1 ∷ 2 ∷ []) (tagOf the-type a) → g ≡ poppedOf h w k now → b ≡ answerOf a
       → _≡_ {A = Given} (record { head = g; answer = b }) (afterPop h w k a now)
   moved pops.Nothing o f e = rw (f, e)
   moved (pops.Message t b p) o f e = rw (f, e)
@@ -45,7 +51,7 @@ module _ (h : Head) (w : Window) (k : SynchronizedRemoteClock) (now : ℤ) where
   moved pops.OutShort o f e = absurd (miss (0 ∷ 1 ∷ 2 ∷ []) 3 tt o)
 
   pub not-short : (a : PopAnswer) {g : Head} {b : MessageAnswer} {n : ℤ}
-      → OneOf (0 ∷ 1 ∷ 2 ∷ []) (tagOf the-type a) → g ≡ withPop h w k n → n ≡ now → b ≡ answerOf a
+      → OneOf (0 ∷ 1 ∷ 2 ∷ []) (tagOf the-type a) → g ≡ poppedOf h w k n → n ≡ now → b ≡ answerOf a
       → _≡_ {A = Given} (record { head = g; answer = b }) (afterPop h w k a now)
   not-short a o f p e = moved a o (f ∙ rw p) e
 
@@ -82,4 +88,4 @@ module _ (h : Head) (ws bs out : List ℕ) (now : ℤ) where
     unfolding messageOf
     message-refused z = sym (refused (takenOf h ws bs out now) (λ n. givenEnded (record { head = h; answer = answers.Refused n }) out) same z)
 
-pub ruleset messages = (answer-message, answer-late, out-short, not-short, release-ready, released, message-ready, message-taken, message-refused, needs)
+pub ruleset messages = (taken-out, answer-message, answer-late, out-short, not-short, release-ready, released, message-ready, message-taken, message-refused, needs)

@@ -11,6 +11,7 @@ use Rattle.window_report.specs.Drop as drop
 use Rattle.window_report.specs.Drop.{dropOf}
 use Rattle.head.specs.Rules.{firstRefusal, dropRules, headRules}
 use Rattle.head.specs.Head.{headOk}
+use Rattle.head.specs.Parts.{withWindow, withHistory}
 use Rattle.head.specs.declared.state.Head.{Head}
 use Rattle.head.proofs.Gates.{taken, refused}
 use Rattle.head.proofs.Ready.{head-ready, in-window, drop-ready}
@@ -33,10 +34,10 @@ module _ (h : Head) (ws : List ℕ) (first last : ℕ) {n : ℕ} (b : n ≡ firs
   unfolding dropCallOf
   drop-refused z = sym (refused (goneOf h ws first last) (λ n. dropEnded (drops.Refused n) ws) b z)
 
-pub empties : (h : Head) {y : History} → y ≡ histories.clearedOf (h .history) (h .window .lrsn)
-    → _≡_ {A = Head} (record { window = record { capacity = h .window .capacity; start = h .window .start; held = 0; seqno0 = h .window .seqno0; lrsn = h .window .lrsn }; latency = h .latency; dropping = h .dropping; clock = h .clock; rtt = h .rtt; arrivals = h .arrivals; links = h .links; history = y; latest = h .latest }) (clearedOf h)
+pub empties : (h : Head) {f g : Head} {y : History} → f ≡ withWindow h (record { capacity = h .window .capacity; start = h .window .start; held = 0; seqno0 = h .window .seqno0; lrsn = h .window .lrsn })
+    → y ≡ histories.clearedOf (h .history) (h .window .lrsn) → g ≡ withHistory f y → g ≡ clearedOf h
 unfolding clearedOf
-empties h e = rw e
+empties h a b c = rw (c, a, b)
 
 module _ (h : Head) {n : ℕ} (b : n ≡ firstRefusal (headRules (headOk h))) where
   pub clear-taken : {g : Head} → n ≡ 0 → g ≡ clearedOf h → clearEnded (record { head = g; answer = clears.Cleared }) ≡ clearOf h

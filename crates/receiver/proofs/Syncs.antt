@@ -13,21 +13,26 @@ use Rattle.clock.specs.declared.time.Synchronized.{Synchronized}
 use Rattle.clock.specs.declared.time.Synchronized.the-variants as clocks
 use Rattle.head.specs.Rules.{firstRefusal, clockRules}
 use Rattle.head.specs.Head.{headOk}
+use Rattle.head.specs.Parts.{withClock, withLatest}
 use Rattle.head.specs.declared.state.Head.{Head}
 use Rattle.head.proofs.Gates.{taken, refused}
 use Rattle.head.proofs.Ready.{Timed, clock-ready}
-use Rattle.receiver.specs.Sync.{withClock, afterSync, syncOf, ClockOutcome, clockEnded, clockOf}
+use Rattle.receiver.specs.Sync.{afterSync, syncOf, ClockOutcome, clockEnded, clockOf}
 use Rattle.receiver.specs.declared.sync.Clocked.{Clocked}
 use Rattle.receiver.specs.declared.sync.ClockAnswer.the-variants as answers
 
+-- with_clock
+pub clock-set : (h : Head) (k : SynchronizedRemoteClock) (now : ℤ) {f g : Head} {n : ℤ} → f ≡ withClock h k → g ≡ withLatest f n → n ≡ now → g ≡ withLatest (withClock h k) now
+clock-set h k now a b c = rw (b, a, c)
+
 module _ (h : Head) (k : SynchronizedRemoteClock) (now : ℤ) {a : Synchronized} {g : Head} {n : ℤ} where
-  pub sync-nothing : a ≡ clocks.Nothing → g ≡ withClock h k n → n ≡ now → _≡_ {A = Clocked} (record { head = g; answer = answers.Nothing }) (afterSync h k a now)
+  pub sync-nothing : a ≡ clocks.Nothing → g ≡ withLatest (withClock h k) n → n ≡ now → _≡_ {A = Clocked} (record { head = g; answer = answers.Nothing }) (afterSync h k a now)
   sync-nothing e f p = rw (e, f, p)
 
-  pub sync-adjusted : {m m₁ : ℤ} {d : ℕ} → a ≡ clocks.Adjusted m d → m₁ ≡ m → g ≡ withClock h k n → n ≡ now → _≡_ {A = Clocked} (record { head = g; answer = answers.Adjusted m₁ d }) (afterSync h k a now)
+  pub sync-adjusted : {m m₁ : ℤ} {d : ℕ} → a ≡ clocks.Adjusted m d → m₁ ≡ m → g ≡ withLatest (withClock h k) n → n ≡ now → _≡_ {A = Clocked} (record { head = g; answer = answers.Adjusted m₁ d }) (afterSync h k a now)
   sync-adjusted e q f p = rw (e, q, f, p)
 
-  pub sync-unsteady : {d : ℕ} {v : Float} → a ≡ clocks.Unsteady d v → g ≡ withClock h k n → n ≡ now → _≡_ {A = Clocked} (record { head = g; answer = answers.Unsteady d v }) (afterSync h k a now)
+  pub sync-unsteady : {d : ℕ} {v : Float} → a ≡ clocks.Unsteady d v → g ≡ withLatest (withClock h k) n → n ≡ now → _≡_ {A = Clocked} (record { head = g; answer = answers.Unsteady d v }) (afterSync h k a now)
   sync-unsteady e f p = rw (e, f, p)
 
 pub sync-refused : (h : Head) (k : SynchronizedRemoteClock) (now : ℤ) {a : Synchronized} → a ≡ clocks.DriftRange → _≡_ {A = Clocked} (record { head = h; answer = answers.Refused 14 }) (afterSync h k a now)
@@ -60,4 +65,4 @@ module _ (h : Head) (now : ℤ) where
     unfolding clockOf stays
     clock-refused stamp z = sym (refused (clockEnded (syncOf h now stamp)) stays same z)
 
-pub ruleset syncs = (sync-nothing, sync-adjusted, sync-unsteady, sync-refused, sync-ready, synced, sync-timed, clock-taken, clock-refused, needs)
+pub ruleset syncs = (clock-set, sync-nothing, sync-adjusted, sync-unsteady, sync-refused, sync-ready, synced, sync-timed, clock-taken, clock-refused, needs)

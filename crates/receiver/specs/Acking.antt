@@ -20,6 +20,7 @@ use Rattle.window.specs.Window.{roomOf}
 use Rattle.window.specs.declared.Window.{Window}
 use Rattle.head.specs.Rules.{firstRefusal, judged, timedRules}
 use Rattle.head.specs.Head.{headOk}
+use Rattle.head.specs.Parts.{withRtt, withHistory, withLatest}
 use Rattle.head.specs.declared.state.Head.{Head}
 use Rattle.head.proofs.Ready.{InRange}
 use Rattle.receiver.specs.Paper.{Line, fullAckLine, rttLine}
@@ -34,27 +35,6 @@ pub record AckReady (h : Head) (a : List ℕ) : Type 0 where
   pub head : InRange h
   pub words : 2048 ≤ length a
 
--- the head with another history and other round trip figures, and the reading as its latest
-abbrev pub withRtt : Head → History → Rtt → ℤ → Head
-withRtt h y t now =
-    record {
-      window = h .window;
-      latency = h .latency;
-      dropping = h .dropping;
-      clock = h .clock;
-      rtt = t;
-      arrivals = h .arrivals;
-      links = h .links;
-      history = y;
-      latest = now;
-    }
-
-abbrev pub withHistory : Head → History → ℤ → Head
-withHistory h y now = withRtt h y (h .rtt) now
-
-abbrev pub withLatest : Head → ℤ → Head
-withLatest h now = withHistory h (h .history) now
-
 -- an ACK of this number with the head's figures: lrsn, the round trip, the room, the rates
 abbrev pub figuresOf : ℕ → Window → Rtt → Arrivals → Links → FullAckAnswer
 figuresOf n w t a l = answers.Ack n (w .lrsn) (t .mean) (t .variance) (roomOf w) (speedOf a) (capacityOf l)
@@ -63,7 +43,7 @@ figuresOf n w t a l = answers.Ack n (w .lrsn) (t .mean) (t .variance) (roomOf w)
 abbrev pub afterAck : Head → History → AckAnswer → ℤ → FullAcked
 afterAck h y acks.Nothing now = record { head = withLatest h now; answer = answers.Nothing }
 afterAck h y acks.Worn now = record { head = h; answer = answers.Refused 13 }
-afterAck h y (acks.Ack n) now = record { head = withHistory h y now; answer = figuresOf n (h .window) (h .rtt) (h .arrivals) (h .links) }
+afterAck h y (acks.Ack n) now = record { head = withLatest (withHistory h y) now; answer = figuresOf n (h .window) (h .rtt) (h .arrivals) (h .links) }
 
 -- all that a full ACK leaves: the head and the answer, its line on paper, and the history area
 pub record FullAckOutcome : Type 0 where
@@ -96,7 +76,7 @@ fullAckEventOf h a now =
 abbrev pub afterAck2 : Head → History → Ack2Answer → ℤ → Ack2ed
 afterAck2 h y acks2.NotHeld now = record { head = withLatest h now; answer = rtts.Nothing }
 afterAck2 h y (acks2.Held r) now =
-    record { head = withRtt h y (updated (h .rtt) r) now; answer = rtts.Rtt (updated (h .rtt) r .mean) (updated (h .rtt) r .variance) }
+    record { head = withLatest (withRtt (withHistory h y) (updated (h .rtt) r)) now; answer = rtts.Rtt (updated (h .rtt) r .mean) (updated (h .rtt) r .variance) }
 
 unfoldable pub heldAck2 : Head → List ℕ → ℤ → ℕ → Ack2ed
 heldAck2 h a now number =

@@ -6,9 +6,6 @@ use lib.IntN.{ℤ, natAbs}
 use lib.ListN.{length}
 use Rattle.acks.specs.Rates.{arrivalOf, linkOf}
 use Rattle.acks.specs.History.{lightAckOf}
-use Rattle.acks.specs.declared.rates.Arrivals.{Arrivals}
-use Rattle.acks.specs.declared.rates.Links.{Links}
-use Rattle.acks.specs.declared.history.History.{History}
 use Rattle.window.specs.Push.{pushOf}
 use Rattle.window.specs.declared.Window.{Window}
 use Rattle.window.specs.declared.push.Packet.{Packet}
@@ -16,6 +13,7 @@ use Rattle.window.specs.declared.push.PushAnswer.{PushAnswer}
 use Rattle.window.specs.declared.push.PushAnswer.the-variants as pushes
 use Rattle.head.specs.Rules.{firstRefusal, judged, pushRules}
 use Rattle.head.specs.Head.{headOk}
+use Rattle.head.specs.Parts.{withWindow, withRates, withHistory, withLatest}
 use Rattle.head.specs.declared.state.Head.{Head}
 use Rattle.receiver.specs.Paper.{Line, dataLine}
 use Rattle.receiver.specs.declared.data.Handled.{Handled}
@@ -35,50 +33,9 @@ dataEnded r ws bs = record { handled = r; line = dataLine (r .answer); slots = w
 abbrev pub packet : ℕ → ℕ → ℕ → ℕ → Packet
 packet number message location stamp = record { number = number; message = message; location = location; stamp = stamp }
 
--- the head with another window, and the reading as its latest
-abbrev pub withWindow : Head → Window → ℤ → Head
-withWindow h w now =
-    record {
-      window = w;
-      latency = h .latency;
-      dropping = h .dropping;
-      clock = h .clock;
-      rtt = h .rtt;
-      arrivals = h .arrivals;
-      links = h .links;
-      history = h .history;
-      latest = now;
-    }
-
--- the head with other windows of intervals
-abbrev pub withRates : Head → Arrivals → Links → Head
-withRates h a l =
-    record {
-      window = h .window;
-      latency = h .latency;
-      dropping = h .dropping;
-      clock = h .clock;
-      rtt = h .rtt;
-      arrivals = a;
-      links = l;
-      history = h .history;
-      latest = h .latest;
-    }
-
--- the head with another history
-abbrev pub withHistory : Head → History → Head
-withHistory h y =
-    record {
-      window = h .window;
-      latency = h .latency;
-      dropping = h .dropping;
-      clock = h .clock;
-      rtt = h .rtt;
-      arrivals = h .arrivals;
-      links = h .links;
-      history = y;
-      latest = h .latest;
-    }
+-- the head with the window after a push, and the reading as its latest
+abbrev pub placedOf : Head → Window → ℤ → Head
+placedOf h w now = withLatest (withWindow h w) now
 
 -- the window's refusals, 7 to 10; 8 returns both of its numbers; 0 for an answer that is none
 abbrev pub refusedBy : PushAnswer → DataAnswer
@@ -104,7 +61,7 @@ ratedOf h now number size = withRates h (arrivalOf (h .arrivals) now size) (link
 
 -- an append without gap or a recovery
 unfoldable pub gotOf : Head → Window → ℕ → Bool → ℤ → ℕ → ℕ → Handled
-gotOf h w lrsn recovered now number size = ackedOf (withWindow (cond recovered h (ratedOf h now number size)) w now) lrsn recovered
+gotOf h w lrsn recovered now number size = ackedOf (placedOf (cond recovered h (ratedOf h now number size)) w now) lrsn recovered
 
 -- a refusal leaves the head
 abbrev pub refusedOf : Head → PushAnswer → Handled
@@ -113,7 +70,7 @@ refusedOf h a = record { head = h; answer = refusedBy a }
 -- the window's answer as the call's
 abbrev pub afterPush : Head → Window → PushAnswer → ℤ → ℕ → ℕ → Handled
 afterPush h w (pushes.Got lrsn recovered) now number size = gotOf h w lrsn recovered now number size
-afterPush h w (pushes.Loss first last) now number size = record { head = withWindow h w now; answer = answers.Loss first last }
+afterPush h w (pushes.Loss first last) now number size = record { head = placedOf h w now; answer = answers.Loss first last }
 afterPush h w pushes.BufferFull now number size = refusedOf h pushes.BufferFull
 afterPush h w (pushes.PacketTooEarly room need) now number size = refusedOf h (pushes.PacketTooEarly room need)
 afterPush h w pushes.PacketTooLate now number size = refusedOf h pushes.PacketTooLate

@@ -9,6 +9,7 @@ use Rattle.window_report.specs.declared.report.ReportAnswer.{ReportAnswer}
 use Rattle.window_report.specs.declared.report.ReportAnswer.the-variants as reports
 use Rattle.head.specs.Rules.{firstRefusal, judged, timedRules}
 use Rattle.head.specs.Head.{headOk}
+use Rattle.head.specs.Parts.{withLatest}
 use Rattle.head.specs.declared.state.Head.{Head}
 use Rattle.receiver.specs.Paper.{Line, lossLine}
 use Rattle.receiver.specs.declared.loss.Reported.{Reported}
@@ -24,21 +25,6 @@ pub record LossOutcome : Type 0 where
 
 abbrev pub lossEnded : Reported → List ℕ → List ℕ → LossOutcome
 lossEnded r ws list = record { reported = r; line = lossLine (r .answer) list; slots = ws; list = list }
-
--- the head with the reading as its latest
-abbrev pub withLatest : Head → ℤ → Head
-withLatest h now =
-    record {
-      window = h .window;
-      latency = h .latency;
-      dropping = h .dropping;
-      clock = h .clock;
-      rtt = h .rtt;
-      arrivals = h .arrivals;
-      links = h .links;
-      history = h .history;
-      latest = now;
-    }
 
 -- the window's answer as the call's
 abbrev pub answerOf : ReportAnswer → LossAnswer

@@ -10,6 +10,7 @@ use Rattle.window_pop.specs.declared.pop.PopAnswer.{PopAnswer}
 use Rattle.window_pop.specs.declared.pop.PopAnswer.the-variants as pops
 use Rattle.head.specs.Rules.{firstRefusal, judged, popRules}
 use Rattle.head.specs.Head.{headOk}
+use Rattle.head.specs.Parts.{withWindow, withClock, withLatest}
 use Rattle.head.specs.declared.state.Head.{Head}
 use Rattle.receiver.specs.Paper.{Line, messageLine}
 use Rattle.receiver.specs.declared.message.Given.{Given}
@@ -25,20 +26,9 @@ pub record GivenOutcome : Type 0 where
 abbrev pub givenEnded : Given → List ℕ → GivenOutcome
 givenEnded r out = record { given = r; line = messageLine (r .answer); output = out }
 
--- the head with another window and clock, and the reading as its latest
-abbrev pub withPop : Head → Window → SynchronizedRemoteClock → ℤ → Head
-withPop h w k now =
-    record {
-      window = w;
-      latency = h .latency;
-      dropping = h .dropping;
-      clock = k;
-      rtt = h .rtt;
-      arrivals = h .arrivals;
-      links = h .links;
-      history = h .history;
-      latest = now;
-    }
+-- the head with the window and clock after a pop, and the reading as its latest
+abbrev pub poppedOf : Head → Window → SynchronizedRemoteClock → ℤ → Head
+poppedOf h w k now = withLatest (withClock (withWindow h w) k) now
 
 -- the window's answer as the call's
 abbrev pub answerOf : PopAnswer → MessageAnswer
@@ -49,9 +39,9 @@ answerOf pops.OutShort = answers.Refused 11
 
 -- on refusal 11 the head stays
 abbrev pub headAfter : Head → Window → SynchronizedRemoteClock → PopAnswer → ℤ → Head
-headAfter h w k pops.Nothing now = withPop h w k now
-headAfter h w k (pops.Message time bytes packets) now = withPop h w k now
-headAfter h w k (pops.Late first end delay) now = withPop h w k now
+headAfter h w k pops.Nothing now = poppedOf h w k now
+headAfter h w k (pops.Message time bytes packets) now = poppedOf h w k now
+headAfter h w k (pops.Late first end delay) now = poppedOf h w k now
 headAfter h w k pops.OutShort now = h
 
 abbrev pub afterPop : Head → Window → SynchronizedRemoteClock → PopAnswer → ℤ → Given

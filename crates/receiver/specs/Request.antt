@@ -7,6 +7,7 @@ use Rattle.window.specs.Window.{roomOf}
 use Rattle.window_report.specs.Drop.{dropOf}
 use Rattle.head.specs.Rules.{firstRefusal, judged, dropRules, headRules}
 use Rattle.head.specs.Head.{headOk}
+use Rattle.head.specs.Parts.{withWindow, withHistory}
 use Rattle.head.specs.declared.state.Head.{Head}
 use Rattle.receiver.specs.Paper.{Line, dropLine, clearLine, roomLine}
 use Rattle.receiver.specs.declared.request.DropAnswer.{DropAnswer}
@@ -37,24 +38,9 @@ dropCallOf h ws first last =
 -- clear only sets held and history count to 0 and largest_ack2_dsn to lrsn
 unfoldable pub clearedOf : Head → Head
 clearedOf h =
-    record {
-      window =
-          record {
-            capacity = h .window .capacity;
-            start = h .window .start;
-            held = 0;
-            seqno0 = h .window .seqno0;
-            lrsn = h .window .lrsn;
-          };
-      latency = h .latency;
-      dropping = h .dropping;
-      clock = h .clock;
-      rtt = h .rtt;
-      arrivals = h .arrivals;
-      links = h .links;
-      history = histories.clearedOf (h .history) (h .window .lrsn);
-      latest = h .latest;
-    }
+    let w = h .window in
+    withHistory (withWindow h (record { capacity = w .capacity; start = w .start; held = 0; seqno0 = w .seqno0; lrsn = w .lrsn }))
+    (histories.clearedOf (h .history) (w .lrsn))
 
 -- all that a clear leaves
 pub record ClearOutcome : Type 0 where

@@ -7,6 +7,7 @@ use Rattle.clock.specs.declared.time.Synchronized.{Synchronized}
 use Rattle.clock.specs.declared.time.Synchronized.the-variants as clocks
 use Rattle.head.specs.Rules.{firstRefusal, judged, clockRules}
 use Rattle.head.specs.Head.{headOk}
+use Rattle.head.specs.Parts.{withClock, withLatest}
 use Rattle.head.specs.declared.state.Head.{Head}
 use Rattle.receiver.specs.Paper.{Line, clockLine}
 use Rattle.receiver.specs.declared.sync.Clocked.{Clocked}
@@ -20,26 +21,11 @@ pub record ClockOutcome : Type 0 where
 abbrev pub clockEnded : Clocked → ClockOutcome
 clockEnded r = record { clocked = r; line = clockLine (r .answer) }
 
--- the head with another clock, and the reading as its latest
-abbrev pub withClock : Head → SynchronizedRemoteClock → ℤ → Head
-withClock h k now =
-    record {
-      window = h .window;
-      latency = h .latency;
-      dropping = h .dropping;
-      clock = k;
-      rtt = h .rtt;
-      arrivals = h .arrivals;
-      links = h .links;
-      history = h .history;
-      latest = now;
-    }
-
 -- the clock's answer as the call's; on refusal 14 the head stays
 abbrev pub afterSync : Head → SynchronizedRemoteClock → Synchronized → ℤ → Clocked
-afterSync h k clocks.Nothing now = record { head = withClock h k now; answer = answers.Nothing }
-afterSync h k (clocks.Adjusted mean deviation) now = record { head = withClock h k now; answer = answers.Adjusted mean deviation }
-afterSync h k (clocks.Unsteady deviation v) now = record { head = withClock h k now; answer = answers.Unsteady deviation v }
+afterSync h k clocks.Nothing now = record { head = withLatest (withClock h k) now; answer = answers.Nothing }
+afterSync h k (clocks.Adjusted mean deviation) now = record { head = withLatest (withClock h k) now; answer = answers.Adjusted mean deviation }
+afterSync h k (clocks.Unsteady deviation v) now = record { head = withLatest (withClock h k) now; answer = answers.Unsteady deviation v }
 afterSync h k clocks.DriftRange now = record { head = h; answer = answers.Refused 14 }
 
 unfoldable pub syncOf : Head → ℤ → ℕ → Clocked

@@ -4,7 +4,8 @@ ghost use mathlib.Core.Bool.{true};
 ghost use Prim.Native.Nat.{_≤_};
 ghost use Rattle.acks.specs.Rates.{arrivalsOk};
 ghost use Rattle.head.proofs.Ready.{InRange};
-ghost use Rattle.receiver.specs.Acking.{AckReady, withLatest, withHistory, withRtt, figuresOf, afterAck, roomyAck, dueAck, fullAckEnded, fullAckEventOf, afterAck2, heldAck2, ack2Ended, ack2PacketOf};
+ghost use Rattle.head.specs.Parts.{withRtt, withHistory, withLatest};
+ghost use Rattle.receiver.specs.Acking.{AckReady, figuresOf, afterAck, roomyAck, dueAck, fullAckEnded, fullAckEventOf, afterAck2, heldAck2, ack2Ended, ack2PacketOf};
 use acks::history::Ack2Answer;
 use acks::history::AckAnswer;
 use acks::history::History;
@@ -47,34 +48,21 @@ pub struct Ack2ed {
     pub answer: RttAnswer,
 }
 
-// The head at a later reading.
-fn with_latest(h: Head, time: i64) -> Head
-    ensures { λ r. ⌜ r ≡ withLatest h time ⌝ }
-{
-    let mut next = h;
-    next.latest = time;
-    next
-}
-
-// The head with another history, at a reading.
+// The head with the history after an ACK, at a reading.
 fn with_history(h: Head, history: History, time: i64) -> Head
-    ensures { λ r. ⌜ r ≡ withHistory h history time ⌝ }
+    ensures { λ r. ⌜ r ≡ withLatest (withHistory h history) time ⌝ }
 {
-    let mut next = h;
-    next.history = history;
-    next.latest = time;
-    next
+    let next = h.with_history(history);
+    next.with_latest(time)
 }
 
-// The same, with other figures of the round trip.
+// The same, with the figures of the round trip after an ACK2.
 fn with_rtt(h: Head, history: History, rtt: Rtt, time: i64) -> Head
-    ensures { λ r. ⌜ r ≡ withRtt h history rtt time ⌝ }
+    ensures { λ r. ⌜ r ≡ withLatest (withRtt (withHistory h history) rtt) time ⌝ }
 {
-    let mut next = h;
-    next.history = history;
-    next.rtt = rtt;
-    next.latest = time;
-    next
+    let kept = h.with_history(history);
+    let next = kept.with_rtt(rtt);
+    next.with_latest(time)
 }
 
 // An ACK of this number with the head's figures, by the parts that have them.
@@ -103,7 +91,7 @@ fn after_ack(h: Head, history: History, answer: AckAnswer, time: i64) -> FullAck
 {
     match answer {
         AckAnswer::Nothing => FullAcked {
-            head: with_latest(h, time),
+            head: h.with_latest(time),
             answer: FullAckAnswer::Nothing,
         },
         AckAnswer::Worn => FullAcked {
@@ -138,7 +126,7 @@ fn due_ack(h: Head, area: &mut [u64], time: i64) -> FullAcked
     let w = h.window;
     if window::room(w) == 0 {
         return FullAcked {
-            head: with_latest(h, time),
+            head: h.with_latest(time),
             answer: FullAckAnswer::Nothing,
         };
     }
@@ -164,7 +152,7 @@ fn after_ack2(h: Head, history: History, answer: Ack2Answer, time: i64) -> Ack2e
 {
     let Ack2Answer::Held { r } = answer else {
         return Ack2ed {
-            head: with_latest(h, time),
+            head: h.with_latest(time),
             answer: RttAnswer::Nothing,
         };
     };

@@ -7,10 +7,7 @@ ghost use Rattle.acks.specs.Rates.{arrivalsOk, linksOk};
 ghost use Rattle.window.specs.Window.{Good, Bytes};
 ghost use Rattle.window.specs.Push.{Right, pushEnded, pushOf};
 ghost use Rattle.head.proofs.Ready.{PushReady};
-ghost use Rattle.receiver.specs.Data.{withWindow, withRates, withHistory, refusedBy, ratedOf, ackedOf, gotOf, afterPush, takenOf, dataEnded, packet, dataOf};
-use acks::history::History;
-use acks::rates::Arrivals;
-use acks::rates::Links;
+ghost use Rattle.receiver.specs.Data.{placedOf, refusedBy, ratedOf, ackedOf, gotOf, afterPush, takenOf, dataEnded, packet, dataOf};
 use head::state::Head;
 use window::Window;
 use window::push::Packet;
@@ -30,31 +27,12 @@ pub struct Handled {
     pub answer: DataAnswer,
 }
 
-// The head with another window, at a reading.
-fn with_window(h: Head, window: Window, time: i64) -> Head
-    ensures { λ r. ⌜ r ≡ withWindow h window time ⌝ }
+// The head with the window after a push, at a reading.
+fn placed(h: Head, window: Window, time: i64) -> Head
+    ensures { λ r. ⌜ r ≡ placedOf h window time ⌝ }
 {
-    let mut next = h;
-    next.window = window;
-    next.latest = time;
-    next
-}
-
-fn with_rates(h: Head, arrivals: Arrivals, links: Links) -> Head
-    ensures { λ r. ⌜ r ≡ withRates h arrivals links ⌝ }
-{
-    let mut next = h;
-    next.arrivals = arrivals;
-    next.links = links;
-    next
-}
-
-fn with_history(h: Head, history: History) -> Head
-    ensures { λ r. ⌜ r ≡ withHistory h history ⌝ }
-{
-    let mut next = h;
-    next.history = history;
-    next
+    let next = h.with_window(window);
+    next.with_latest(time)
 }
 
 // The window's refusal as the call's; refusal 0 for an answer that is none.
@@ -80,7 +58,7 @@ fn rate(h: Head, time: i64, number: u32, size: u32) -> Head
     let l = h.links;
     let arrivals = a.record(time, size);
     let links = l.record(time, number);
-    with_rates(h, arrivals, links)
+    h.with_rates(arrivals, links)
 }
 
 // An append without gap or a recovery asks for a light ACK.
@@ -90,7 +68,7 @@ fn acknowledge(h: Head, lrsn: u32, recovered: bool) -> Handled
     let y = h.history;
     let acked = y.next_light_ack(lrsn);
     let history = acked.history;
-    let head = with_history(h, history);
+    let head = h.with_history(history);
     if acked.light {
         return Handled {
             head,
@@ -117,10 +95,10 @@ fn got(
     ensures { λ r. ⌜ r ≡ gotOf h window lrsn recovered time number size ⌝ }
 {
     if recovered {
-        return acknowledge(with_window(h, window, time), lrsn, true);
+        return acknowledge(placed(h, window, time), lrsn, true);
     }
     let rated = rate(h, time, number, size);
-    acknowledge(with_window(rated, window, time), lrsn, false)
+    acknowledge(placed(rated, window, time), lrsn, false)
 }
 
 // The window's answer as the call's: a refusal leaves the head, a gap asks for no ACK.
@@ -138,7 +116,7 @@ fn after_push(h: Head, pushed: Pushed, time: i64, number: u32, size: u32) -> Han
             };
         };
         return Handled {
-            head: with_window(h, window, time),
+            head: placed(h, window, time),
             answer: DataAnswer::Loss { first, last },
         };
     };

@@ -1,6 +1,6 @@
 // The loss report call, arq.rs `on_nak_event`: 01, "Window", with refusals 1 to 4 and 12.
 ghost use mathlib.Core.Path.{_≡_};
-ghost use Rattle.receiver.specs.Loss.{ReportReady, lossEnded, withLatest, answerOf, afterReport, reportedOf, lossOf};
+ghost use Rattle.receiver.specs.Loss.{ReportReady, lossEnded, answerOf, afterReport, reportedOf, lossOf};
 use head::state::Head;
 use window_report::report::ReportAnswer;
 
@@ -13,15 +13,6 @@ pub enum LossAnswer {
 pub struct Reported {
     pub head: Head,
     pub answer: LossAnswer,
-}
-
-// The head at a reading.
-fn with_latest(h: Head, time: i64) -> Head
-    ensures { λ r. ⌜ r ≡ withLatest h time ⌝ }
-{
-    let mut next = h;
-    next.latest = time;
-    next
 }
 
 // The window's answer as the call's.
@@ -46,7 +37,7 @@ fn after_report(h: Head, answer: ReportAnswer, time: i64) -> Reported
         };
     };
     Reported {
-        head: with_latest(h, time),
+        head: h.with_latest(time),
         answer: answer_of(answer),
     }
 }

@@ -1,6 +1,6 @@
 // The pop call, arq.rs `pop_next_message`: 01, "Window", with refusals 1 to 4 and 11.
 ghost use mathlib.Core.Path.{_≡_};
-ghost use Rattle.receiver.specs.Message.{givenEnded, withPop, answerOf, afterPop, takenOf, messageOf};
+ghost use Rattle.receiver.specs.Message.{givenEnded, poppedOf, answerOf, afterPop, takenOf, messageOf};
 ghost use Rattle.window_pop.specs.Pop.{PopReady};
 use clock::time::SynchronizedRemoteClock;
 use head::state::Head;
@@ -27,15 +27,13 @@ pub struct Given {
     pub answer: MessageAnswer,
 }
 
-// The head with another window and clock, at a reading.
-fn with_pop(h: Head, window: Window, clock: SynchronizedRemoteClock, time: i64) -> Head
-    ensures { λ r. ⌜ r ≡ withPop h window clock time ⌝ }
+// The head with the window and clock after a pop, at a reading.
+fn popped(h: Head, window: Window, clock: SynchronizedRemoteClock, time: i64) -> Head
+    ensures { λ r. ⌜ r ≡ poppedOf h window clock time ⌝ }
 {
-    let mut next = h;
-    next.window = window;
-    next.clock = clock;
-    next.latest = time;
-    next
+    let cut = h.with_window(window);
+    let next = cut.with_clock(clock);
+    next.with_latest(time)
 }
 
 // The window's answer as the call's.
@@ -75,7 +73,7 @@ fn after_pop(
         };
     };
     Given {
-        head: with_pop(h, window, clock, time),
+        head: popped(h, window, clock, time),
         answer: answer_of(answer),
     }
 }

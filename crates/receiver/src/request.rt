@@ -1,9 +1,6 @@
 // The drop request, clear and room, arq.rs `handle_drop_request`, `clear` and `buffer_available`: 01, "Window".
 ghost use mathlib.Core.Path.{_≡_};
-ghost use mathlib.Core.Bool.{true};
-ghost use Rattle.window.specs.Window.{Good};
-ghost use Rattle.head.specs.Head.{headOk};
-ghost use Rattle.receiver.specs.Request.{dropEnded, goneOf, dropCallOf, clearedOf, clearEnded, clearOf, roomEnded, roomCallOf};
+ghost use Rattle.receiver.specs.Request.{dropEnded, dropCallOf, clearedOf, clearEnded, clearOf, roomEnded, roomCallOf};
 use head::state::Head;
 
 pub enum DropAnswer {
@@ -46,10 +43,8 @@ fn emptied(h: Head) -> Head
     let y = h.history;
     let lrsn = w.lrsn;
     w.held = 0;
-    let mut next = h;
-    next.window = w;
-    next.history = y.clear(lrsn);
-    next
+    let next = h.with_window(w);
+    next.with_history(y.clear(lrsn))
 }
 
 pub fn clear(h: Head) -> Cleared

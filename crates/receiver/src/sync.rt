@@ -1,7 +1,8 @@
 // The clock call, arq.rs `synchronize_clock`: 01, "Clock".
 ghost use mathlib.Core.Path.{_≡_};
-ghost use Rattle.receiver.specs.Sync.{withClock, afterSync, syncOf, clockEnded, clockOf};
+ghost use Rattle.receiver.specs.Sync.{afterSync, syncOf, clockEnded, clockOf};
 ghost use Rattle.head.proofs.Ready.{Timed};
+ghost use Rattle.head.specs.Parts.{withClock, withLatest};
 use clock::time::Step;
 use clock::time::Synchronized;
 use clock::time::SynchronizedRemoteClock;
@@ -19,14 +20,12 @@ pub struct Clocked {
     pub answer: ClockAnswer,
 }
 
-// The head with another clock, at a reading.
+// The head with the clock after a sample, at a reading.
 fn with_clock(h: Head, clock: SynchronizedRemoteClock, time: i64) -> Head
-    ensures { λ r. ⌜ r ≡ withClock h clock time ⌝ }
+    ensures { λ r. ⌜ r ≡ withLatest (withClock h clock) time ⌝ }
 {
-    let mut next = h;
-    next.clock = clock;
-    next.latest = time;
-    next
+    let next = h.with_clock(clock);
+    next.with_latest(time)
 }
 
 // The clock's answer as the call's; a clock that refuses 14 leaves the head.

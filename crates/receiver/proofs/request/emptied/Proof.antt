@@ -7,4 +7,6 @@ emptied-spec =
     tie.close
     (tie.spec
     (λ c κs. search requests)
+    (λ c κs. search requests)
+    (λ c κs. search requests)
     (λ c. search requests))
