@@ -132,7 +132,7 @@ module _ (h : Head) (ws bs : List ℕ) (now : ℤ) (p : Packet) (payload : List 
 
   -- whether a light ACK is due, as the call tests it
   abbrev lit : Bool → Window → ℕ → Bool
-  lit recovered v lrsn = lightAckOf (receiving.withWindow (cond recovered h (receiving.ratedOf h now (p .number) (length payload))) v now .history) lrsn .light
+  lit recovered v lrsn = lightAckOf (receiving.placedOf (cond recovered h (receiving.ratedOf h now (p .number) (length payload))) v now .history) lrsn .light
 
   -- at the next expected number
   same : Admitted h ws bs now p payload → order 31 (p .number) (nextOf w) ≡ Equal → p .number ≡ nextOf w
