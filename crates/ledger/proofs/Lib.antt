@@ -9,3 +9,4 @@ pub mod Dropped
 pub mod Others
 pub mod Judged
 pub mod Theorem
+pub mod RuledOut
