@@ -1,8 +1,19 @@
 // Runs the window's calls behind range tests of its own and writes each answer in the words of 01's trace lines, without their numbers.
 ghost use mathlib.Core.Path.{_≡_};
 ghost use Rattle.case_window.specs.Tests.{windowOk, wordsOk, areasOk, Tested, packetOk};
+use case_print::put;
+use case_print::put_bytes;
+use case_print::put_count;
+use case_print::put_early;
+use case_print::put_end;
+use case_print::put_first;
+use case_print::put_flag;
+use case_print::put_number;
+use case_print::put_refused;
+use case_print::put_small;
+use case_print::put_word;
+use case_print::put_words;
 use clock::time::SynchronizedRemoteClock;
-use libc::STDOUT_FILENO;
 use window::Window;
 use window::push::Packet;
 use window::push::PushAnswer;
@@ -13,22 +24,22 @@ use window_report::report::ReportAnswer;
 
 enum PushCall {
     Done(Pushed),
-    Refused(u64),
+    Refused(u32),
 }
 
 enum PopCall {
     Done(Popped),
-    Refused(u64),
+    Refused(u32),
 }
 
 enum ReportCall {
     Done(ReportAnswer),
-    Refused(u64),
+    Refused(u32),
 }
 
 enum DropCall {
     Done(usize),
-    Refused(u64),
+    Refused(u32),
 }
 
 // What the calls hand on, with the two settings that pop takes.
@@ -179,45 +190,6 @@ fn try_drop(w: Window, words: &mut [u64], first: u32, last: u32) -> DropCall {
 
 // What is written.
 
-fn put(text: &[u8]) {
-    io::write_all(STDOUT_FILENO, text);
-}
-
-fn put_count(n: u64) {
-    put(b" ");
-    io::print_decimal(STDOUT_FILENO, n);
-}
-
-fn put_word(n: u32) {
-    put_count(n as u64);
-}
-
-fn put_number(z: i64) {
-    put(b" ");
-    if z < 0 {
-        put(b"-");
-    }
-    io::print_decimal(STDOUT_FILENO, numbers::instant::size(z));
-}
-
-fn put_delay(z: i32) {
-    put_number(z as i64);
-}
-
-fn put_flag(flag: bool) {
-    if flag {
-        put(b" 1");
-    } else {
-        put(b" 0");
-    }
-}
-
-fn put_refused(n: u64) {
-    put(b"refused");
-    put_count(n);
-    put(b"\n");
-}
-
 fn put_push(answer: PushAnswer) {
     match answer {
         PushAnswer::Got { lrsn, recovered } => {
@@ -236,10 +208,7 @@ fn put_push(answer: PushAnswer) {
             put_refused(7);
         }
         PushAnswer::PacketTooEarly { room, need } => {
-            put(b"refused 8");
-            put_count(room as u64);
-            put_count(need as u64);
-            put(b"\n");
+            put_early(room, need);
         }
         PushAnswer::PacketTooLate => {
             put_refused(9);
@@ -248,15 +217,6 @@ fn put_push(answer: PushAnswer) {
             put_refused(10);
         }
     }
-}
-
-// The first n bytes of an output, in brackets.
-fn put_bytes(out: &[u8], n: usize) {
-    put(b"[");
-    if n <= out.len() {
-        put(window::show::part(out, 0, n));
-    }
-    put(b"]\n");
 }
 
 fn put_pop(answer: PopAnswer, out: &[u8]) {
@@ -274,29 +234,18 @@ fn put_pop(answer: PopAnswer, out: &[u8]) {
             put_count(bytes as u64);
             put_count(packets as u64);
             put(b"\n");
-            put_bytes(out, bytes);
+            put_first(out, bytes);
         }
         PopAnswer::Late { first, end, delay } => {
             put(b"late");
             put_word(first);
             put_word(end);
-            put_delay(delay);
+            put_small(delay);
             put(b"\n");
         }
         PopAnswer::OutShort => {
             put_refused(11);
         }
-    }
-}
-
-// The first n words of a list.
-fn put_words(list: &[u32], n: usize) {
-    let mut i = 0;
-    while i < list.len() {
-        if i < n {
-            put_word(list[i]);
-        }
-        i += 1;
     }
 }
 
@@ -316,13 +265,8 @@ fn put_report(answer: ReportAnswer, list: &[u32]) {
     }
 }
 
-// The end line of a trace, without the count of records: lrsn, seqno0, held.
-fn put_end(s: State) {
-    put(b"end");
-    put_word(s.window.lrsn);
-    put_word(s.window.seqno0);
-    put_count(s.window.held as u64);
-    put(b"\n");
+fn end(s: State) {
+    put_end(s.window.lrsn, s.window.seqno0, s.window.held);
 }
 
 // One call each, with its line; the state after it.
@@ -445,9 +389,8 @@ fn show_tested(w: Window, words: &[u64], bytes: &[u8], number: u32)
     put(b"shown");
     put_flag(place.received);
     put_count(shown.len() as u64);
-    put(b"\n[");
-    put(shown);
-    put(b"]\n");
+    put(b"\n");
+    put_bytes(shown);
 }
 
 fn try_show(w: Window, words: &[u64], bytes: &[u8], number: u32) {
@@ -548,11 +491,11 @@ fn worked_example() {
     );
     s = push(s, &mut ws, &mut bs, 3100, whole(0, 3, 1000), b"dddddddddd");
     s = pop(s, &ws, &bs, 4000);
-    put_end(s);
+    end(s);
     s = pop(s, &ws, &bs, 4000);
     s = pop(s, &ws, &bs, 4000);
     s = pop(s, &ws, &bs, 4000);
-    put_end(s);
+    end(s);
 }
 
 fn full_early_late() {
@@ -569,7 +512,7 @@ fn full_early_late() {
     s = push(s, &mut ws, &mut bs, 0, whole(5, 5, 5), b"five");
     s = push(s, &mut ws, &mut bs, 0, whole(4, 4, 4), b"four");
     s = push(s, &mut ws, &mut bs, 0, whole(3, 3, 3), b"again");
-    put_end(s);
+    end(s);
 }
 
 fn ties() {
@@ -581,7 +524,7 @@ fn ties() {
     s = push(s, &mut ws, &mut bs, 0, whole(1073741823, 0, 0), b"early");
     s = push(s, &mut ws, &mut bs, 0, whole(4, 0, 0), b"early");
     s = push(s, &mut ws, &mut bs, 0, whole(3, 0, 0), b"fits");
-    put_end(s);
+    end(s);
 }
 
 fn three_packets() {
@@ -595,7 +538,7 @@ fn three_packets() {
     s = push(s, &mut ws, &mut bs, 300, part(0, 7, 0, 20), b"two ");
     s = pop_short(s, &ws, &bs, 400);
     s = pop(s, &ws, &bs, 400);
-    put_end(s);
+    end(s);
 }
 
 fn release_times() {
@@ -608,7 +551,7 @@ fn release_times() {
     s = pop(s, &ws, &bs, 1500);
     s = push(s, &mut ws, &mut bs, 1600, whole(1, 2, 400), b"early");
     s = pop(s, &ws, &bs, 1600);
-    put_end(s);
+    end(s);
 }
 
 fn late_edge() {
@@ -619,7 +562,7 @@ fn late_edge() {
     s = push(s, &mut ws, &mut bs, 100_000, whole(1, 1, 100_000), b"one");
     s = pop(s, &ws, &bs, 204_999);
     s = pop(s, &ws, &bs, 205_000);
-    put_end(s);
+    end(s);
 }
 
 fn late_front() {
@@ -630,7 +573,7 @@ fn late_front() {
     s = push(s, &mut ws, &mut bs, 100_000, part(0, 1, 2, 100_000), b"one");
     s = pop(s, &ws, &bs, 204_999);
     s = pop(s, &ws, &bs, 205_000);
-    put_end(s);
+    end(s);
 }
 
 fn late_before_due() {
@@ -640,7 +583,7 @@ fn late_before_due() {
     let mut s = fresh(0, 100, true);
     s = push(s, &mut ws, &mut bs, 0, part(1, 0, 1, 50), b"");
     s = pop(s, &ws, &bs, 0);
-    put_end(s);
+    end(s);
 }
 
 fn no_dropping() {
@@ -650,7 +593,7 @@ fn no_dropping() {
     let mut s = fresh(0, 100_000, false);
     s = push(s, &mut ws, &mut bs, 100_000, whole(1, 1, 100_000), b"one");
     s = pop(s, &ws, &bs, 205_000);
-    put_end(s);
+    end(s);
 }
 
 fn report_edges() {
@@ -701,9 +644,9 @@ fn given_up() {
     report(s, &mut ws, 20_001);
     s = push(s, &mut ws, &mut bs, 20_100, whole(2, 2, 25_000), b"two");
     s = pop(s, &ws, &bs, 30_000);
-    put_end(s);
+    end(s);
     s = pop(s, &ws, &bs, 30_000);
-    put_end(s);
+    end(s);
 }
 
 fn shows() {
@@ -738,7 +681,7 @@ fn out_of_range() {
         b"",
     );
     s = pop(s, &ws, &bs, 0);
-    put_end(s);
+    end(s);
 }
 
 fn main() {

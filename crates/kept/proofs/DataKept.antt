@@ -19,21 +19,21 @@ use Rattle.window.specs.declared.Window.{Window}
 use Rattle.window.specs.declared.push.Packet.{Packet}
 use Rattle.window.specs.declared.push.PushAnswer.{PushAnswer}
 use Rattle.window.specs.declared.push.PushAnswer.the-variants as pushes
+use Rattle.views.proofs.PushKeeps.{push-kept}
 use Rattle.window_report.specs.Report.{reportOf}
 use Rattle.window_report.specs.declared.report.ReportAnswer.{ReportAnswer}
 use Rattle.window_report.specs.declared.report.ReportAnswer.the-variants as reports
 use Rattle.head.specs.Rules.{firstRefusal, makeRules, pushRules, timedRules, headRules}
-use Rattle.head.specs.Head.{headOk, freshHead, madeOf}
+use Rattle.head.specs.Head.{windowOk, headOk, freshHead, madeOf}
 use Rattle.head.specs.declared.state.Head.{Head}
 use Rattle.head.specs.declared.state.Made.{Made}
 use Rattle.head.proofs.Gates.{clear}
-use Rattle.head.proofs.Ready.{InRange, in-parts, InWindow, in-window, timed-ready, PushReady, push-ready}
+use Rattle.head.proofs.Ready.{InRange, in-parts, in-window, timed-ready, PushReady, push-ready}
 use Rattle.receiver.specs.Data.{DataOutcome, withWindow, ackedOf, ratedOf, gotOf, afterPush, takenOf, dataOf}
 use Rattle.receiver.specs.Loss.{LossOutcome, withLatest, headAfter, reportedOf, lossOf}
-use Rattle.receiver.specs.Request.{clearedOf, clearOf}
-use Rattle.receiver.specs.declared.request.Cleared.{Cleared}
-use Rattle.kept.proofs.Parts.{from-parts, from-window}
-use Rattle.kept.proofs.PushKept.{Answers, push-kept}
+use Rattle.receiver.specs.Request.{ClearOutcome, clearedOf, clearOf}
+use Rattle.kept.proofs.Parts.{from-parts, from-window, from-good}
+use Rattle.kept.proofs.Says.{Says, push-says}
 
 -- by the refusal of a call
 by-refusal : {A : Type 0} (P : A → Type 0) (n : ℕ) (a b : A) → (n ≡ 0 → P a) → P b → P (cond (eqb n 0) a b)
@@ -66,10 +66,10 @@ made-kept start latency dropping first capacity =
     (fresh-in (pos 0) 0 false 0 1 refl (omega arith) (omega arith) (omega arith) (omega arith))
 
 -- clear
-pub cleared-kept : (h : Head) → headOk h ≡ true → headOk (clearOf h .head) ≡ true
+pub cleared-kept : (h : Head) → headOk h ≡ true → headOk (clearOf h .cleared .head) ≡ true
 unfolding clearOf clearedOf
 cleared-kept h e =
-    by-refusal (λ (c : Cleared). headOk (c .head) ≡ true) (firstRefusal (headRules (headOk h))) _ _
+    by-refusal (λ (o : ClearOutcome). headOk (o .cleared .head) ≡ true) (firstRefusal (headRules (headOk h))) _ _
     (λ z.
     let r = in-parts h e in
     let w = in-window (h .window) (r .window) in
@@ -106,9 +106,9 @@ loss-kept h ws list now e =
 
 -- a data packet: the parts of the head that change, one after the other
 module _ (h : Head) (r : InRange h) where
-  window-in : (w : Window) (now : ℤ) → InWindow w → isReading now ≡ true → InRange (withWindow h w now)
+  window-in : (w : Window) (now : ℤ) → windowOk w ≡ true → isReading now ≡ true → InRange (withWindow h w now)
   window-in w now i n =
-      record { window = from-window w i; latency = r .latency; clock = r .clock; rtt = r .rtt; arrivals = r .arrivals; links = r .links; history = r .history; latest = n }
+      record { window = i; latency = r .latency; clock = r .clock; rtt = r .rtt; arrivals = r .arrivals; links = r .links; history = r .history; latest = n }
 
   rated-in : (now : ℤ) (number size : ℕ) → isReading now ≡ true → size ≤ 1456 → InRange (ratedOf h now number size)
   unfolding ratedOf
@@ -138,7 +138,7 @@ module _ (h : Head) (r : InRange h) where
         latest = r .latest;
       }
 
-module _ (h : Head) (r : InRange h) (now : ℤ) (n : isReading now ≡ true) (number size : ℕ) (s : size ≤ 1456) (w : Window) (i : InWindow w) where
+module _ (h : Head) (r : InRange h) (now : ℤ) (n : isReading now ≡ true) (number size : ℕ) (s : size ≤ 1456) (w : Window) (i : windowOk w ≡ true) where
   got-in : (lrsn : ℕ) (recovered : Bool) → lrsn < 2 ^ 31 → InRange (gotOf h w lrsn recovered now number size .head)
   unfolding gotOf
   got-in lrsn recovered l =
@@ -148,8 +148,8 @@ module _ (h : Head) (r : InRange h) (now : ℤ) (n : isReading now ≡ true) (nu
       w now i n)
       lrsn recovered l
 
-  after-in : (a : PushAnswer) → Answers a → InRange (afterPush h w a now number size .head)
-  after-in (pushes.Got lrsn recovered) l = got-in lrsn recovered l
+  after-in : (a : PushAnswer) → Says (w .lrsn) a → InRange (afterPush h w a now number size .head)
+  after-in (pushes.Got lrsn recovered) l = got-in lrsn recovered (rw l (in-window w i .next))
   after-in (pushes.Loss first last) l = window-in h r w now i n
   after-in pushes.BufferFull l = r
   after-in (pushes.PacketTooEarly room need) l = r
@@ -161,8 +161,9 @@ module _ (h : Head) (ws bs : List ℕ) (now : ℤ) (p : Packet) (payload : List 
   unfolding takenOf
   taken-in d =
       let o = pushOf (h .window) ws bs (natAbs now) p payload in
-      let k = push-kept (h .window) ws bs (natAbs now) p payload (in-window (h .window) (d .head .window)) in
-      after-in h (d .head) now (d .reading) (p .number) (length payload) (d .right .bytes) (o .pushed .window) (k .0) (o .pushed .answer) (k .1)
+      let g = push-kept (h .window) ws bs (natAbs now) p payload (d .good) (d .payloads) (d .right) .0 in
+      after-in h (d .head) now (d .reading) (p .number) (length payload) (d .right .bytes) (o .pushed .window) (from-good (o .pushed .window) (o .slots) g) (o .pushed .answer)
+      (push-says (h .window) ws bs (natAbs now) p payload)
 
   pub data-kept : headOk h ≡ true → headOk (dataOf h ws bs now p payload .handled .head) ≡ true
   unfolding dataOf

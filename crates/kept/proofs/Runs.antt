@@ -23,9 +23,9 @@ pub data Reached : Head → Type 0 where
   popped : (h : Head) (ws bs out : List ℕ) (now : ℤ) → Reached h → Reached (messageOf h ws bs out now .given .head)
   reported : (h : Head) (ws list : List ℕ) (now : ℤ) → Reached h → Reached (lossOf h ws list now .reported .head)
   acked : (h : Head) (a : List ℕ) (now : ℤ) → Reached h → Reached (fullAckEventOf h a now .acked .head)
-  ack2ed : (h : Head) (a : List ℕ) (now : ℤ) (number : ℕ) → Reached h → Reached (ack2PacketOf h a now number .head)
-  clocked : (h : Head) (now : ℤ) (stamp : ℕ) → Reached h → Reached (clockOf h now stamp .head)
-  cleared : (h : Head) → Reached h → Reached (clearOf h .head)
+  ack2ed : (h : Head) (a : List ℕ) (now : ℤ) (number : ℕ) → Reached h → Reached (ack2PacketOf h a now number .acked2 .head)
+  clocked : (h : Head) (now : ℤ) (stamp : ℕ) → Reached h → Reached (clockOf h now stamp .clocked .head)
+  cleared : (h : Head) → Reached h → Reached (clearOf h .cleared .head)
 
 pub reached-kept : (h : Head) → Reached h → headOk h ≡ true
 reached-kept _ (made start latency dropping first capacity) = made-kept start latency dropping first capacity

@@ -36,12 +36,10 @@ use Rattle.head.specs.Head.{windowOk, headOk}
 use Rattle.head.specs.declared.state.Head.{Head}
 use Rattle.head.proofs.Gates.{clear}
 use Rattle.head.proofs.Ready.{InRange, in-parts, in-window, timed-ready, clock-ready, pop-ready}
-use Rattle.receiver.specs.Acking.{withRtt, afterAck, FullAckOutcome, roomyAck, dueAck, fullAckEventOf, afterAck2, heldAck2, ack2PacketOf}
+use Rattle.receiver.specs.Acking.{withRtt, afterAck, FullAckOutcome, roomyAck, dueAck, fullAckEventOf, afterAck2, heldAck2, Ack2Outcome, ack2PacketOf}
 use Rattle.receiver.specs.Message.{GivenOutcome, withPop, headAfter, takenOf, messageOf}
-use Rattle.receiver.specs.Sync.{afterSync, syncOf, clockOf}
-use Rattle.receiver.specs.declared.acking.Ack2ed.{Ack2ed}
-use Rattle.receiver.specs.declared.sync.Clocked.{Clocked}
-use Rattle.kept.proofs.Parts.{from-parts, from-window}
+use Rattle.receiver.specs.Sync.{afterSync, syncOf, ClockOutcome, clockOf}
+use Rattle.kept.proofs.Parts.{from-parts, from-good}
 
 -- the head with other parts in range, and a reading as its latest
 module _ (h : Head) (now : ℤ) (i : InRange h) (r : isReading now ≡ true) where
@@ -98,11 +96,11 @@ module _ (h : Head) (now : ℤ) (i : InRange h) (r : isReading now ≡ true) whe
   after-pop w k (pops.Late s l d) o e f = pop-set w k e f
   after-pop w k pops.OutShort o e f = o
 
-pub ack2-kept : (h : Head) (a : List ℕ) (now : ℤ) (number : ℕ) → headOk h ≡ true → headOk (ack2PacketOf h a now number .head) ≡ true
+pub ack2-kept : (h : Head) (a : List ℕ) (now : ℤ) (number : ℕ) → headOk h ≡ true → headOk (ack2PacketOf h a now number .acked2 .head) ≡ true
 unfolding ack2PacketOf heldAck2
 ack2-kept h a now number o =
     let n = firstRefusal (timedRules (headOk h) (length a) 2048 now (h .latest)) in
-    by-test (λ (x : Ack2ed). headOk (x .head) ≡ true) (eqb n 0) _ _
+    by-test (λ (x : Ack2Outcome). headOk (x .acked2 .head) ≡ true) (eqb n 0) _ _
     (λ z.
     let t = timed-ready h now (length a) 2048 (eqb-true n 0 z) .0 in
     let k = ack2Of (h .history) a (natAbs now) number in
@@ -126,11 +124,11 @@ full-ack-kept h a now o =
     (histories.full-ack-kept (h .history) (t .head .history) a (natAbs now) (h .rtt .mean) (h .latency) (h .window .lrsn) (w .next))))
     (λ z. o)
 
-pub clock-kept : (h : Head) (now : ℤ) (stamp : ℕ) → headOk h ≡ true → headOk (clockOf h now stamp .head) ≡ true
+pub clock-kept : (h : Head) (now : ℤ) (stamp : ℕ) → headOk h ≡ true → headOk (clockOf h now stamp .clocked .head) ≡ true
 unfolding clockOf syncOf
 clock-kept h now stamp o =
     let n = firstRefusal (clockRules (headOk h) now (h .latest)) in
-    by-test (λ (x : Clocked). headOk (x .head) ≡ true) (eqb n 0) _ _
+    by-test (λ (x : ClockOutcome). headOk (x .clocked .head) ≡ true) (eqb n 0) _ _
     (λ z.
     let t = clock-ready h now (eqb-true n 0 z) in
     let s = synchronized (h .clock) now stamp in
@@ -148,6 +146,6 @@ message-kept h ws bs out now o =
     let p : PopOutcome = popOf (h .clock) (h .latency) (h .dropping) (h .window) ws now bs out in
     let g = pop-good (h .clock) (h .latency) (h .dropping) (h .window) ws now bs out (pop-ready h now ws bs (eqb-true n 0 z) .good) in
     after-pop h now i (not-false (isReading now) (c .1 .1 .1 .0)) (p .popped .window) (p .popped .clock) (p .popped .answer) o
-    (from-window (p .popped .window) (record { some = g .some; most = g .most; starts = g .starts; holds = g .holds; first = g .first; next = g .next }))
+    (from-good (p .popped .window) ws g)
     (pop-clock (h .clock) (h .latency) (h .dropping) (h .window) ws now bs out (i .clock)))
     (λ z. o)

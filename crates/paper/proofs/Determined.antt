@@ -11,13 +11,13 @@ use Rattle.window.specs.declared.push.Packet.{Packet}
 use Rattle.head.specs.Head.{madeOf}
 use Rattle.head.specs.declared.state.Head.{Head}
 use Rattle.head.specs.declared.state.Made.{Made}
-use Rattle.receiver.specs.Acking.{fullAckEnded, fullAckEventOf, ack2PacketOf}
+use Rattle.receiver.specs.Acking.{fullAckEnded, fullAckEventOf, ack2Ended, ack2PacketOf}
 use Rattle.receiver.specs.Data.{dataEnded, dataOf}
 use Rattle.receiver.specs.Loss.{lossEnded, lossOf}
 use Rattle.receiver.specs.Message.{givenEnded, messageOf}
-use Rattle.receiver.specs.Request.{dropEnded, dropCallOf, clearOf, roomCallOf}
-use Rattle.receiver.specs.Show.{placeCallOf, shownCallOf}
-use Rattle.receiver.specs.Sync.{clockOf}
+use Rattle.receiver.specs.Request.{dropEnded, dropCallOf, clearEnded, clearOf, roomEnded, roomCallOf}
+use Rattle.receiver.specs.Show.{placeCallOf, shownEnded, shownCallOf}
+use Rattle.receiver.specs.Sync.{clockEnded, clockOf}
 use Rattle.receiver.specs.declared.acking.FullAcked.{FullAcked}
 use Rattle.receiver.specs.declared.acking.Ack2ed.{Ack2ed}
 use Rattle.receiver.specs.declared.data.Handled.{Handled}
@@ -58,11 +58,11 @@ module _ (h : Head) where
       → dropEnded r ws₁ ≡ dropCallOf h ws first last → dropEnded s ws₂ ≡ dropCallOf h ws first last → (r ≡ s) × (ws₁ ≡ ws₂)
   drop-determined ws first last r s ws₁ ws₂ p q = let e = p ∙ sym q in (ap (λ o. o .answer) e, ap (λ o. o .slots) e)
 
-  pub clear-determined : (r s : Cleared) → r ≡ clearOf h → s ≡ clearOf h → r ≡ s
-  clear-determined r s p q = p ∙ sym q
+  pub clear-determined : (r s : Cleared) → clearEnded r ≡ clearOf h → clearEnded s ≡ clearOf h → r ≡ s
+  clear-determined r s p q = ap (λ o. o .cleared) (p ∙ sym q)
 
-  pub room-determined : (r s : RoomAnswer) → r ≡ roomCallOf h → s ≡ roomCallOf h → r ≡ s
-  room-determined r s p q = p ∙ sym q
+  pub room-determined : (r s : RoomAnswer) → roomEnded r ≡ roomCallOf h → roomEnded s ≡ roomCallOf h → r ≡ s
+  room-determined r s p q = ap (λ o. o .answer) (p ∙ sym q)
 
   -- the part shown: its block, its place in it and its bytes
   pub show-determined : (ws : List ℕ) (bytes : RefT (List ℕ)) (number : ℕ) (r s : RefT (List ℕ))
@@ -70,16 +70,16 @@ module _ (h : Head) where
       → (ptr r .0 ≡ ptr s .0) × ((ptr r .1 ≡ ptr s .1) × (now r ≡ now s))
   show-determined ws bytes number r s p q = (p .block ∙ sym (q .block), (p .place ∙ sym (q .place), p .bytes ∙ sym (q .bytes)))
 
-  pub shown-determined : (ws : List ℕ) (bytes number : ℕ) (r s : ShowAnswer) → r ≡ shownCallOf h ws bytes number → s ≡ shownCallOf h ws bytes number → r ≡ s
-  shown-determined ws bytes number r s p q = p ∙ sym q
+  pub shown-determined : (ws : List ℕ) (bytes number : ℕ) (r s : ShowAnswer) → shownEnded r ≡ shownCallOf h ws bytes number → shownEnded s ≡ shownCallOf h ws bytes number → r ≡ s
+  shown-determined ws bytes number r s p q = ap (λ o. o .answer) (p ∙ sym q)
 
-  pub clock-determined : (now : ℤ) (stamp : ℕ) (r s : Clocked) → r ≡ clockOf h now stamp → s ≡ clockOf h now stamp → r ≡ s
-  clock-determined now stamp r s p q = p ∙ sym q
+  pub clock-determined : (now : ℤ) (stamp : ℕ) (r s : Clocked) → clockEnded r ≡ clockOf h now stamp → clockEnded s ≡ clockOf h now stamp → r ≡ s
+  clock-determined now stamp r s p q = ap (λ o. o .clocked) (p ∙ sym q)
 
   -- the head, the answer and the history area
   pub full-ack-determined : (a : List ℕ) (now : ℤ) (r s : FullAcked) (a₁ a₂ : List ℕ)
       → fullAckEnded r a₁ ≡ fullAckEventOf h a now → fullAckEnded s a₂ ≡ fullAckEventOf h a now → (r ≡ s) × (a₁ ≡ a₂)
   full-ack-determined a now r s a₁ a₂ p q = let e = p ∙ sym q in (ap (λ o. o .acked) e, ap (λ o. o .area) e)
 
-  pub ack2-determined : (a : List ℕ) (now : ℤ) (number : ℕ) (r s : Ack2ed) → r ≡ ack2PacketOf h a now number → s ≡ ack2PacketOf h a now number → r ≡ s
-  ack2-determined a now number r s p q = p ∙ sym q
+  pub ack2-determined : (a : List ℕ) (now : ℤ) (number : ℕ) (r s : Ack2ed) → ack2Ended r ≡ ack2PacketOf h a now number → ack2Ended s ≡ ack2PacketOf h a now number → r ≡ s
+  ack2-determined a now number r s p q = ap (λ o. o .acked2) (p ∙ sym q)

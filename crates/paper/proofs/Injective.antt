@@ -2,15 +2,26 @@
 use mathlib.Core.Path.{_≡_, refl, sym, _∙_, ap}
 use mathlib.Core.Bool.{Bool, true, false, cond}
 use mathlib.Core.List.{List, [], _∷_}
-use Prim.Native.Nat.{ℕ, zero, suc}
-use lib.Dec.{eqb}
-use lib.IntN.{ℤ, pos, negsuc, natAbs}
+use Prim.Native.Nat.{ℕ, zero, suc, _*_, _≤_}
+use borrow.Author.Tests.{ltb-false}
+use lib.Dec.{eqb, ltb}
+use lib.IntN.{ℤ, pos, natAbs}
 use lib.Ieee.{Float, nan}
+use lib.ListN.{length, take, length-map}
+use lib.Seq.{length-take-le}
+use Rattle.numbers.proofs.Flags.{by-test}
 use Rattle.acks.specs.declared.rates.Speed.{Speed}
 use Rattle.acks.specs.declared.rates.Speed.the-variants as speeds
 use Rattle.acks.specs.declared.rates.Link.{Link}
 use Rattle.acks.specs.declared.rates.Link.the-variants as links
+use Rattle.window.specs.declared.Window.{Window}
+use Rattle.window_report.specs.Report.{ReportOutcome, needed, reportOf}
+use Rattle.window_report.proofs.ReportLaws.{list-keeps}
+use Rattle.head.specs.Rules.{firstRefusal, timedRules}
+use Rattle.head.specs.Head.{headOk}
+use Rattle.head.specs.declared.state.Head.{Head}
 use Rattle.head.specs.declared.state.Made.{Made}
+use Rattle.receiver.specs.Loss.{LossOutcome, answerOf, reportedOf, lossOf}
 use Rattle.receiver.specs.declared.data.DataAnswer.{DataAnswer}
 use Rattle.receiver.specs.declared.data.DataAnswer.the-variants as datas
 use Rattle.receiver.specs.declared.message.MessageAnswer.{MessageAnswer}
@@ -31,7 +42,8 @@ use Rattle.receiver.specs.declared.acking.FullAckAnswer.{FullAckAnswer}
 use Rattle.receiver.specs.declared.acking.FullAckAnswer.the-variants as acks
 use Rattle.receiver.specs.declared.acking.RttAnswer.{RttAnswer}
 use Rattle.receiver.specs.declared.acking.RttAnswer.the-variants as rtts
-use Rattle.paper.specs.Paper.{Word, got, light, loss, refused, message, late, report, ack, rtt, gone, adjusted, unsteady, clear, none, made, room, received, other, Line, dataLine, messageLine, lossLine, dropLine, clearLine, roomLine, shownLine, clockLine, fullAckLine, rttLine, madeLine}
+use Rattle.receiver.specs.Paper.{Word, got, light, loss, refused, message, late, report, ack, rtt, gone, adjusted, unsteady, clear, none, made, room, received, other, Value, whole, dash, plain, Line, dataLine, messageLine, lossLine, dropLine, clearLine, roomLine, shownLine, clockLine, fullAckLine, rttLine}
+use Rattle.paper.specs.Late.{madeLine}
 
 -- a word by its place among the words
 abbrev placeOf : Word → ℕ
@@ -57,36 +69,44 @@ placeOf other = 17
 abbrev is : Word → Word → Bool
 is v w = eqb (placeOf v) (placeOf w)
 
--- value i of a line, 0 if it has none
-abbrev at : List ℤ → ℕ → ℤ
-at [] i = pos 0
+-- value i of a line, `-` if it has none
+abbrev at : List Value → ℕ → Value
+at [] i = dash
 at (v ∷ vs) zero = v
 at (v ∷ vs) (suc i) = at vs i
 
-abbrev whole : List ℤ → ℕ → ℕ
-whole vs i = natAbs (at vs i)
+-- a value as a number; 0 for `-`
+abbrev asWhole : Value → ℤ
+asWhole (whole z) = z
+asWhole dash = pos 0
+
+abbrev signed : List Value → ℕ → ℤ
+signed vs i = asWhole (at vs i)
+
+abbrev natural : List Value → ℕ → ℕ
+natural vs i = natAbs (signed vs i)
 
 abbrev isOne : ℕ → Bool
 isOne zero = false
 isOne (suc n) = true
 
-abbrev holds : List ℤ → ℕ → Bool
-holds vs i = isOne (whole vs i)
+abbrev holds : List Value → ℕ → Bool
+holds vs i = isOne (natural vs i)
 
 -- two answers with one line are the same if each is read back from its own
 by-reading : {A : Type 0} (line : A → Line) (back : Line → A) → ((a : A) → back (line a) ≡ a) → (a b : A) → line a ≡ line b → a ≡ b
 by-reading line back r a b e = sym (r a) ∙ (ap back e ∙ r b)
 
 -- a refusal with values is 8
-abbrev tooEarly : ℕ → List ℤ → DataAnswer
+abbrev tooEarly : ℕ → List Value → DataAnswer
 tooEarly n [] = datas.Refused n
-tooEarly n (v ∷ vs) = datas.PacketTooEarly (natAbs v) (whole vs 0)
+tooEarly n (v ∷ vs) = datas.PacketTooEarly (natAbs (asWhole v)) (natural vs 0)
 
-abbrev dataBack : Word → ℕ → List ℤ → DataAnswer
+abbrev dataBack : Word → ℕ → List Value → DataAnswer
 dataBack w n vs =
-    cond (is w got) (datas.Got (whole vs 0) (holds vs 1))
-    (cond (is w light) (datas.Light (whole vs 0) (holds vs 1))
-    (cond (is w loss) (datas.Loss (whole vs 0) (whole vs 1))
+    cond (is w got) (datas.Got (natural vs 0) (holds vs 1))
+    (cond (is w light) (datas.Light (natural vs 0) (holds vs 1))
+    (cond (is w loss) (datas.Loss (natural vs 0) (natural vs 1))
     (tooEarly n vs)))
 
 data-back : (a : DataAnswer) → dataBack (dataLine a .word) (dataLine a .refusal) (dataLine a .values) ≡ a
@@ -101,11 +121,11 @@ data-back (datas.PacketTooEarly places need) = refl
 pub data-injective : (a b : DataAnswer) → dataLine a ≡ dataLine b → a ≡ b
 data-injective = by-reading dataLine (λ l. dataBack (l .word) (l .refusal) (l .values)) data-back
 
-abbrev messageBack : Word → ℕ → List ℤ → MessageAnswer
+abbrev messageBack : Word → ℕ → List Value → MessageAnswer
 messageBack w n vs =
     cond (is w none) (messages.Nothing)
-    (cond (is w message) (messages.Message (at vs 0) (whole vs 1) (whole vs 2))
-    (cond (is w late) (messages.Late (whole vs 0) (whole vs 1) (at vs 2))
+    (cond (is w message) (messages.Message (signed vs 0) (natural vs 1) (natural vs 2))
+    (cond (is w late) (messages.Late (natural vs 0) (natural vs 1) (signed vs 2))
     (messages.Refused n)))
 
 message-back : (a : MessageAnswer) → messageBack (messageLine a .word) (messageLine a .refusal) (messageLine a .values) ≡ a
@@ -117,23 +137,47 @@ message-back (messages.Refused n) = refl
 pub message-injective : (a b : MessageAnswer) → messageLine a ≡ messageLine b → a ≡ b
 message-injective = by-reading messageLine (λ l. messageBack (l .word) (l .refusal) (l .values)) message-back
 
-abbrev lossBack : Word → ℕ → List ℤ → LossAnswer
+-- a report is read back by the count of its words, if the list has them
+abbrev lossBack : Word → ℕ → List Value → LossAnswer
 lossBack w n vs =
     cond (is w none) (losses.Nothing)
-    (cond (is w report) (losses.Report (whole vs 0))
+    (cond (is w report) (losses.Report (length vs))
     (losses.Refused n))
 
-loss-back : (a : LossAnswer) → lossBack (lossLine a .word) (lossLine a .refusal) (lossLine a .values) ≡ a
-loss-back losses.Nothing = refl
-loss-back (losses.Report words) = refl
-loss-back (losses.Refused n) = refl
+-- a list of n words has those of the report
+abbrev pub Fits : LossAnswer → ℕ → Type 0
+Fits losses.Nothing n = Unit
+Fits (losses.Report words) n = words ≤ n
+Fits (losses.Refused k) n = Unit
 
-pub loss-injective : (a b : LossAnswer) → lossLine a ≡ lossLine b → a ≡ b
-loss-injective = by-reading lossLine (λ l. lossBack (l .word) (l .refusal) (l .values)) loss-back
+loss-back : (a : LossAnswer) (list : List ℕ) → Fits a (length list) → lossBack (lossLine a list .word) (lossLine a list .refusal) (lossLine a list .values) ≡ a
+loss-back losses.Nothing list i = refl
+loss-back (losses.Report words) list i = ap (λ (n : ℕ). losses.Report n) (length-map (take words list) plain ∙ length-take-le words list i)
+loss-back (losses.Refused n) list i = refl
 
-abbrev dropBack : Word → ℕ → List ℤ → DropAnswer
+pub loss-injective : (a b : LossAnswer) (l m : List ℕ) → Fits a (length l) → Fits b (length m) → lossLine a l ≡ lossLine b m → a ≡ b
+loss-injective a b l m i j e = sym (loss-back a l i) ∙ (ap (λ (x : Line). lossBack (x .word) (x .refusal) (x .values)) e ∙ loss-back b m j)
+
+-- so it is of every loss report: refusal 12 is tested before
+words-fit : (w : Window) (ws : List ℕ) (time mean : ℕ) (list : List ℕ) → Fits (answerOf (reportOf w ws time mean list .answer)) (length list)
+unfolding reportOf
+words-fit w ws time mean list =
+    let P : ReportOutcome → Type 0 = λ x. Fits (answerOf (x .answer)) (length list) in
+    by-test P (eqb (needed w ws time mean) 0) _ _
+    (λ t. tt)
+    (λ t. by-test P (ltb (length list) (needed w ws time mean)) _ _ (λ u. tt) (λ u. ltb-false (length list) (needed w ws time mean) u))
+
+pub loss-fits : (h : Head) (ws list : List ℕ) (now : ℤ) → Fits (lossOf h ws list now .reported .answer) (length (lossOf h ws list now .list))
+unfolding lossOf reportedOf
+loss-fits h ws list now =
+    let m = h .rtt .mean in
+    by-test (λ (x : LossOutcome). Fits (x .reported .answer) (length (x .list))) (eqb (firstRefusal (timedRules (headOk h) (length ws) (3 * h .window .capacity) now (h .latest))) 0) _ _
+    (λ t. rw (list-keeps (h .window) ws (natAbs now) m list) (words-fit (h .window) ws (natAbs now) m list))
+    (λ t. tt)
+
+abbrev dropBack : Word → ℕ → List Value → DropAnswer
 dropBack w n vs =
-    cond (is w gone) (drops.Gone (whole vs 0))
+    cond (is w gone) (drops.Gone (natural vs 0))
     (drops.Refused n)
 
 drop-back : (a : DropAnswer) → dropBack (dropLine a .word) (dropLine a .refusal) (dropLine a .values) ≡ a
@@ -155,9 +199,9 @@ clear-back (clears.Refused n) = refl
 pub clear-injective : (a b : ClearAnswer) → clearLine a ≡ clearLine b → a ≡ b
 clear-injective = by-reading clearLine (λ l. clearBack (l .word) (l .refusal)) clear-back
 
-abbrev roomBack : Word → ℕ → List ℤ → RoomAnswer
+abbrev roomBack : Word → ℕ → List Value → RoomAnswer
 roomBack w n vs =
-    cond (is w room) (rooms.Room (whole vs 0))
+    cond (is w room) (rooms.Room (natural vs 0))
     (rooms.Refused n)
 
 room-back : (a : RoomAnswer) → roomBack (roomLine a .word) (roomLine a .refusal) (roomLine a .values) ≡ a
@@ -185,11 +229,11 @@ abbrev firstOf : List Float → Float
 firstOf [] = nan
 firstOf (x ∷ xs) = x
 
-abbrev clockBack : Word → ℕ → List ℤ → List Float → ClockAnswer
+abbrev clockBack : Word → ℕ → List Value → List Float → ClockAnswer
 clockBack w n vs xs =
     cond (is w none) (clocks.Nothing)
-    (cond (is w adjusted) (clocks.Adjusted (at vs 0) (whole vs 1))
-    (cond (is w unsteady) (clocks.Unsteady (whole vs 0) (firstOf xs))
+    (cond (is w adjusted) (clocks.Adjusted (signed vs 0) (natural vs 1))
+    (cond (is w unsteady) (clocks.Unsteady (natural vs 0) (firstOf xs))
     (clocks.Refused n)))
 
 clock-back : (a : ClockAnswer) → clockBack (clockLine a .word) (clockLine a .refusal) (clockLine a .values) (clockLine a .exact) ≡ a
@@ -201,19 +245,18 @@ clock-back (clocks.Refused n) = refl
 pub clock-injective : (a b : ClockAnswer) → clockLine a ≡ clockLine b → a ≡ b
 clock-injective = by-reading clockLine (λ l. clockBack (l .word) (l .refusal) (l .values) (l .exact)) clock-back
 
--- a rate below 0 is none
-abbrev speedBack : ℤ → ℤ → Speed
-speedBack (pos packets) bytes = speeds.Known packets (natAbs bytes)
-speedBack (negsuc n) bytes = speeds.Unknown
+abbrev speedBack : Value → Value → Speed
+speedBack (whole packets) bytes = speeds.Known (natAbs packets) (natAbs (asWhole bytes))
+speedBack dash bytes = speeds.Unknown
 
-abbrev linkBack : ℤ → Link
-linkBack (pos n) = links.Known n
-linkBack (negsuc n) = links.Unknown
+abbrev linkBack : Value → Link
+linkBack (whole n) = links.Known (natAbs n)
+linkBack dash = links.Unknown
 
-abbrev fullAckBack : Word → ℕ → List ℤ → FullAckAnswer
+abbrev fullAckBack : Word → ℕ → List Value → FullAckAnswer
 fullAckBack w n vs =
     cond (is w none) (acks.Nothing)
-    (cond (is w ack) (acks.Ack (whole vs 0) (whole vs 1) (whole vs 2) (whole vs 3) (whole vs 4) (speedBack (at vs 5) (at vs 6)) (linkBack (at vs 7)))
+    (cond (is w ack) (acks.Ack (natural vs 0) (natural vs 1) (natural vs 2) (natural vs 3) (natural vs 4) (speedBack (at vs 5) (at vs 6)) (linkBack (at vs 7)))
     (acks.Refused n))
 
 full-ack-back : (a : FullAckAnswer) → fullAckBack (fullAckLine a .word) (fullAckLine a .refusal) (fullAckLine a .values) ≡ a
@@ -227,10 +270,10 @@ full-ack-back (acks.Refused n) = refl
 pub full-ack-injective : (a b : FullAckAnswer) → fullAckLine a ≡ fullAckLine b → a ≡ b
 full-ack-injective = by-reading fullAckLine (λ l. fullAckBack (l .word) (l .refusal) (l .values)) full-ack-back
 
-abbrev rttBack : Word → ℕ → List ℤ → RttAnswer
+abbrev rttBack : Word → ℕ → List Value → RttAnswer
 rttBack w n vs =
     cond (is w none) (rtts.Nothing)
-    (cond (is w rtt) (rtts.Rtt (whole vs 0) (whole vs 1))
+    (cond (is w rtt) (rtts.Rtt (natural vs 0) (natural vs 1))
     (rtts.Refused n))
 
 rtt-back : (a : RttAnswer) → rttBack (rttLine a .word) (rttLine a .refusal) (rttLine a .values) ≡ a

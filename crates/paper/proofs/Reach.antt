@@ -1,9 +1,9 @@
 -- With areas long enough, arguments in range and readings that never go back, only 7 to 14 can occur: 01, "Refused, in order of test". Assumes nothing.
-use mathlib.Core.Path.{_≡_, refl, sym, _∙_, ap}
-use mathlib.Core.Bool.{Bool, true, false, not, _&&_, cond}
+use mathlib.Core.Path.{_≡_, refl, sym}
+use mathlib.Core.Bool.{Bool, true, false, not, cond}
 use mathlib.Core.List.{List, [], _∷_}
 use mathlib.Core.Logic.{_⊎_, inl, inr}
-use Prim.Native.Nat.{ℕ, _+_, _*_, _^_, _<_, _≤_}
+use Prim.Native.Nat.{ℕ, _*_, _^_, _<_, _≤_}
 use native.Mathlib.Omega.{arith}
 use borrow.Author.Tests.{le-ltb, lt-leb}
 use lib.Dec.{eqb}
@@ -34,10 +34,10 @@ use Rattle.window_pop.specs.declared.pop.PopAnswer.the-variants as pops
 use Rattle.window_report.specs.Report.{reportOf}
 use Rattle.window_report.specs.declared.report.ReportAnswer.{ReportAnswer}
 use Rattle.window_report.specs.declared.report.ReportAnswer.the-variants as reports
-use Rattle.head.specs.Rules.{Rule, thenOf, firstFrom, firstRefusal, judged, pushRules, popRules, timedRules, dropRules, showRules, clockRules, headRules}
+use Rattle.head.specs.Rules.{Rule, thenOf, firstFrom, firstRefusal, pushRules, popRules, timedRules, dropRules, showRules, clockRules, headRules}
 use Rattle.head.specs.Head.{headOk}
 use Rattle.head.specs.declared.state.Head.{Head}
-use Rattle.head.proofs.Gates.{Clear, passed, taken}
+use Rattle.head.proofs.Gates.{Clear, passed}
 use Rattle.receiver.specs.Acking as acking
 use Rattle.receiver.specs.Data as calls
 use Rattle.receiver.specs.Loss as loss
@@ -45,13 +45,9 @@ use Rattle.receiver.specs.Message as message
 use Rattle.receiver.specs.Request as request
 use Rattle.receiver.specs.Show as show
 use Rattle.receiver.specs.Sync as sync
-use Rattle.receiver.specs.declared.acking.Ack2ed.{Ack2ed}
-use Rattle.receiver.specs.declared.request.Cleared.{Cleared}
-use Rattle.receiver.specs.declared.request.RoomAnswer.{RoomAnswer}
-use Rattle.receiver.specs.declared.show.ShowAnswer.{ShowAnswer}
 use Rattle.receiver.specs.declared.show.ShowAnswer.the-variants as shows
-use Rattle.receiver.specs.declared.sync.Clocked.{Clocked}
-use Rattle.paper.specs.Paper.{Line, Late, dataLine, messageLine, lossLine, dropLine, clearLine, roomLine, shownLine, clockLine, fullAckLine, rttLine}
+use Rattle.receiver.specs.Paper.{dataLine, messageLine, lossLine, shownLine, clockLine, fullAckLine, rttLine}
+use Rattle.paper.specs.Late.{Late}
 
 -- no test holds, so nothing refuses
 none-from : (k : ℕ) (l : List Rule) → k ≡ 0 → Clear l → firstFrom k l ≡ 0
@@ -90,10 +86,10 @@ pop-only (pops.Message time bytes packets) = inl refl
 pop-only (pops.Late first end delay) = inl refl
 pop-only pops.OutShort = within (omega arith) (omega arith)
 
-report-only : (a : ReportAnswer) → Late (lossLine (loss.answerOf a))
-report-only reports.Nothing = inl refl
-report-only (reports.Report words) = inl refl
-report-only reports.ListShort = within (omega arith) (omega arith)
+report-only : (a : ReportAnswer) (list : List ℕ) → Late (lossLine (loss.answerOf a) list)
+report-only reports.Nothing list = inl refl
+report-only (reports.Report words) list = inl refl
+report-only reports.ListShort list = within (omega arith) (omega arith)
 
 place-only : (t : Bool) → Late (shownLine (cond t shows.Received shows.Other))
 place-only true = inl refl
@@ -119,59 +115,60 @@ by-both P true x y p q = p
 by-both P false x y p q = q
 
 module _ (h : Head) (ok : headOk h ≡ true) where
-  pub clear-only : Late (clearLine (request.clearOf h .answer))
+  pub clear-only : Late (request.clearOf h .line)
   unfolding request.clearOf
   clear-only = rw (none-refuses (headRules (headOk h)) (good ok, tt)) (inl refl)
 
-  pub room-only : Late (roomLine (request.roomCallOf h))
+  pub room-only : Late (request.roomCallOf h .line)
   unfolding request.roomCallOf
   room-only = rw (none-refuses (headRules (headOk h)) (good ok, tt)) (inl refl)
 
   pub drop-only : (ws : List ℕ) (first last : ℕ) → 3 * h .window .capacity ≤ length ws → first < 2 ^ 31 → last < 2 ^ 31
-      → Late (dropLine (request.dropCallOf h ws first last .answer))
+      → Late (request.dropCallOf h ws first last .line)
   unfolding request.dropCallOf
   drop-only ws first last a b c =
       rw (none-refuses (dropRules (headOk h) (h .window .capacity) (length ws) first last) (good ok, (le-ltb _ _ a, (lt-leb _ _ b, (lt-leb _ _ c, tt))))) (inl refl)
 
   pub shown-only : (ws : List ℕ) (bytes number : ℕ) → 3 * h .window .capacity ≤ length ws → 1456 * h .window .capacity ≤ bytes → number < 2 ^ 31
-      → Late (shownLine (show.shownCallOf h ws bytes number))
+      → Late (show.shownCallOf h ws bytes number .line)
   unfolding show.shownCallOf
   shown-only ws bytes number a b c =
       rw (none-refuses (showRules (headOk h) (h .window .capacity) (length ws) bytes number) (good ok, (le-ltb _ _ a, (le-ltb _ _ b, (lt-leb _ _ c, tt))))) (place-only (shownOf (h .window) ws number .received))
 
   module _ (now : ℤ) (reading : isReading now ≡ true) (later : ltZ now (h .latest) ≡ false) where
     pub data-only : (ws bs : List ℕ) (p : Packet) (payload : List ℕ) → 3 * h .window .capacity ≤ length ws → 1456 * h .window .capacity ≤ length bs → Right p payload
-        → Late (dataLine (calls.dataOf h ws bs now p payload .handled .answer))
+        → Late (calls.dataOf h ws bs now p payload .line)
     unfolding calls.dataOf calls.takenOf
     data-only ws bs p payload a b r =
         let o = pushOf (h .window) ws bs (natAbs now) p payload in
         rw (none-refuses (pushRules (headOk h) (h .window .capacity) (length ws) (length bs) now (h .latest) p (length payload)) (good ok, (le-ltb _ _ a, (le-ltb _ _ b, (good reading, (later, (lt-leb _ _ (r .number), (lt-leb _ _ (r .message), (lt-leb _ _ (r .location), (le-ltb _ _ (r .bytes), tt)))))))))) (push-only h (o .pushed .window) (o .pushed .answer) now (p .number) (length payload))
 
     pub message-only : (ws bs out : List ℕ) → 3 * h .window .capacity ≤ length ws → 1456 * h .window .capacity ≤ length bs
-        → Late (messageLine (message.messageOf h ws bs out now .given .answer))
+        → Late (message.messageOf h ws bs out now .line)
     unfolding message.messageOf message.takenOf
     message-only ws bs out a b =
         rw (none-refuses (popRules (headOk h) (h .window .capacity) (length ws) (length bs) now (h .latest)) (good ok, (le-ltb _ _ a, (le-ltb _ _ b, (good reading, (later, tt)))))) (pop-only (popOf (h .clock) (h .latency) (h .dropping) (h .window) ws now bs out .popped .answer))
 
-    pub loss-only : (ws list : List ℕ) → 3 * h .window .capacity ≤ length ws → Late (lossLine (loss.lossOf h ws list now .reported .answer))
+    pub loss-only : (ws list : List ℕ) → 3 * h .window .capacity ≤ length ws → Late (loss.lossOf h ws list now .line)
     unfolding loss.lossOf loss.reportedOf
     loss-only ws list a =
-        rw (none-refuses (timedRules (headOk h) (length ws) (3 * h .window .capacity) now (h .latest)) (good ok, (le-ltb _ _ a, (good reading, (later, tt))))) (report-only (reportOf (h .window) ws (natAbs now) (h .rtt .mean) list .answer))
+        let o = reportOf (h .window) ws (natAbs now) (h .rtt .mean) list in
+        rw (none-refuses (timedRules (headOk h) (length ws) (3 * h .window .capacity) now (h .latest)) (good ok, (le-ltb _ _ a, (good reading, (later, tt))))) (report-only (o .answer) (o .list))
 
-    pub clock-only : (stamp : ℕ) → Late (clockLine (sync.clockOf h now stamp .answer))
+    pub clock-only : (stamp : ℕ) → Late (sync.clockOf h now stamp .line)
     unfolding sync.clockOf sync.syncOf
     clock-only stamp =
         rw (none-refuses (clockRules (headOk h) now (h .latest)) (good ok, (good reading, (later, tt)))) (sync-only h (synchronized (h .clock) now stamp .clock) (synchronized (h .clock) now stamp .answer) now)
 
-    pub full-ack-only : (a : List ℕ) → 2048 ≤ length a → Late (fullAckLine (acking.fullAckEventOf h a now .acked .answer))
+    pub full-ack-only : (a : List ℕ) → 2048 ≤ length a → Late (acking.fullAckEventOf h a now .line)
     unfolding acking.fullAckEventOf acking.dueAck acking.roomyAck
     full-ack-only a n =
         let o = fullAckOf (h .history) a (natAbs now) (h .rtt .mean) (h .latency) (h .window .lrsn) in
-        rw (none-refuses (timedRules (headOk h) (length a) 2048 now (h .latest)) (good ok, (le-ltb _ _ n, (good reading, (later, tt))))) (by-both (λ (x : acking.FullAckOutcome). Late (fullAckLine (x .acked .answer))) (eqb (roomOf (h .window)) 0) _ _
+        rw (none-refuses (timedRules (headOk h) (length a) 2048 now (h .latest)) (good ok, (le-ltb _ _ n, (good reading, (later, tt))))) (by-both (λ (x : acking.FullAckOutcome). Late (x .line)) (eqb (roomOf (h .window)) 0) _ _
         (inl refl)
         (ack-only h (o .acked .history) (o .acked .answer) now))
 
-    pub ack2-only : (a : List ℕ) (number : ℕ) → 2048 ≤ length a → Late (rttLine (acking.ack2PacketOf h a now number .answer))
+    pub ack2-only : (a : List ℕ) (number : ℕ) → 2048 ≤ length a → Late (acking.ack2PacketOf h a now number .line)
     unfolding acking.ack2PacketOf acking.heldAck2
     ack2-only a number n =
         let k = ack2Of (h .history) a (natAbs now) number in

@@ -1,2 +1,2 @@
--- The receiver's answers as 01 writes them.
-pub mod Paper
+-- What the theorems on the receiver's lines speak of.
+pub mod Late

@@ -1,1 +1,1 @@
-// The receiver's answers as 01 writes them: its refusal numbers and the words and values of its trace lines. Theorems only.
+// The receiver's answers as 01 writes them: what their lines determine, and which refusals can occur. Theorems only: 01, "Trace", "Each proof's duty".

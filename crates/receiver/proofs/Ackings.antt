@@ -34,7 +34,7 @@ use Rattle.head.specs.Head.{windowOk, headOk}
 use Rattle.head.specs.declared.state.Head.{Head}
 use Rattle.head.proofs.Gates.{taken, refused}
 use Rattle.head.proofs.Ready.{InRange, timed-ready}
-use Rattle.receiver.specs.Acking.{AckReady, withLatest, withHistory, withRtt, figuresOf, afterAck, fullAckEnded, ofHistory, roomyAck, dueAck, fullAckEventOf, FullAckOutcome, afterAck2, heldAck2, ack2PacketOf}
+use Rattle.receiver.specs.Acking.{AckReady, withLatest, withHistory, withRtt, figuresOf, afterAck, fullAckEnded, ofHistory, roomyAck, dueAck, fullAckEventOf, FullAckOutcome, afterAck2, heldAck2, Ack2Outcome, ack2Ended, ack2PacketOf}
 use Rattle.receiver.specs.declared.acking.FullAcked.{FullAcked}
 use Rattle.receiver.specs.declared.acking.FullAckAnswer.{FullAckAnswer}
 use Rattle.receiver.specs.declared.acking.FullAckAnswer.the-variants as answers
@@ -130,13 +130,16 @@ module _ (h : Head) (a : List ℕ) (now : ℤ) {t : ℤ} {n : ℕ} (b : n ≡ fi
   event-refused z = sym (refused (dueAck h a now) stays same z)
 
   -- handle_ack2_packet
-  pub packet-taken : (number : ℕ) {m : ℤ} {r : Ack2ed} → n ≡ 0 → r ≡ heldAck2 h a m number → m ≡ now → r ≡ ack2PacketOf h a now number
-  unfolding ack2PacketOf
-  packet-taken number z f e = f ∙ rw e (sym (taken (heldAck2 h a now number) (λ k. record { head = h; answer = rtts.Refused k }) same z))
+  stays2 : ℕ → Ack2Outcome
+  stays2 k = ack2Ended (record { head = h; answer = rtts.Refused k })
 
-  pub packet-refused : (number : ℕ) → (n ≡ 0 → ⊥) → _≡_ {A = Ack2ed} (record { head = h; answer = rtts.Refused n }) (ack2PacketOf h a now number)
-  unfolding ack2PacketOf
-  packet-refused number z = sym (refused (heldAck2 h a now number) (λ k. record { head = h; answer = rtts.Refused k }) same z)
+  pub packet-taken : (number : ℕ) {m : ℤ} {r : Ack2ed} → n ≡ 0 → r ≡ heldAck2 h a m number → m ≡ now → ack2Ended r ≡ ack2PacketOf h a now number
+  unfolding ack2PacketOf stays2
+  packet-taken number z f e = ap ack2Ended f ∙ rw e (sym (taken (ack2Ended (heldAck2 h a now number)) stays2 same z))
+
+  pub packet-refused : (number : ℕ) → (n ≡ 0 → ⊥) → ack2Ended (record { head = h; answer = rtts.Refused n }) ≡ ack2PacketOf h a now number
+  unfolding ack2PacketOf stays2
+  packet-refused number z = sym (refused (ack2Ended (heldAck2 h a now number)) stays2 same z)
 
 -- when no ACK is due, or the last number is given, the head keeps its history and the area every word
 module _ (h : Head) (a : List ℕ) (now : ℤ) where

@@ -1,7 +1,7 @@
 -- What the code of request.rt does at each return, as laws over plain values. Assumes nothing.
-use mathlib.Core.Path.{_≡_, refl, sym, _∙_, ap}
+use mathlib.Core.Path.{_≡_, sym, _∙_, ap}
 use mathlib.Core.List.{List}
-use Prim.Native.Nat.{ℕ, _*_, _≤_}
+use Prim.Native.Nat.{ℕ, _≤_}
 use borrow.Author.Needs.{needs}
 use lib.ListN.{length}
 use Rattle.acks.specs.History as histories
@@ -9,14 +9,13 @@ use Rattle.acks.specs.declared.history.History.{History}
 use Rattle.window.specs.Window.{Good, roomOf}
 use Rattle.window_report.specs.Drop as drop
 use Rattle.window_report.specs.Drop.{dropOf}
-use Rattle.head.specs.Rules.{firstRefusal, judged, dropRules, headRules}
+use Rattle.head.specs.Rules.{firstRefusal, dropRules, headRules}
 use Rattle.head.specs.Head.{headOk}
 use Rattle.head.specs.declared.state.Head.{Head}
 use Rattle.head.proofs.Gates.{taken, refused}
 use Rattle.head.proofs.Ready.{head-ready, in-window, drop-ready}
-use Rattle.receiver.specs.Request.{DropOutcome, dropEnded, goneOf, dropCallOf, clearedOf, clearOf, roomCallOf}
+use Rattle.receiver.specs.Request.{dropEnded, goneOf, dropCallOf, clearedOf, clearEnded, clearOf, roomEnded, roomCallOf}
 use Rattle.receiver.specs.declared.request.DropAnswer.the-variants as drops
-use Rattle.receiver.specs.declared.request.Cleared.{Cleared}
 use Rattle.receiver.specs.declared.request.ClearAnswer.the-variants as clears
 use Rattle.receiver.specs.declared.request.RoomAnswer.the-variants as rooms
 
@@ -40,23 +39,23 @@ unfolding clearedOf
 empties h e = rw e
 
 module _ (h : Head) {n : ℕ} (b : n ≡ firstRefusal (headRules (headOk h))) where
-  pub clear-taken : {g : Head} → n ≡ 0 → g ≡ clearedOf h → _≡_ {A = Cleared} (record { head = g; answer = clears.Cleared }) (clearOf h)
+  pub clear-taken : {g : Head} → n ≡ 0 → g ≡ clearedOf h → clearEnded (record { head = g; answer = clears.Cleared }) ≡ clearOf h
   unfolding clearOf
-  clear-taken z e = rw e (sym (taken (record { head = clearedOf h; answer = clears.Cleared }) (λ n. record { head = h; answer = clears.Refused n }) b z))
+  clear-taken z e = rw e (sym (taken (clearEnded (record { head = clearedOf h; answer = clears.Cleared })) (λ n. clearEnded (record { head = h; answer = clears.Refused n })) b z))
 
-  pub clear-refused : (n ≡ 0 → ⊥) → _≡_ {A = Cleared} (record { head = h; answer = clears.Refused n }) (clearOf h)
+  pub clear-refused : (n ≡ 0 → ⊥) → clearEnded (record { head = h; answer = clears.Refused n }) ≡ clearOf h
   unfolding clearOf
-  clear-refused z = sym (refused (record { head = clearedOf h; answer = clears.Cleared }) (λ n. record { head = h; answer = clears.Refused n }) b z)
+  clear-refused z = sym (refused (clearEnded (record { head = clearedOf h; answer = clears.Cleared })) (λ n. clearEnded (record { head = h; answer = clears.Refused n })) b z)
 
   pub room-holds : n ≡ 0 → h .window .held ≤ h .window .capacity
   room-holds z = in-window (h .window) (head-ready h (sym b ∙ z) .window) .holds
 
-  pub room-taken : {r : ℕ} → n ≡ 0 → r ≡ roomOf (h .window) → rooms.Room r ≡ roomCallOf h
+  pub room-taken : {r : ℕ} → n ≡ 0 → r ≡ roomOf (h .window) → roomEnded (rooms.Room r) ≡ roomCallOf h
   unfolding roomCallOf
-  room-taken z e = rw e (sym (taken (rooms.Room (roomOf (h .window))) rooms.Refused b z))
+  room-taken z e = rw e (sym (taken (roomEnded (rooms.Room (roomOf (h .window)))) (λ n. roomEnded (rooms.Refused n)) b z))
 
-  pub room-refused : (n ≡ 0 → ⊥) → rooms.Refused n ≡ roomCallOf h
+  pub room-refused : (n ≡ 0 → ⊥) → roomEnded (rooms.Refused n) ≡ roomCallOf h
   unfolding roomCallOf
-  room-refused z = sym (refused (rooms.Room (roomOf (h .window))) rooms.Refused b z)
+  room-refused z = sym (refused (roomEnded (rooms.Room (roomOf (h .window)))) (λ n. roomEnded (rooms.Refused n)) b z)
 
 pub ruleset requests = (drop-good, drop-taken, drop-refused, empties, clear-taken, clear-refused, room-holds, room-taken, room-refused, needs)

@@ -14,12 +14,12 @@ use Rattle.window.specs.Window.{Good}
 use Rattle.window.specs.Show.{PartOf, ShownAt, nowhere, shownOf}
 use Rattle.window.specs.declared.show.Place.{Place}
 use Rattle.window.proofs.Shows.{shown-within}
-use Rattle.head.specs.Rules.{firstRefusal, judged, showRules}
+use Rattle.head.specs.Rules.{firstRefusal, showRules}
 use Rattle.head.specs.Head.{headOk}
 use Rattle.head.specs.declared.state.Head.{Head}
 use Rattle.head.proofs.Gates.{taken, refused}
 use Rattle.head.proofs.Ready.{show-ready}
-use Rattle.receiver.specs.Show.{refusalOf, placeCallOf, shownCallOf}
+use Rattle.receiver.specs.Show.{refusalOf, placeCallOf, shownEnded, foundAs, shownCallOf}
 use Rattle.receiver.specs.declared.show.ShowAnswer.the-variants.{Received, Other, Refused}
 
 module _ (h : Head) (ws : List ℕ) (bytes number : ℕ) {n : ℕ} (b : n ≡ firstRefusal (showRules (headOk h) (h .window .capacity) (length ws) bytes number)) where
@@ -35,17 +35,17 @@ module _ (h : Head) (ws : List ℕ) (bytes number : ℕ) {n : ℕ} (b : n ≡ fi
   place-refused z = sym (refused (shownOf (h .window) ws number) (λ n. nowhere) b z)
 
   module _ {p : Place} (z : n ≡ 0) (e : p ≡ shownOf (h .window) ws number) where
-    pub is-received : p .received ≡ true → Received ≡ shownCallOf h ws bytes number
+    pub is-received : p .received ≡ true → shownEnded Received ≡ shownCallOf h ws bytes number
     unfolding shownCallOf
-    is-received t = sym (taken (cond (shownOf (h .window) ws number .received) Received Other) Refused b z ∙ ap (λ (q : Bool). cond q Received Other) (sym (ap (λ (p : Place). p .received) e) ∙ t))
+    is-received t = sym (taken (foundAs (shownOf (h .window) ws number)) (λ n. shownEnded (Refused n)) b z ∙ ap (λ (q : Bool). shownEnded (cond q Received Other)) (sym (ap (λ (p : Place). p .received) e) ∙ t))
 
-    pub is-other : p .received ≡ false → Other ≡ shownCallOf h ws bytes number
+    pub is-other : p .received ≡ false → shownEnded Other ≡ shownCallOf h ws bytes number
     unfolding shownCallOf
-    is-other t = sym (taken (cond (shownOf (h .window) ws number .received) Received Other) Refused b z ∙ ap (λ (q : Bool). cond q Received Other) (sym (ap (λ (p : Place). p .received) e) ∙ t))
+    is-other t = sym (taken (foundAs (shownOf (h .window) ws number)) (λ n. shownEnded (Refused n)) b z ∙ ap (λ (q : Bool). shownEnded (cond q Received Other)) (sym (ap (λ (p : Place). p .received) e) ∙ t))
 
-  pub shown-refused : (n ≡ 0 → ⊥) → Refused n ≡ shownCallOf h ws bytes number
+  pub shown-refused : (n ≡ 0 → ⊥) → shownEnded (Refused n) ≡ shownCallOf h ws bytes number
   unfolding shownCallOf
-  shown-refused z = sym (refused (cond (shownOf (h .window) ws number .received) Received Other) Refused b z)
+  shown-refused z = sym (refused (foundAs (shownOf (h .window) ws number)) (λ n. shownEnded (Refused n)) b z)
 
 -- what is shown lies within the area
 pub place-within : (h : Head) (ws : List ℕ) (bytes number : ℕ) {p : Place} → p ≡ placeCallOf h ws bytes number → p .at + p .len ≤ bytes

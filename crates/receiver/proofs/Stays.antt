@@ -24,22 +24,14 @@ use Rattle.head.specs.Rules.{firstRefusal, popRules, timedRules}
 use Rattle.head.specs.Head.{headOk}
 use Rattle.head.specs.declared.state.Head.{Head}
 use Rattle.receiver.specs.Loss as loss
-use Rattle.receiver.specs.declared.loss.LossAnswer.{LossAnswer}
 use Rattle.receiver.specs.declared.loss.LossAnswer.the-variants as losses
 use Rattle.receiver.specs.Message as message
-use Rattle.receiver.specs.declared.message.MessageAnswer.{MessageAnswer}
 use Rattle.receiver.specs.declared.message.MessageAnswer.the-variants as messages
-
--- the number that refuses, or 0
-abbrev pub lossNumber : LossAnswer → ℕ
-lossNumber losses.Nothing = 0
-lossNumber (losses.Report words) = 0
-lossNumber (losses.Refused n) = n
 
 module _ (h : Head) (ws list : List ℕ) (now : ℤ) where
   -- refused, an outcome has the head and the areas of the call
   abbrev pub LossStays : loss.LossOutcome → Type 0
-  LossStays x = (lossNumber (x .reported .answer) ≡ 0 → ⊥) → x ≡ loss.lossEnded (record { head = h; answer = x .reported .answer }) ws list
+  LossStays x = (x .line .refusal ≡ 0 → ⊥) → x ≡ loss.lossEnded (record { head = h; answer = x .reported .answer }) ws list
 
   loss-by : (t : Bool) (x y : loss.LossOutcome) → LossStays x → LossStays y → LossStays (cond t x y)
   loss-by true x y p q = p
@@ -68,15 +60,9 @@ module _ (h : Head) (ws list : List ℕ) (now : ℤ) where
       let n = firstRefusal (timedRules (headOk h) (length ws) (3 * h .window .capacity) now (h .latest)) in
       loss-by (eqb n 0) (loss.reportedOf h ws list now) (loss.lossEnded (record { head = h; answer = losses.Refused n }) ws list) reported-stays (λ e. refl)
 
-abbrev pub messageNumber : MessageAnswer → ℕ
-messageNumber messages.Nothing = 0
-messageNumber (messages.Message time bytes packets) = 0
-messageNumber (messages.Late first end delay) = 0
-messageNumber (messages.Refused n) = n
-
 module _ (h : Head) (ws bs out : List ℕ) (now : ℤ) where
   abbrev pub MessageStays : message.GivenOutcome → Type 0
-  MessageStays x = (messageNumber (x .given .answer) ≡ 0 → ⊥) → x ≡ message.givenEnded (record { head = h; answer = x .given .answer }) out
+  MessageStays x = (x .line .refusal ≡ 0 → ⊥) → x ≡ message.givenEnded (record { head = h; answer = x .given .answer }) out
 
   given-by : (t : Bool) (x y : message.GivenOutcome) → MessageStays x → MessageStays y → MessageStays (cond t x y)
   given-by true x y p q = p

@@ -1,7 +1,6 @@
 -- What the code of sync.rt does at each return, as laws over plain values. A signed number stands twice, as it is and as the machine reads it
 -- back. Assumes nothing.
-use mathlib.Core.Path.{_≡_, refl, sym, _∙_, ap}
-use mathlib.Core.Bool.{Bool}
+use mathlib.Core.Path.{_≡_, sym, _∙_, ap}
 use Prim.Native.Nat.{ℕ}
 use borrow.Author.Needs.{needs}
 use lib.Ieee.{Float}
@@ -12,12 +11,12 @@ use Rattle.clock.specs.declared.time.SynchronizedRemoteClock.{SynchronizedRemot
 use Rattle.clock.specs.declared.time.Step.{Step}
 use Rattle.clock.specs.declared.time.Synchronized.{Synchronized}
 use Rattle.clock.specs.declared.time.Synchronized.the-variants as clocks
-use Rattle.head.specs.Rules.{firstRefusal, judged, clockRules}
+use Rattle.head.specs.Rules.{firstRefusal, clockRules}
 use Rattle.head.specs.Head.{headOk}
 use Rattle.head.specs.declared.state.Head.{Head}
 use Rattle.head.proofs.Gates.{taken, refused}
 use Rattle.head.proofs.Ready.{Timed, clock-ready}
-use Rattle.receiver.specs.Sync.{withClock, afterSync, syncOf, clockOf}
+use Rattle.receiver.specs.Sync.{withClock, afterSync, syncOf, ClockOutcome, clockEnded, clockOf}
 use Rattle.receiver.specs.declared.sync.Clocked.{Clocked}
 use Rattle.receiver.specs.declared.sync.ClockAnswer.the-variants as answers
 
@@ -50,12 +49,15 @@ module _ (h : Head) (now : ℤ) where
     same : n ≡ firstRefusal (clockRules (headOk h) now (h .latest))
     same = b ∙ rw p
 
-    pub clock-taken : (stamp : ℕ) {m : ℤ} {r : Clocked} → n ≡ 0 → r ≡ syncOf h m stamp → m ≡ now → r ≡ clockOf h now stamp
-    unfolding clockOf
-    clock-taken stamp z f e = f ∙ rw e (sym (taken (syncOf h now stamp) (λ n. record { head = h; answer = answers.Refused n }) same z))
+    stays : ℕ → ClockOutcome
+    stays k = clockEnded (record { head = h; answer = answers.Refused k })
 
-    pub clock-refused : (stamp : ℕ) → (n ≡ 0 → ⊥) → _≡_ {A = Clocked} (record { head = h; answer = answers.Refused n }) (clockOf h now stamp)
-    unfolding clockOf
-    clock-refused stamp z = sym (refused (syncOf h now stamp) (λ n. record { head = h; answer = answers.Refused n }) same z)
+    pub clock-taken : (stamp : ℕ) {m : ℤ} {r : Clocked} → n ≡ 0 → r ≡ syncOf h m stamp → m ≡ now → clockEnded r ≡ clockOf h now stamp
+    unfolding clockOf stays
+    clock-taken stamp z f e = ap clockEnded f ∙ rw e (sym (taken (clockEnded (syncOf h now stamp)) stays same z))
+
+    pub clock-refused : (stamp : ℕ) → (n ≡ 0 → ⊥) → clockEnded (record { head = h; answer = answers.Refused n }) ≡ clockOf h now stamp
+    unfolding clockOf stays
+    clock-refused stamp z = sym (refused (clockEnded (syncOf h now stamp)) stays same z)
 
 pub ruleset syncs = (sync-nothing, sync-adjusted, sync-unsteady, sync-refused, sync-ready, synced, sync-timed, clock-taken, clock-refused, needs)

@@ -22,6 +22,7 @@ use Rattle.head.specs.Rules.{firstRefusal, judged, timedRules}
 use Rattle.head.specs.Head.{headOk}
 use Rattle.head.specs.declared.state.Head.{Head}
 use Rattle.head.proofs.Ready.{InRange}
+use Rattle.receiver.specs.Paper.{Line, fullAckLine, rttLine}
 use Rattle.receiver.specs.declared.acking.FullAcked.{FullAcked}
 use Rattle.receiver.specs.declared.acking.FullAckAnswer.{FullAckAnswer}
 use Rattle.receiver.specs.declared.acking.FullAckAnswer.the-variants as answers
@@ -64,13 +65,14 @@ afterAck h y acks.Nothing now = record { head = withLatest h now; answer = answe
 afterAck h y acks.Worn now = record { head = h; answer = answers.Refused 13 }
 afterAck h y (acks.Ack n) now = record { head = withHistory h y now; answer = figuresOf n (h .window) (h .rtt) (h .arrivals) (h .links) }
 
--- all that a full ACK leaves: the head and the answer, and the history area
+-- all that a full ACK leaves: the head and the answer, its line on paper, and the history area
 pub record FullAckOutcome : Type 0 where
   pub acked : FullAcked
+  pub line : Line
   pub area : List ℕ
 
 abbrev pub fullAckEnded : FullAcked → List ℕ → FullAckOutcome
-fullAckEnded r a = record { acked = r; area = a }
+fullAckEnded r a = record { acked = r; line = fullAckLine (r .answer); area = a }
 
 -- a full ACK with room: what the history does, at this reading
 abbrev pub ofHistory : Head → AckOutcome → ℤ → FullAckOutcome
@@ -101,8 +103,16 @@ heldAck2 h a now number =
     let k = ack2Of (h .history) a (natAbs now) number in
     afterAck2 h (k .history) (k .answer) now
 
-unfoldable pub ack2PacketOf : Head → List ℕ → ℤ → ℕ → Ack2ed
+-- all that an ACK2 leaves: the head and the answer, and its line on paper
+pub record Ack2Outcome : Type 0 where
+  pub acked2 : Ack2ed
+  pub line : Line
+
+abbrev pub ack2Ended : Ack2ed → Ack2Outcome
+ack2Ended r = record { acked2 = r; line = rttLine (r .answer) }
+
+unfoldable pub ack2PacketOf : Head → List ℕ → ℤ → ℕ → Ack2Outcome
 ack2PacketOf h a now number =
     judged (firstRefusal (timedRules (headOk h) (length a) 2048 now (h .latest)))
-    (heldAck2 h a now number)
-    (λ n. record { head = h; answer = rtts.Refused n })
+    (ack2Ended (heldAck2 h a now number))
+    (λ n. ack2Ended (record { head = h; answer = rtts.Refused n }))

@@ -17,18 +17,20 @@ use Rattle.window.specs.declared.push.PushAnswer.the-variants as pushes
 use Rattle.head.specs.Rules.{firstRefusal, judged, pushRules}
 use Rattle.head.specs.Head.{headOk}
 use Rattle.head.specs.declared.state.Head.{Head}
+use Rattle.receiver.specs.Paper.{Line, dataLine}
 use Rattle.receiver.specs.declared.data.Handled.{Handled}
 use Rattle.receiver.specs.declared.data.DataAnswer.{DataAnswer}
 use Rattle.receiver.specs.declared.data.DataAnswer.the-variants as answers
 
--- all that the call leaves: the head and the answer, the slot area and the payload area
+-- all that the call leaves: the head and the answer, its line on paper, the slot area and the payload area
 pub record DataOutcome : Type 0 where
   pub handled : Handled
+  pub line : Line
   pub slots : List ℕ
   pub payloads : List ℕ
 
 abbrev pub dataEnded : Handled → List ℕ → List ℕ → DataOutcome
-dataEnded r ws bs = record { handled = r; slots = ws; payloads = bs }
+dataEnded r ws bs = record { handled = r; line = dataLine (r .answer); slots = ws; payloads = bs }
 
 abbrev pub packet : ℕ → ℕ → ℕ → ℕ → Packet
 packet number message location stamp = record { number = number; message = message; location = location; stamp = stamp }

@@ -10,18 +10,20 @@ use Rattle.window_report.specs.declared.report.ReportAnswer.the-variants as rep
 use Rattle.head.specs.Rules.{firstRefusal, judged, timedRules}
 use Rattle.head.specs.Head.{headOk}
 use Rattle.head.specs.declared.state.Head.{Head}
+use Rattle.receiver.specs.Paper.{Line, lossLine}
 use Rattle.receiver.specs.declared.loss.Reported.{Reported}
 use Rattle.receiver.specs.declared.loss.LossAnswer.{LossAnswer}
 use Rattle.receiver.specs.declared.loss.LossAnswer.the-variants as answers
 
--- all that the call leaves: the head, the answer, the slot area and the list of loss words
+-- all that the call leaves: the head and the answer, its line on paper, the slot area and the list of loss words
 pub record LossOutcome : Type 0 where
   pub reported : Reported
+  pub line : Line
   pub slots : List ℕ
   pub list : List ℕ
 
 abbrev pub lossEnded : Reported → List ℕ → List ℕ → LossOutcome
-lossEnded r ws list = record { reported = r; slots = ws; list = list }
+lossEnded r ws list = record { reported = r; line = lossLine (r .answer) list; slots = ws; list = list }
 
 -- the head with the reading as its latest
 abbrev pub withLatest : Head → ℤ → Head

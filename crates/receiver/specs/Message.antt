@@ -11,17 +11,19 @@ use Rattle.window_pop.specs.declared.pop.PopAnswer.the-variants as pops
 use Rattle.head.specs.Rules.{firstRefusal, judged, popRules}
 use Rattle.head.specs.Head.{headOk}
 use Rattle.head.specs.declared.state.Head.{Head}
+use Rattle.receiver.specs.Paper.{Line, messageLine}
 use Rattle.receiver.specs.declared.message.Given.{Given}
 use Rattle.receiver.specs.declared.message.MessageAnswer.{MessageAnswer}
 use Rattle.receiver.specs.declared.message.MessageAnswer.the-variants as answers
 
--- all that the call leaves: the head, the answer and the output
+-- all that the call leaves: the head and the answer, its line on paper, and the output
 pub record GivenOutcome : Type 0 where
   pub given : Given
+  pub line : Line
   pub output : List ℕ
 
 abbrev pub givenEnded : Given → List ℕ → GivenOutcome
-givenEnded r out = record { given = r; output = out }
+givenEnded r out = record { given = r; line = messageLine (r .answer); output = out }
 
 -- the head with another window and clock, and the reading as its latest
 abbrev pub withPop : Head → Window → SynchronizedRemoteClock → ℤ → Head

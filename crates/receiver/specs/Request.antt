@@ -8,6 +8,7 @@ use Rattle.window_report.specs.Drop.{dropOf}
 use Rattle.head.specs.Rules.{firstRefusal, judged, dropRules, headRules}
 use Rattle.head.specs.Head.{headOk}
 use Rattle.head.specs.declared.state.Head.{Head}
+use Rattle.receiver.specs.Paper.{Line, dropLine, clearLine, roomLine}
 use Rattle.receiver.specs.declared.request.DropAnswer.{DropAnswer}
 use Rattle.receiver.specs.declared.request.DropAnswer.the-variants as drops
 use Rattle.receiver.specs.declared.request.Cleared.{Cleared}
@@ -15,13 +16,14 @@ use Rattle.receiver.specs.declared.request.ClearAnswer.the-variants as c
 use Rattle.receiver.specs.declared.request.RoomAnswer.{RoomAnswer}
 use Rattle.receiver.specs.declared.request.RoomAnswer.the-variants as rooms
 
--- all that a drop request leaves: its answer and the slot area; the head is not its to change
+-- all that a drop request leaves: its answer and the line on paper, and the slot area; the head is not its to change
 pub record DropOutcome : Type 0 where
   pub answer : DropAnswer
+  pub line : Line
   pub slots : List ℕ
 
 abbrev pub dropEnded : DropAnswer → List ℕ → DropOutcome
-dropEnded a ws = record { answer = a; slots = ws }
+dropEnded a ws = record { answer = a; line = dropLine a; slots = ws }
 
 abbrev pub goneOf : Head → List ℕ → ℕ → ℕ → DropOutcome
 goneOf h ws first last = dropEnded (drops.Gone (dropOf (h .window) ws first last .count)) (dropOf (h .window) ws first last .slots)
@@ -54,12 +56,28 @@ clearedOf h =
       latest = h .latest;
     }
 
-unfoldable pub clearOf : Head → Cleared
+-- all that a clear leaves
+pub record ClearOutcome : Type 0 where
+  pub cleared : Cleared
+  pub line : Line
+
+abbrev pub clearEnded : Cleared → ClearOutcome
+clearEnded r = record { cleared = r; line = clearLine (r .answer) }
+
+unfoldable pub clearOf : Head → ClearOutcome
 clearOf h =
     judged (firstRefusal (headRules (headOk h)))
-    (record { head = clearedOf h; answer = clears.Cleared })
-    (λ n. record { head = h; answer = clears.Refused n })
+    (clearEnded (record { head = clearedOf h; answer = clears.Cleared }))
+    (λ n. clearEnded (record { head = h; answer = clears.Refused n }))
+
+-- all that the question of room leaves
+pub record RoomOutcome : Type 0 where
+  pub answer : RoomAnswer
+  pub line : Line
+
+abbrev pub roomEnded : RoomAnswer → RoomOutcome
+roomEnded a = record { answer = a; line = roomLine a }
 
 -- room is capacity - held
-unfoldable pub roomCallOf : Head → RoomAnswer
-roomCallOf h = judged (firstRefusal (headRules (headOk h))) (rooms.Room (roomOf (h .window))) rooms.Refused
+unfoldable pub roomCallOf : Head → RoomOutcome
+roomCallOf h = judged (firstRefusal (headRules (headOk h))) (roomEnded (rooms.Room (roomOf (h .window)))) (λ n. roomEnded (rooms.Refused n))

@@ -8,6 +8,7 @@ use Rattle.window.specs.declared.show.Place.{Place}
 use Rattle.head.specs.Rules.{firstRefusal, judged, showRules}
 use Rattle.head.specs.Head.{headOk}
 use Rattle.head.specs.declared.state.Head.{Head}
+use Rattle.receiver.specs.Paper.{Line, shownLine}
 use Rattle.receiver.specs.declared.show.ShowAnswer.{ShowAnswer}
 use Rattle.receiver.specs.declared.show.ShowAnswer.the-variants.{Received, Other, Refused}
 
@@ -18,6 +19,17 @@ refusalOf h ws bytes number = firstRefusal (showRules (headOk h) (h .window .cap
 unfoldable pub placeCallOf : Head → List ℕ → ℕ → ℕ → Place
 placeCallOf h ws bytes number = judged (refusalOf h ws bytes number) (shownOf (h .window) ws number) (λ n. nowhere)
 
+-- all that the second question leaves
+pub record ShownOutcome : Type 0 where
+  pub answer : ShowAnswer
+  pub line : Line
+
+abbrev pub shownEnded : ShowAnswer → ShownOutcome
+shownEnded a = record { answer = a; line = shownLine a }
+
 -- which of these, or received
-unfoldable pub shownCallOf : Head → List ℕ → ℕ → ℕ → ShowAnswer
-shownCallOf h ws bytes number = judged (refusalOf h ws bytes number) (cond (shownOf (h .window) ws number .received) Received Other) Refused
+abbrev pub foundAs : Place → ShownOutcome
+foundAs p = shownEnded (cond (p .received) Received Other)
+
+unfoldable pub shownCallOf : Head → List ℕ → ℕ → ℕ → ShownOutcome
+shownCallOf h ws bytes number = judged (refusalOf h ws bytes number) (foundAs (shownOf (h .window) ws number)) (λ n. shownEnded (Refused n))

@@ -8,8 +8,17 @@ use Rattle.clock.specs.declared.time.Synchronized.the-variants as clocks
 use Rattle.head.specs.Rules.{firstRefusal, judged, clockRules}
 use Rattle.head.specs.Head.{headOk}
 use Rattle.head.specs.declared.state.Head.{Head}
+use Rattle.receiver.specs.Paper.{Line, clockLine}
 use Rattle.receiver.specs.declared.sync.Clocked.{Clocked}
 use Rattle.receiver.specs.declared.sync.ClockAnswer.the-variants as answers
+
+-- all that the call leaves: the head and the answer, and its line on paper
+pub record ClockOutcome : Type 0 where
+  pub clocked : Clocked
+  pub line : Line
+
+abbrev pub clockEnded : Clocked → ClockOutcome
+clockEnded r = record { clocked = r; line = clockLine (r .answer) }
 
 -- the head with another clock, and the reading as its latest
 abbrev pub withClock : Head → SynchronizedRemoteClock → ℤ → Head
@@ -36,8 +45,8 @@ afterSync h k clocks.DriftRange now = record { head = h; answer = answers.Refuse
 unfoldable pub syncOf : Head → ℤ → ℕ → Clocked
 syncOf h now stamp = afterSync h (synchronized (h .clock) now stamp .clock) (synchronized (h .clock) now stamp .answer) now
 
-unfoldable pub clockOf : Head → ℤ → ℕ → Clocked
+unfoldable pub clockOf : Head → ℤ → ℕ → ClockOutcome
 clockOf h now stamp =
     judged (firstRefusal (clockRules (headOk h) now (h .latest)))
-    (syncOf h now stamp)
-    (λ n. record { head = h; answer = answers.Refused n })
+    (clockEnded (syncOf h now stamp))
+    (λ n. clockEnded (record { head = h; answer = answers.Refused n }))

@@ -4,7 +4,7 @@ ghost use mathlib.Core.Bool.{true};
 ghost use Prim.Native.Nat.{_≤_};
 ghost use Rattle.acks.specs.Rates.{arrivalsOk};
 ghost use Rattle.head.proofs.Ready.{InRange};
-ghost use Rattle.receiver.specs.Acking.{AckReady, withLatest, withHistory, withRtt, figuresOf, afterAck, roomyAck, dueAck, fullAckEnded, fullAckEventOf, afterAck2, heldAck2, ack2PacketOf};
+ghost use Rattle.receiver.specs.Acking.{AckReady, withLatest, withHistory, withRtt, figuresOf, afterAck, roomyAck, dueAck, fullAckEnded, fullAckEventOf, afterAck2, heldAck2, ack2Ended, ack2PacketOf};
 use acks::history::Ack2Answer;
 use acks::history::AckAnswer;
 use acks::history::History;
@@ -193,7 +193,7 @@ fn held_ack2(h: Head, area: &[u64], time: i64, number: u32) -> Ack2ed
 }
 
 pub fn handle_ack2_packet(h: Head, area: &[u64], time: i64, number: u32) -> Ack2ed
-    ensures { λ r. ⌜ r ≡ ack2PacketOf h (now (area .entry)) time number ⌝ }
+    ensures { λ r. ⌜ ack2Ended r ≡ ack2PacketOf h (now (area .entry)) time number ⌝ }
 {
     let n = head::refuse::history(h, area.len(), time);
     if n == 0 {

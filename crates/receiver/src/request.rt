@@ -3,7 +3,7 @@ ghost use mathlib.Core.Path.{_≡_};
 ghost use mathlib.Core.Bool.{true};
 ghost use Rattle.window.specs.Window.{Good};
 ghost use Rattle.head.specs.Head.{headOk};
-ghost use Rattle.receiver.specs.Request.{dropEnded, goneOf, dropCallOf, clearedOf, clearOf, roomCallOf};
+ghost use Rattle.receiver.specs.Request.{dropEnded, goneOf, dropCallOf, clearedOf, clearEnded, clearOf, roomEnded, roomCallOf};
 use head::state::Head;
 
 pub enum DropAnswer {
@@ -53,7 +53,7 @@ fn emptied(h: Head) -> Head
 }
 
 pub fn clear(h: Head) -> Cleared
-    ensures { λ r. ⌜ r ≡ clearOf h ⌝ }
+    ensures { λ r. ⌜ clearEnded r ≡ clearOf h ⌝ }
 {
     let n = head::refuse::head(h);
     if n == 0 {
@@ -69,7 +69,7 @@ pub fn clear(h: Head) -> Cleared
 }
 
 pub fn buffer_available(h: Head) -> RoomAnswer
-    ensures { λ r. ⌜ r ≡ roomCallOf h ⌝ }
+    ensures { λ r. ⌜ roomEnded r ≡ roomCallOf h ⌝ }
 {
     let w = h.window;
     let n = head::refuse::head(h);

@@ -2,7 +2,7 @@
 ghost use mathlib.Core.Path.{_≡_};
 ghost use lib.ListN.{length};
 ghost use Rattle.window.specs.Show.{ShownAt};
-ghost use Rattle.receiver.specs.Show.{placeCallOf, shownCallOf};
+ghost use Rattle.receiver.specs.Show.{placeCallOf, shownEnded, shownCallOf};
 use head::state::Head;
 use window::show::Place;
 
@@ -37,7 +37,7 @@ pub fn show<'a>(h: Head, words: &[u64], bytes: &'a [u8], number: u32) -> &'a [u8
 }
 
 pub fn shown(h: Head, words: &[u64], bytes: &[u8], number: u32) -> ShowAnswer
-    ensures { λ r. ⌜ r ≡ shownCallOf h (now (words .entry)) (length (now (bytes .entry))) number ⌝ }
+    ensures { λ r. ⌜ shownEnded r ≡ shownCallOf h (now (words .entry)) (length (now (bytes .entry))) number ⌝ }
 {
     let w = h.window;
     let n = head::refuse::show(h, words.len(), bytes.len(), number);

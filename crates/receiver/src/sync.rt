@@ -1,6 +1,6 @@
 // The clock call, arq.rs `synchronize_clock`: 01, "Clock".
 ghost use mathlib.Core.Path.{_≡_};
-ghost use Rattle.receiver.specs.Sync.{withClock, afterSync, syncOf, clockOf};
+ghost use Rattle.receiver.specs.Sync.{withClock, afterSync, syncOf, clockEnded, clockOf};
 ghost use Rattle.head.proofs.Ready.{Timed};
 use clock::time::Step;
 use clock::time::Synchronized;
@@ -73,7 +73,7 @@ fn synchronize(h: Head, time: i64, stamp: u32) -> Clocked
 }
 
 pub fn synchronize_clock(h: Head, time: i64, stamp: u32) -> Clocked
-    ensures { λ r. ⌜ r ≡ clockOf h time stamp ⌝ }
+    ensures { λ r. ⌜ clockEnded r ≡ clockOf h time stamp ⌝ }
 {
     let n = head::refuse::clock(h, time);
     if n == 0 {

@@ -1,4 +1,4 @@
--- What the proofs of this program hand to `search`. Assumes nothing.
+-- What the proofs of this crate hand to `search`. Assumes nothing.
 use borrow.Author.Needs.{needs}
 use Rattle.numbers.proofs.Signs.{widens}
 

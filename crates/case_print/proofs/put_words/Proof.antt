@@ -1,8 +1,8 @@
 use Prim.Native.Nat.{_≤_, _-_}
 use lib.ListN.{length}
-use Rattle.case_window.proofs.Steps.{steps}
-use Rattle.case_window.proofs.put_words.Statement.{statement}
-use Rattle.case_window.proofs.put_words.Tie as tie
+use Rattle.case_print.proofs.Steps.{steps}
+use Rattle.case_print.proofs.put_words.Statement.{statement}
+use Rattle.case_print.proofs.put_words.Tie as tie
 
 abbrev Inv-loop : tie.InvT-loop
 Inv-loop list n i₀ i = i ≤ length list

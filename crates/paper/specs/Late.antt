@@ -1,0 +1,17 @@
+-- Making's answer as 01 writes it, and which refusals 01 leaves to a right use: "Refused, in order of test".
+use mathlib.Core.Path.{_≡_}
+use mathlib.Core.Bool.{cond}
+use mathlib.Core.List.{[]}
+use mathlib.Core.Logic.{_⊎_}
+use Prim.Native.Nat.{_≤_}
+use lib.Dec.{eqb}
+use Rattle.head.specs.declared.state.Made.{Made}
+use Rattle.receiver.specs.Paper.{Line, refused, made}
+
+-- making has no line in a trace; it answers a head, or refusal 15
+abbrev pub madeLine : Made → Line
+madeLine m = record { word = cond (eqb (m .refusal) 0) made refused; refusal = m .refusal; values = []; exact = [] }
+
+-- what a call can still answer once 1 to 6 cannot occur: no refusal, or 7 to 14
+abbrev pub Late : Line → Type 0
+Late l = (l .refusal ≡ 0) ⊎ ((7 ≤ l .refusal) × (l .refusal ≤ 14))
