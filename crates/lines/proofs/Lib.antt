@@ -1,0 +1,2 @@
+-- The laws of lines; `Parts` is for the code of this crate.
+pub mod Parts

@@ -1,0 +1,12 @@
+use Rattle.lines.proofs.Parts.{parts}
+use Rattle.lines.proofs.part.open.Statement.{statement}
+use Rattle.lines.proofs.part.open.Tie as tie
+
+pub open-spec : {M : Type 1} → statement M
+open-spec =
+    tie.close
+    (tie.spec
+    (λ c κs. search parts)
+    (λ c κs. search parts)
+    (λ c. search parts)
+    (λ c. search parts))
