@@ -6,7 +6,7 @@ use native.Mathlib.Nat.{add-assoc}
 use native.Mathlib.Numerals.{add-one}
 use native.Mathlib.Omega.{arith}
 use lib.ListN.{length, take, drop, set, length-append, length-drop}
-use lib.Seq.{length-take-le, take-at, drop-at, drop-drop, set-split}
+use lib.Seq.{length-take-le, take-at, drop-at, drop-drop, paste-zero}
 use Rattle.text.specs.Put.{Put, put, putEnded, putOf}
 
 module _ (out : List ℕ) (at : ℕ) (bs : List ℕ) (room : at + length bs ≤ length out) where
@@ -27,6 +27,11 @@ module _ (out : List ℕ) (at : ℕ) (bs : List ℕ) (room : at + length bs ≤ 
       sym (drop-drop n (at + length bs) (put out at bs))
       ∙ ap (drop n) (drop-at (take at out ++ bs) (drop (at + length bs) out) (at + length bs) head-length)
       ∙ drop-drop n (at + length bs) out
+
+-- nothing put changes nothing
+pub put-none : (out : List ℕ) (at : ℕ) → out ≡ put out at []
+unfolding put
+put-none out at = paste-zero out at []
 
 -- two puts one after the other are one put of the joined bytes
 pub put-put : (out : List ℕ) (at : ℕ) (bs cs : List ℕ) → at + length bs ≤ length out
