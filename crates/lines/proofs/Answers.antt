@@ -11,8 +11,10 @@ use lib.IntN.{ℤ}
 use lib.Ieee.{Float}
 use lib.ListN.{length, take}
 use lib.Seq.{take-all, take-length}
+use Rattle.numbers.proofs.Flags.{by-order}
+use Rattle.numbers.proofs.Signs.{widens}
 use Rattle.text.specs.Put.{Put, putEnded, putOf}
-use Rattle.text.proofs.Puts.{put-cursor, put-then, put-room}
+use Rattle.text.proofs.Puts.{put-then}
 use Rattle.receiver.specs.Paper.{Value, got, light, message, late, report, refused, adjusted, whole, plain, refusedBy, dataLine, messageLine, lossLine, fullAckLine, rttLine, dropLine, clockLine, clearLine}
 use Rattle.receiver.specs.declared.data.DataAnswer.{DataAnswer}
 use Rattle.receiver.specs.declared.data.DataAnswer.the-variants as datas
@@ -79,6 +81,42 @@ module _ (out : List ℕ) (at n : ℕ) where
   pub clear-case : (a b : ClearAnswer) {x : Put} → a ≡ b → x ≡ putOf out at (lineBytes n (clearLine b)) → x ≡ putOf out at (lineBytes n (clearLine a))
   clear-case a b h e = rw h e
 
+-- loss_line: the first `w` words of a list are its first `min w (length list)`
+pub taken-in : (n w l : ℕ) → n ≡ min w l → n ≤ l
+taken-in n w l e = omega arith
+
+pub taken-room : (at n w l o : ℕ) → n ≡ min w l → at + (256 + 21 * l) ≤ o → at + (256 + 21 * n) ≤ o
+taken-room at n w l o e h = omega arith
+
+taken : (list : List ℕ) (w : ℕ) → take (min w (length list)) list ≡ take w list
+taken list w =
+    by-order w (length list)
+    (λ h. rw (min-eq-left (le-of-lt h)))
+    (λ h. rw (min-eq-right h) (take-length list ∙ sym (take-all w list h)))
+
+pub loss-report : (out : List ℕ) (at k : ℕ) (a : LossAnswer) (list : List ℕ) (n w : ℕ) {x : Put} → a ≡ losses.Report w → n ≡ min w (length list)
+    → x ≡ putOf out at (lineOf k (letters report) (map plain (take n list))) → x ≡ putOf out at (lineBytes k (lossLine a list))
+loss-report out at k a list n w h q e =
+    rw h (e ∙ ap (λ (l : List ℕ). putOf out at (lineOf k (letters report) (map plain l))) (ap (λ (m : ℕ). take m list) q ∙ taken list w))
+
+-- end_line, bad_line
+module _ (out : List ℕ) (at : ℕ) {p : ℕ} {out₁ : List ℕ} where
+  pub end-bytes : (i j k l : ℕ) {r : ℕ} {out₂ : List ℕ} → putEnded p out₁ ≡ putOf out at (101 ∷ 110 ∷ 100 ∷ []) → at + 256 ≤ length out
+      → putEnded r out₂ ≡ putOf out₁ p (closed (plain i ∷ plain j ∷ plain k ∷ plain l ∷ [])) → putEnded r out₂ ≡ putOf out at (endBytes i j k l)
+  unfolding endBytes
+  end-bytes i j k l e h f = put-then out at (101 ∷ 110 ∷ 100 ∷ []) (closed (plain i ∷ plain j ∷ plain k ∷ plain l ∷ [])) e f (omega arith)
+
+  pub bad-bytes : (i : ℕ) {r : ℕ} {out₂ : List ℕ} → putEnded p out₁ ≡ putOf out at (98 ∷ 97 ∷ 100 ∷ []) → at + 256 ≤ length out
+      → putEnded r out₂ ≡ putOf out₁ p (closed (plain i ∷ [])) → putEnded r out₂ ≡ putOf out at (badBytes i)
+  unfolding badBytes
+  bad-bytes i e h f = put-then out at (98 ∷ 97 ∷ 100 ∷ []) (closed (plain i ∷ [])) e f (omega arith)
+
+-- wider
+pub wide-back : {z z₁ z₂ : ℤ} → z₂ ≡ z₁ → z₁ ≡ z → z₂ ≡ z
+wide-back p q = p ∙ q
+
+pub ruleset widening = (widens, wide-back, needs)
+
 pub min-low : (a b : ℕ) → a < b → a ≡ min a b
 min-low a b h = sym (min-eq-left (le-of-lt h))
 
@@ -103,5 +141,10 @@ pub ruleset answers = (
   clear-case,
   min-low,
   min-high,
+  taken-in,
+  taken-room,
+  loss-report,
+  end-bytes,
+  bad-bytes,
   needs,
 )

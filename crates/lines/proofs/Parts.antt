@@ -81,8 +81,11 @@ module _ (out : List ℕ) (at n : ℕ) (w : List ℕ) {p : ℕ} {out₁ : List �
       let c = put-cursor out₁ p (32 ∷ w) f in
       omega (arith, decimal-short n b)
 
+pub start-within : (out : List ℕ) (at : ℕ) (w : List ℕ) {r : ℕ} {out₁ : List ℕ} → putEnded r out₁ ≡ putOf out at w → length w ≤ 8 → r ≤ at + 8
+start-within out at w e h = omega (arith, put-cursor out at w e)
+
 pub newline-bytes : (out : List ℕ) (at : ℕ) {r : ℕ} {out₁ : List ℕ} → putEnded r out₁ ≡ putOf out at (10 ∷ []) → putEnded r out₁ ≡ putOf out at (closed [])
 unfolding closed spaced
 newline-bytes out at e = e
 
-pub ruleset parts = (number-bytes, number-within, number-room, whole-bytes, whole-within, whole-room, word-bytes, word-room, open-room, open-bytes, open-within, newline-bytes, needs)
+pub ruleset parts = (number-bytes, number-within, number-room, whole-bytes, whole-within, whole-room, word-bytes, word-room, open-room, open-bytes, open-within, start-within, newline-bytes, needs)

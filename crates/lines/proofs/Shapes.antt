@@ -5,7 +5,7 @@ use Prim.Native.Nat.{ℕ, _+_, _*_, _≤_}
 use native.Mathlib.Omega.{arith}
 use borrow.Author.Needs.{needs}
 use lib.IntN.{ℤ}
-use lib.ListN.{length}
+use lib.ListN.{length, take}
 use Rattle.text.specs.Decimal.{decimal}
 use Rattle.text.specs.Put.{putEnded, putOf}
 use Rattle.text.proofs.Puts.{put-cursor, put-then}
@@ -31,8 +31,8 @@ module _ (out : List ℕ) (at n : ℕ) (w : List ℕ) {p : ℕ} {out₁ : List �
       → z₁ ≡ z → at + 256 ≤ length out → putEnded r out₂ ≡ putOf out₁ p (closed (u ∷ v ∷ whole z₁ ∷ [])) → putEnded r out₂ ≡ putOf out at (lineOf n w (u ∷ v ∷ whole z ∷ []))
   open-range u v z q h f = opened (u ∷ v ∷ whole z ∷ []) (omega arith) (f ∙ ap (λ (x : ℤ). putOf out₁ p (closed (u ∷ v ∷ whole x ∷ []))) q)
 
-  pub open-report : (list : List ℕ) {r : ℕ} {out₂ : List ℕ}
-      → at + (256 + 21 * length list) ≤ length out → putEnded r out₂ ≡ putOf out₁ p (closed (map plain list)) → putEnded r out₂ ≡ putOf out at (lineOf n w (map plain list))
-  open-report list h f = opened (map plain list) (omega arith) f
+  pub open-report : (list : List ℕ) (m : ℕ) {r : ℕ} {out₂ : List ℕ}
+      → at + (256 + 21 * m) ≤ length out → putEnded r out₂ ≡ putOf out₁ p (closed (map plain (take m list))) → putEnded r out₂ ≡ putOf out at (lineOf n w (map plain (take m list)))
+  open-report list m h f = opened (map plain (take m list)) (omega arith) f
 
 pub ruleset shapes = (open-closed, open-sign, open-range, open-report, needs)

@@ -8,7 +8,7 @@ use borrow.Author.Needs.{needs}
 use lib.Dec.{T, leb, leb→le}
 use lib.IntN.{ℤ, pos}
 use lib.ListN.{length, getD, take}
-use lib.Seq.{take-suc, take-length}
+use lib.Seq.{take-suc}
 use Rattle.text.specs.Decimal as decimals
 use Rattle.text.specs.Decimal.{decimal, signed}
 use Rattle.text.specs.Put.{putEnded, putOf}
@@ -91,34 +91,34 @@ module _ (out : List ℕ) (at : ℕ) {r : ℕ} {out₁ : List ℕ} where
 map-more : (list : List ℕ) (i : ℕ) → i < length list → map plain (take (i + 1) list) ≡ map plain (take i list) ++ (plain (getD list i 0) ∷ [])
 map-more list i h = rw (add-one i, take-suc list i 0 h) (map-append plain (take i list) (getD list i 0 ∷ []))
 
-module _ (out₀ : List ℕ) (at : ℕ) (list : List ℕ) where
+module _ (out₀ : List ℕ) (at : ℕ) (list : List ℕ) (n : ℕ) (all : n ≤ length list) where
   pub words-start : putEnded at out₀ ≡ putOf out₀ at (spaced (map plain (take 0 list)))
   unfolding spaced
   words-start = puts out₀ at [] (omega arith) (put-none out₀ at)
 
   pub words-again : (i : ℕ) {cursor p x : ℕ} {out out₁ : List ℕ}
       → putEnded cursor out ≡ putOf out₀ at (spaced (map plain (take i list))) → x ≡ getD list i 0
-      → putEnded p out₁ ≡ putOf out cursor (spaced (plain x ∷ [])) → i < length list → cursor ≤ at + 21 * i → at + 21 * length list ≤ length out₀
+      → putEnded p out₁ ≡ putOf out cursor (spaced (plain x ∷ [])) → i < n → cursor ≤ at + 21 * i → at + 21 * n ≤ length out₀
       → putEnded p out₁ ≡ putOf out₀ at (spaced (map plain (take (i + 1) list)))
   words-again i {cursor} {p} {x} {out} {out₁} e q f h w room =
       let us = map plain (take i list) in
       let a = put-cursor out₀ at (spaced us) e in
-      rw (map-more list i h)
+      rw (map-more list i (omega arith))
       (put-then out₀ at (spaced us) (spaced (plain (getD list i 0) ∷ [])) e (f ∙ ap (λ (y : ℕ). putOf out cursor (spaced (plain y ∷ []))) q) (omega arith)
       ∙ ap (putOf out₀ at) (sym (spaced-join us (plain (getD list i 0) ∷ []))))
 
   pub words-done : (i : ℕ) {cursor : ℕ} {out : List ℕ}
-      → putEnded cursor out ≡ putOf out₀ at (spaced (map plain (take i list))) → i ≤ length list → length list ≤ i
-      → putEnded cursor out ≡ putOf out₀ at (spaced (map plain list))
+      → putEnded cursor out ≡ putOf out₀ at (spaced (map plain (take i list))) → i ≤ n → n ≤ i
+      → putEnded cursor out ≡ putOf out₀ at (spaced (map plain (take n list)))
   words-done i e h k =
-      let q : i ≡ length list = omega arith in
-      e ∙ ap (λ (l : List ℕ). putOf out₀ at (spaced (map plain l))) (ap (λ (n : ℕ). take n list) q ∙ take-length list)
+      let q : i ≡ n = omega arith in
+      e ∙ ap (λ (m : ℕ). putOf out₀ at (spaced (map plain (take m list)))) q
 
   pub report-closed : {p r : ℕ} {out₁ out₂ : List ℕ}
-      → putEnded p out₁ ≡ putOf out₀ at (spaced (map plain list)) → p ≤ at + 21 * length list → at + (21 * length list + 1) ≤ length out₀
-      → putEnded r out₂ ≡ putOf out₁ p (closed []) → putEnded r out₂ ≡ putOf out₀ at (closed (map plain list))
+      → putEnded p out₁ ≡ putOf out₀ at (spaced (map plain (take n list))) → p ≤ at + 21 * n → at + (21 * n + 1) ≤ length out₀
+      → putEnded r out₂ ≡ putOf out₁ p (closed []) → putEnded r out₂ ≡ putOf out₀ at (closed (map plain (take n list)))
   report-closed e w h f =
-      let us = map plain list in
+      let us = map plain (take n list) in
       let a = put-cursor out₀ at (spaced us) e in
       put-then out₀ at (spaced us) (closed []) e f (omega arith)
       ∙ ap (putOf out₀ at) (closed-join us [] ∙ ap closed (append-nil us))

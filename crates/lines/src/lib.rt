@@ -100,7 +100,7 @@ pub fn loss_line(out: &mut [u8], at: usize, nth: u64, answer: LossAnswer, list: 
         LossAnswer::Nothing => line::bare(out, at, nth, b"none"),
         LossAnswer::Report { words } => {
             let n = smaller(words, list.len());
-            line::report(out, at, nth, &list[..n])
+            line::report(out, at, nth, list, n)
         }
         LossAnswer::Refused(n) => refused(out, at, nth, n),
     }
@@ -199,7 +199,7 @@ pub fn end_line(
     requires { ⌜ at + 256 ≤ length (now out) ⌝ }
     ensures { λ r. ⌜ putEnded r (now (out .exit)) ≡ putOf (now (out .entry)) at (endBytes records lrsn seqno0 held) ⌝ }
 {
-    let p = text::put_bytes(out, at, b"end");
+    let p = part::start(out, at, b"end");
     tail::tail4(out, p, records, lrsn as u64, seqno0 as u64, held as u64)
 }
 
@@ -208,6 +208,6 @@ pub fn bad_line(out: &mut [u8], at: usize, offset: u64) -> usize
     requires { ⌜ at + 256 ≤ length (now out) ⌝ }
     ensures { λ r. ⌜ putEnded r (now (out .exit)) ≡ putOf (now (out .entry)) at (badBytes offset) ⌝ }
 {
-    let p = text::put_bytes(out, at, b"bad");
+    let p = part::start(out, at, b"bad");
     tail::tail1(out, p, offset)
 }

@@ -2,7 +2,7 @@
 ghost use mathlib.Core.Path.{_≡_};
 ghost use mathlib.Core.List.{[], _∷_, map};
 ghost use Prim.Native.Nat.{_+_, _*_, _≤_};
-ghost use lib.ListN.{length};
+ghost use lib.ListN.{length, take};
 ghost use Rattle.text.specs.Put.{putEnded, putOf};
 ghost use Rattle.receiver.specs.Paper.{whole, plain, packetsOf, bytesOf, linkOf};
 ghost use Rattle.lines.specs.Lines.{lineOf, Room};
@@ -88,10 +88,11 @@ pub fn ack(
     tail::ack(out, p, number, lrsn, mean, variance, room, speed, link)
 }
 
-pub fn report(out: &mut [u8], at: usize, nth: u64, list: &[u32]) -> usize
-    requires { ⌜ at + (256 + 21 * length (now list)) ≤ length (now out) ⌝ }
-    ensures { λ r. ⌜ putEnded r (now (out .exit)) ≡ putOf (now (out .entry)) at (lineOf nth (114 ∷ 101 ∷ 112 ∷ 111 ∷ 114 ∷ 116 ∷ []) (map plain (now (list .entry)))) ⌝ }
+pub fn report(out: &mut [u8], at: usize, nth: u64, list: &[u32], n: usize) -> usize
+    requires { ⌜ n ≤ length (now list) ⌝ }
+    requires { ⌜ at + (256 + 21 * n) ≤ length (now out) ⌝ }
+    ensures { λ r. ⌜ putEnded r (now (out .exit)) ≡ putOf (now (out .entry)) at (lineOf nth (114 ∷ 101 ∷ 112 ∷ 111 ∷ 114 ∷ 116 ∷ []) (map plain (take n (now (list .entry))))) ⌝ }
 {
     let p = open(out, at, nth, b"report");
-    tail::report(out, p, list)
+    tail::report(out, p, list, n)
 }

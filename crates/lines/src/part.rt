@@ -53,6 +53,15 @@ pub fn open(out: &mut [u8], at: usize, nth: u64, letters: &[u8]) -> usize
     word(out, p, letters)
 }
 
+// A word by itself.
+pub fn start(out: &mut [u8], at: usize, letters: &[u8]) -> usize
+    requires { ⌜ at + 8 ≤ length (now out) ⌝ }
+    requires { ⌜ length (now letters) ≤ 8 ⌝ }
+    ensures { λ r. ⌜ Piece (now (out .entry)) at (now (letters .entry)) 8 r (now (out .exit)) ⌝ }
+{
+    text::put_bytes(out, at, letters)
+}
+
 pub fn newline(out: &mut [u8], at: usize) -> usize
     requires { ⌜ at + 1 ≤ length (now out) ⌝ }
     ensures { λ r. ⌜ putEnded r (now (out .exit)) ≡ putOf (now (out .entry)) at (closed []) ⌝ }

@@ -2,7 +2,7 @@
 ghost use mathlib.Core.Path.{_≡_};
 ghost use mathlib.Core.List.{[], _∷_, map};
 ghost use Prim.Native.Nat.{_+_, _*_, _≤_};
-ghost use lib.ListN.{length};
+ghost use lib.ListN.{length, take};
 ghost use Rattle.text.specs.Put.{putEnded, putOf};
 ghost use Rattle.receiver.specs.Paper.{whole as Paper·whole, plain, packetsOf, bytesOf, linkOf};
 ghost use Rattle.lines.specs.Lines.{spaced, closed, Piece};
@@ -165,24 +165,26 @@ fn wide(x: u32) -> u64
     x as u64
 }
 
-// The words of a report.
-fn words(out: &mut [u8], at: usize, list: &[u32]) -> usize
-    requires { ⌜ at + 21 * length (now list) ≤ length (now out) ⌝ }
-    ensures { λ r. ⌜ Piece (now (out .entry)) at (spaced (map plain (now (list .entry)))) (21 * length (now (list .entry))) r (now (out .exit)) ⌝ }
+// The words of a report: the first n of a list.
+fn words(out: &mut [u8], at: usize, list: &[u32], n: usize) -> usize
+    requires { ⌜ n ≤ length (now list) ⌝ }
+    requires { ⌜ at + 21 * n ≤ length (now out) ⌝ }
+    ensures { λ r. ⌜ Piece (now (out .entry)) at (spaced (map plain (take n (now (list .entry))))) (21 * n) r (now (out .exit)) ⌝ }
 {
     let mut cursor = at;
     let mut i = 0;
-    while i < list.len() {
+    while i < n {
         cursor = number(out, cursor, wide(list[i]));
         i += 1;
     }
     cursor
 }
 
-pub fn report(out: &mut [u8], at: usize, list: &[u32]) -> usize
-    requires { ⌜ at + (21 * length (now list) + 1) ≤ length (now out) ⌝ }
-    ensures { λ r. ⌜ putEnded r (now (out .exit)) ≡ putOf (now (out .entry)) at (closed (map plain (now (list .entry)))) ⌝ }
+pub fn report(out: &mut [u8], at: usize, list: &[u32], n: usize) -> usize
+    requires { ⌜ n ≤ length (now list) ⌝ }
+    requires { ⌜ at + (21 * n + 1) ≤ length (now out) ⌝ }
+    ensures { λ r. ⌜ putEnded r (now (out .exit)) ≡ putOf (now (out .entry)) at (closed (map plain (take n (now (list .entry))))) ⌝ }
 {
-    let p = words(out, at, list);
+    let p = words(out, at, list, n);
     newline(out, p)
 }

@@ -10,11 +10,11 @@ use Rattle.lines.proofs.tail.words.Statement.{statement}
 use Rattle.lines.proofs.tail.words.Tie as tie
 
 abbrev Inv-loop : tie.InvT-loop
-Inv-loop out₀ at list cursor₀ i₀ out cursor i =
-    (i ≤ length list) × (length out ≡ length out₀) × (cursor ≤ at + 21 * i) × (putEnded cursor out ≡ putOf out₀ at (spaced (map plain (take i list))))
+Inv-loop out₀ at list n cursor₀ i₀ out cursor i =
+    (i ≤ n) × (length out ≡ length out₀) × (cursor ≤ at + 21 * i) × (putEnded cursor out ≡ putOf out₀ at (spaced (map plain (take i list))))
 
 abbrev μ-loop : tie.MeasureT-loop
-μ-loop out₀ at list cursor₀ i₀ out cursor i = length list - i
+μ-loop out₀ at list n cursor₀ i₀ out cursor i = n - i
 
 pub words-spec : {M : Type 1} → statement M
 words-spec =
