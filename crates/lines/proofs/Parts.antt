@@ -88,4 +88,7 @@ pub newline-bytes : (out : List ℕ) (at : ℕ) {r : ℕ} {out₁ : List ℕ} �
 unfolding closed spaced
 newline-bytes out at e = e
 
-pub ruleset parts = (number-bytes, number-within, number-room, whole-bytes, whole-within, whole-room, word-bytes, word-room, open-room, open-bytes, open-within, start-within, newline-bytes, needs)
+pub newline-within : (out : List ℕ) (at : ℕ) {r : ℕ} {out₁ : List ℕ} → putEnded r out₁ ≡ putOf out at (10 ∷ []) → r ≤ at + 1
+newline-within out at e = omega (arith, put-cursor out at (10 ∷ []) e)
+
+pub ruleset parts = (number-bytes, number-within, number-room, whole-bytes, whole-within, whole-room, word-bytes, word-room, open-room, open-bytes, open-within, start-within, newline-bytes, newline-within, needs)

@@ -84,6 +84,9 @@ module _ (out : List ℕ) (at : ℕ) {r : ℕ} {out₁ : List ℕ} where
   unfolding closed spaced
   no-link l h e = rw h e
 
+  pub no-link-within : putEnded r out₁ ≡ putOf out at (32 ∷ 45 ∷ 10 ∷ []) → r ≤ at + 22
+  no-link-within e = omega (arith, put-cursor out at (32 ∷ 45 ∷ 10 ∷ []) e)
+
   pub some-link : (l : Link) {n : ℕ} → l ≡ links.Known n → putEnded r out₁ ≡ putOf out at (closed (plain n ∷ [])) → putEnded r out₁ ≡ putOf out at (closed (linkOf l ∷ []))
   some-link l h e = rw h e
 
@@ -123,6 +126,6 @@ module _ (out₀ : List ℕ) (at : ℕ) (list : List ℕ) (n : ℕ) (all : n ≤
       put-then out₀ at (spaced us) (closed []) e f (omega arith)
       ∙ ap (putOf out₀ at) (closed-join us [] ∙ ap closed (append-nil us))
 
-pub ruleset tails = (one-closed, sign-closed, two-closed, two-sign, pair-spaced, no-speed, no-speed-within, some-speed, no-link, some-link, needs)
+pub ruleset tails = (one-closed, sign-closed, two-closed, two-sign, pair-spaced, no-speed, no-speed-within, some-speed, no-link, no-link-within, some-link, needs)
 
 pub ruleset wording = (words-start, words-again, words-done, report-closed, needs)

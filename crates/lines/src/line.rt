@@ -1,11 +1,9 @@
 // Whole lines by their shape: the record's number, a word, and values. 01, "Trace, mark DLT".
-ghost use mathlib.Core.Path.{_≡_};
 ghost use mathlib.Core.List.{[], _∷_, map};
 ghost use Prim.Native.Nat.{_+_, _*_, _≤_};
 ghost use lib.ListN.{length, take};
-ghost use Rattle.text.specs.Put.{putEnded, putOf};
 ghost use Rattle.receiver.specs.Paper.{whole, plain, packetsOf, bytesOf, linkOf};
-ghost use Rattle.lines.specs.Lines.{lineOf, Room};
+ghost use Rattle.lines.specs.Lines.{lineOf, Room, Piece};
 use crate::part::newline;
 use crate::part::open;
 use crate::tail;
@@ -14,7 +12,7 @@ use acks::rates::Speed;
 
 pub fn bare(out: &mut [u8], at: usize, nth: u64, word: &[u8]) -> usize
     requires { ⌜ Room (now out) at (now word) ⌝ }
-    ensures { λ r. ⌜ putEnded r (now (out .exit)) ≡ putOf (now (out .entry)) at (lineOf nth (now (word .entry)) []) ⌝ }
+    ensures { λ r. ⌜ Piece (now (out .entry)) at (lineOf nth (now (word .entry)) []) 256 r (now (out .exit)) ⌝ }
 {
     let p = open(out, at, nth, word);
     newline(out, p)
@@ -22,7 +20,7 @@ pub fn bare(out: &mut [u8], at: usize, nth: u64, word: &[u8]) -> usize
 
 pub fn one(out: &mut [u8], at: usize, nth: u64, word: &[u8], a: u64) -> usize
     requires { ⌜ Room (now out) at (now word) ⌝ }
-    ensures { λ r. ⌜ putEnded r (now (out .exit)) ≡ putOf (now (out .entry)) at (lineOf nth (now (word .entry)) (plain a ∷ [])) ⌝ }
+    ensures { λ r. ⌜ Piece (now (out .entry)) at (lineOf nth (now (word .entry)) (plain a ∷ [])) 256 r (now (out .exit)) ⌝ }
 {
     let p = open(out, at, nth, word);
     tail::tail1(out, p, a)
@@ -30,7 +28,7 @@ pub fn one(out: &mut [u8], at: usize, nth: u64, word: &[u8], a: u64) -> usize
 
 pub fn two(out: &mut [u8], at: usize, nth: u64, word: &[u8], a: u64, b: u64) -> usize
     requires { ⌜ Room (now out) at (now word) ⌝ }
-    ensures { λ r. ⌜ putEnded r (now (out .exit)) ≡ putOf (now (out .entry)) at (lineOf nth (now (word .entry)) (plain a ∷ plain b ∷ [])) ⌝ }
+    ensures { λ r. ⌜ Piece (now (out .entry)) at (lineOf nth (now (word .entry)) (plain a ∷ plain b ∷ [])) 256 r (now (out .exit)) ⌝ }
 {
     let p = open(out, at, nth, word);
     tail::tail2(out, p, a, b)
@@ -38,7 +36,7 @@ pub fn two(out: &mut [u8], at: usize, nth: u64, word: &[u8], a: u64, b: u64) -> 
 
 pub fn three(out: &mut [u8], at: usize, nth: u64, word: &[u8], a: u64, b: u64, c: u64) -> usize
     requires { ⌜ Room (now out) at (now word) ⌝ }
-    ensures { λ r. ⌜ putEnded r (now (out .exit)) ≡ putOf (now (out .entry)) at (lineOf nth (now (word .entry)) (plain a ∷ plain b ∷ plain c ∷ [])) ⌝ }
+    ensures { λ r. ⌜ Piece (now (out .entry)) at (lineOf nth (now (word .entry)) (plain a ∷ plain b ∷ plain c ∷ [])) 256 r (now (out .exit)) ⌝ }
 {
     let p = open(out, at, nth, word);
     tail::tail3(out, p, a, b, c)
@@ -46,7 +44,7 @@ pub fn three(out: &mut [u8], at: usize, nth: u64, word: &[u8], a: u64, b: u64, c
 
 pub fn whole_one(out: &mut [u8], at: usize, nth: u64, word: &[u8], z: i64, a: u64) -> usize
     requires { ⌜ Room (now out) at (now word) ⌝ }
-    ensures { λ r. ⌜ putEnded r (now (out .exit)) ≡ putOf (now (out .entry)) at (lineOf nth (now (word .entry)) (whole z ∷ plain a ∷ [])) ⌝ }
+    ensures { λ r. ⌜ Piece (now (out .entry)) at (lineOf nth (now (word .entry)) (whole z ∷ plain a ∷ [])) 256 r (now (out .exit)) ⌝ }
 {
     let p = open(out, at, nth, word);
     tail::signed1(out, p, z, a)
@@ -54,7 +52,7 @@ pub fn whole_one(out: &mut [u8], at: usize, nth: u64, word: &[u8], z: i64, a: u6
 
 pub fn whole_two(out: &mut [u8], at: usize, nth: u64, word: &[u8], z: i64, a: u64, b: u64) -> usize
     requires { ⌜ Room (now out) at (now word) ⌝ }
-    ensures { λ r. ⌜ putEnded r (now (out .exit)) ≡ putOf (now (out .entry)) at (lineOf nth (now (word .entry)) (whole z ∷ plain a ∷ plain b ∷ [])) ⌝ }
+    ensures { λ r. ⌜ Piece (now (out .entry)) at (lineOf nth (now (word .entry)) (whole z ∷ plain a ∷ plain b ∷ [])) 256 r (now (out .exit)) ⌝ }
 {
     let p = open(out, at, nth, word);
     tail::signed2(out, p, z, a, b)
@@ -62,7 +60,7 @@ pub fn whole_two(out: &mut [u8], at: usize, nth: u64, word: &[u8], z: i64, a: u6
 
 pub fn two_whole(out: &mut [u8], at: usize, nth: u64, word: &[u8], a: u64, b: u64, z: i64) -> usize
     requires { ⌜ Room (now out) at (now word) ⌝ }
-    ensures { λ r. ⌜ putEnded r (now (out .exit)) ≡ putOf (now (out .entry)) at (lineOf nth (now (word .entry)) (plain a ∷ plain b ∷ whole z ∷ [])) ⌝ }
+    ensures { λ r. ⌜ Piece (now (out .entry)) at (lineOf nth (now (word .entry)) (plain a ∷ plain b ∷ whole z ∷ [])) 256 r (now (out .exit)) ⌝ }
 {
     let p = open(out, at, nth, word);
     tail::range(out, p, a, b, z)
@@ -82,7 +80,7 @@ pub fn ack(
     link: Link,
 ) -> usize
     requires { ⌜ Room (now out) at (now word) ⌝ }
-    ensures { λ r. ⌜ putEnded r (now (out .exit)) ≡ putOf (now (out .entry)) at (lineOf nth (now (word .entry)) (plain number ∷ plain lrsn ∷ plain mean ∷ plain variance ∷ plain room ∷ packetsOf speed ∷ bytesOf speed ∷ linkOf link ∷ [])) ⌝ }
+    ensures { λ r. ⌜ Piece (now (out .entry)) at (lineOf nth (now (word .entry)) (plain number ∷ plain lrsn ∷ plain mean ∷ plain variance ∷ plain room ∷ packetsOf speed ∷ bytesOf speed ∷ linkOf link ∷ [])) 256 r (now (out .exit)) ⌝ }
 {
     let p = open(out, at, nth, word);
     tail::ack(out, p, number, lrsn, mean, variance, room, speed, link)
@@ -91,7 +89,7 @@ pub fn ack(
 pub fn report(out: &mut [u8], at: usize, nth: u64, list: &[u32], n: usize) -> usize
     requires { ⌜ n ≤ length (now list) ⌝ }
     requires { ⌜ at + (256 + 21 * n) ≤ length (now out) ⌝ }
-    ensures { λ r. ⌜ putEnded r (now (out .exit)) ≡ putOf (now (out .entry)) at (lineOf nth (114 ∷ 101 ∷ 112 ∷ 111 ∷ 114 ∷ 116 ∷ []) (map plain (take n (now (list .entry))))) ⌝ }
+    ensures { λ r. ⌜ Piece (now (out .entry)) at (lineOf nth (114 ∷ 101 ∷ 112 ∷ 111 ∷ 114 ∷ 116 ∷ []) (map plain (take n (now (list .entry))))) (256 + 21 * n) r (now (out .exit)) ⌝ }
 {
     let p = open(out, at, nth, b"report");
     tail::report(out, p, list, n)

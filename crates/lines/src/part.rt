@@ -64,7 +64,7 @@ pub fn start(out: &mut [u8], at: usize, letters: &[u8]) -> usize
 
 pub fn newline(out: &mut [u8], at: usize) -> usize
     requires { ⌜ at + 1 ≤ length (now out) ⌝ }
-    ensures { λ r. ⌜ putEnded r (now (out .exit)) ≡ putOf (now (out .entry)) at (closed []) ⌝ }
+    ensures { λ r. ⌜ Piece (now (out .entry)) at (closed []) 1 r (now (out .exit)) ⌝ }
 {
     text::put_byte(out, at, 10)
 }
