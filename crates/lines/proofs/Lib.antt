@@ -3,3 +3,4 @@ pub mod Parts
 pub mod Tails
 pub mod Shapes
 pub mod Answers
+pub mod Examples
