@@ -1,6 +1,3 @@
--- The laws of lines; each of these is for the code of this crate.
-pub mod Parts
-pub mod Tails
-pub mod Shapes
+-- The laws of lines: `Answers` is for the code of this crate.
 pub mod Answers
 pub mod Examples

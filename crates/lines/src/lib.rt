@@ -1,16 +1,12 @@
 // The lines of the trace: 01, "Trace, mark DLT", "After the record's number (from 1) a line has ..". A function for each call's answer writes
 // the whole line at the cursor and answers the cursor behind it; `nth` is the record's number. Each needs room: only the trace calls them.
-mod line;
-mod part;
-mod tail;
-
 ghost use mathlib.Core.Path.{_≡_};
 ghost use mathlib.Core.List.{[]};
 ghost use Prim.Native.Nat.{_+_, _*_, _≤_, min};
 ghost use lib.ListN.{length};
 ghost use Rattle.receiver.specs.Paper.{dataLine, messageLine, lossLine, fullAckLine, rttLine, dropLine, clockLine, clearLine, refusedBy};
-ghost use Rattle.lines.specs.Lines.{lineBytes, endBytes, badBytes, Piece};
-use part::flag;
+ghost use Rattle.shapes.specs.Shapes.{Piece};
+ghost use Rattle.lines.specs.Lines.{lineBytes, endBytes, badBytes};
 use receiver::acking::FullAckAnswer;
 use receiver::acking::RttAnswer;
 use receiver::data::DataAnswer;
@@ -19,6 +15,10 @@ use receiver::message::MessageAnswer;
 use receiver::request::ClearAnswer;
 use receiver::request::DropAnswer;
 use receiver::sync::ClockAnswer;
+use shapes::line;
+use shapes::part;
+use shapes::part::flag;
+use shapes::tail;
 
 // A refusal without values; 0 is none, and has no number.
 fn refused(out: &mut [u8], at: usize, nth: u64, n: u32) -> usize
