@@ -1,8 +1,7 @@
 -- Worked examples, computed from the definitions: 01's own header and its pop, and the bytes of A68 and A69. Assumes nothing.
 use mathlib.Core.Path.{_≡_, refl}
 use mathlib.Core.Bool.{true}
-use mathlib.Core.List.{List, [], _∷_}
-use Prim.Native.Nat.{ℕ}
+use mathlib.Core.List.{[], _∷_}
 use lib.IntN.{pos, negsuc}
 use Rattle.numbers.specs.Circular as circular
 use Rattle.dlt.specs.Bytes.{bigFrom, big, field, timeAt}

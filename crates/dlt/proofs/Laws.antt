@@ -1,19 +1,17 @@
 -- What a reader of a file piece by piece may lean on: more bytes behind change nothing but a cut read, a record lies within its bytes and
 -- takes some, and its numbers are below their widths. Assumes nothing.
 use mathlib.Core.Path.{_≡_, refl, sym, _∙_, ap}
-use mathlib.Core.Bool.{cond}
 use mathlib.Core.List.{List, [], _∷_, _++_}
-use Prim.Native.Nat.{ℕ, zero, suc, _+_, _-_, _*_, _^_, _<_, _≤_}
-use native.Mathlib.Nat.{mul-assoc, pow-succ', pow-le-pow-right, lt-of-lt-of-le, min-le-left}
+use Prim.Native.Nat.{ℕ, zero, suc, _+_, _*_, _^_, _<_, _≤_}
+use native.Mathlib.Nat.{mul-assoc, pow-succ', pow-le-pow-right}
 use native.Mathlib.Omega.{arith}
-use borrow.Author.Tests.{lt-ltb, le-ltb, ne-eqb, ltb-true, ltb-false}
+use borrow.Author.Tests.{lt-ltb, le-ltb, ltb-false}
 use lib.Dec.{ltb}
-use lib.IntN.{ℤ}
 use lib.ListN.{length, getD, take, drop, length-append, length-drop, length-take, List·getD-append, List·getD-eq-default}
 use lib.Seq.{drop-append-le, take-append-le, getD-drop, getD-take}
 use lib.Signed.{mag}
 use Rattle.numbers.specs.Circular.{signed}
-use Rattle.numbers.proofs.Flags.{by-bool, by-test, by-order}
+use Rattle.numbers.proofs.Flags.{by-test, by-order}
 use Rattle.numbers.proofs.Signs.{signed-range}
 use Rattle.dlt.specs.Bytes.{bigFrom, big, byteAt, field, timeAt}
 use Rattle.dlt.specs.Header.{isMarked, settingsIn, headerOf}

@@ -1,21 +1,20 @@
 -- What the code of lib.rt does at each return, as laws over plain values: an answer's line by its case. Assumes nothing.
-use mathlib.Core.Path.{_≡_, refl, sym, _∙_, ap}
+use mathlib.Core.Path.{_≡_, sym, _∙_, ap}
 use mathlib.Core.Bool.{Bool}
-use mathlib.Core.List.{List, [], _∷_, _++_, map}
+use mathlib.Core.List.{List, [], _∷_, map}
 use Prim.Native.Nat.{ℕ, _+_, _*_, _<_, _≤_, min}
 use native.Mathlib.Nat.{min-eq-left, min-eq-right, le-of-lt}
 use native.Mathlib.Omega.{arith}
 use borrow.Author.Needs.{needs}
 use borrow.Author.Tests.{ne-eqb}
 use lib.IntN.{ℤ}
-use lib.Ieee.{Float}
 use lib.ListN.{length, take}
 use lib.Seq.{take-all, take-length}
 use Rattle.numbers.proofs.Flags.{by-order}
 use Rattle.numbers.proofs.Signs.{widens}
 use Rattle.text.specs.Put.{Put, putEnded, putOf}
 use Rattle.text.proofs.Puts.{put-then}
-use Rattle.receiver.specs.Paper.{Value, got, light, message, late, report, refused, adjusted, whole, plain, refusedBy, dataLine, messageLine, lossLine, fullAckLine, rttLine, dropLine, clockLine, clearLine}
+use Rattle.receiver.specs.Paper.{got, light, message, late, report, refused, adjusted, whole, plain, refusedBy, dataLine, messageLine, lossLine, fullAckLine, rttLine, dropLine, clockLine, clearLine}
 use Rattle.receiver.specs.declared.data.DataAnswer.{DataAnswer}
 use Rattle.receiver.specs.declared.data.DataAnswer.the-variants as datas
 use Rattle.receiver.specs.declared.message.MessageAnswer.{MessageAnswer}

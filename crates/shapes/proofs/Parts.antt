@@ -1,12 +1,11 @@
 -- What the code of part.rt does at each return, as laws over plain values. Assumes nothing.
-use mathlib.Core.Path.{_≡_, refl, sym, _∙_, ap}
-use mathlib.Core.List.{List, [], _∷_, _++_, append-assoc, append-nil}
+use mathlib.Core.Path.{_≡_, sym, _∙_, ap}
+use mathlib.Core.List.{List, [], _∷_, _++_, append-nil}
 use Prim.Native.Nat.{ℕ, suc, _+_, _^_, _<_, _≤_}
 use native.Mathlib.Omega.{arith}
 use borrow.Author.Needs.{needs}
-use lib.Dec.{T, leb, leb→le}
 use lib.IntN.{ℤ, pos, negsuc}
-use lib.ListN.{length, length-append}
+use lib.ListN.{length}
 use mir.Syntax.{w64}
 use mir.Val.{SFits}
 use Rattle.text.specs.Decimal as decimals
@@ -15,7 +14,7 @@ use Rattle.text.specs.Put.{putEnded, putOf}
 use Rattle.text.proofs.Numerals.{decimal-short}
 use Rattle.text.proofs.Puts.{put-cursor, put-then, put-room}
 use Rattle.receiver.specs.Paper.{Value, whole, plain}
-use Rattle.shapes.specs.Shapes.{valueBytes, spaced, closed, lineOf}
+use Rattle.shapes.specs.Shapes.{valueBytes, spaced, closed}
 
 -- a value by itself
 alone : (v : Value) → 32 ∷ valueBytes v ≡ spaced (v ∷ [])

@@ -1,23 +1,21 @@
 -- What the code of tail.rt does at each return, as laws over plain values. Assumes nothing.
 use mathlib.Core.Path.{_≡_, refl, sym, _∙_, ap}
 use mathlib.Core.List.{List, [], _∷_, _++_, map, map-append, append-assoc, append-nil}
-use Prim.Native.Nat.{ℕ, suc, _+_, _*_, _^_, _<_, _≤_}
+use Prim.Native.Nat.{ℕ, _+_, _*_, _<_, _≤_}
 use native.Mathlib.Numerals.{add-one}
 use native.Mathlib.Omega.{arith}
 use borrow.Author.Needs.{needs}
 use lib.Dec.{T, leb, leb→le}
-use lib.IntN.{ℤ, pos}
+use lib.IntN.{ℤ}
 use lib.ListN.{length, getD, take}
 use lib.Seq.{take-suc}
-use Rattle.text.specs.Decimal as decimals
-use Rattle.text.specs.Decimal.{decimal, signed}
 use Rattle.text.specs.Put.{putEnded, putOf}
 use Rattle.text.proofs.Puts.{put-cursor, put-then, puts, put-none}
 use Rattle.acks.specs.declared.rates.Speed.{Speed}
 use Rattle.acks.specs.declared.rates.Speed.the-variants as speeds
 use Rattle.acks.specs.declared.rates.Link.{Link}
 use Rattle.acks.specs.declared.rates.Link.the-variants as links
-use Rattle.receiver.specs.Paper.{Value, whole, dash, plain, packetsOf, bytesOf, linkOf}
+use Rattle.receiver.specs.Paper.{Value, whole, plain, packetsOf, bytesOf, linkOf}
 use Rattle.shapes.specs.Shapes.{valueBytes, spaced, closed}
 
 spaced-join : (us vs : List Value) → spaced (us ++ vs) ≡ spaced us ++ spaced vs

@@ -1,7 +1,6 @@
 -- Worked examples, computed from the definitions. Assumes nothing.
 use mathlib.Core.Path.{_≡_, refl}
 use mathlib.Core.List.{[], _∷_}
-use Prim.Native.Nat.{ℕ}
 use lib.IntN.{negsuc}
 use Rattle.text.specs.Decimal.{digits, decimal, signed}
 use Rattle.text.specs.Put.{put}

@@ -1,11 +1,10 @@
 -- Puts one after the other. Assumes nothing.
-use mathlib.Core.Path.{_≡_, refl, sym, _∙_, ap}
-use mathlib.Core.List.{List, [], _∷_, _++_, append-assoc}
-use Prim.Native.Nat.{ℕ, suc, _+_, _-_, _<_, _≤_}
+use mathlib.Core.Path.{_≡_, sym, _∙_, ap}
+use mathlib.Core.List.{List, [], _++_, append-assoc}
+use Prim.Native.Nat.{ℕ, _+_, _≤_}
 use native.Mathlib.Nat.{add-assoc}
-use native.Mathlib.Numerals.{add-one}
 use native.Mathlib.Omega.{arith}
-use lib.ListN.{length, take, drop, set, length-append, length-drop}
+use lib.ListN.{length, take, drop, length-append, length-drop}
 use lib.Seq.{length-take-le, take-at, drop-at, drop-drop, paste-zero}
 use Rattle.text.specs.Put.{Put, put, putEnded, putOf}
 
