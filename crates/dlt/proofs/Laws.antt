@@ -1,14 +1,15 @@
 -- What a reader of a file piece by piece may lean on: more bytes behind change nothing but a cut read, a record lies within its bytes and
 -- takes some, and its numbers are below their widths. Assumes nothing.
-use mathlib.Core.Path.{_≡_, refl, sym, _∙_, ap}
+use mathlib.Core.Path.{_≡_, refl, sym, _∙_, ap, subst}
 use mathlib.Core.List.{List, [], _∷_, _++_}
-use Prim.Native.Nat.{ℕ, zero, suc, _+_, _*_, _^_, _<_, _≤_}
+use Prim.Native.Nat.{ℕ, zero, suc, _+_, _-_, _*_, _^_, _<_, _≤_}
 use native.Mathlib.Nat.{mul-assoc, pow-succ', pow-le-pow-right}
 use native.Mathlib.Omega.{arith}
 use borrow.Author.Tests.{lt-ltb, le-ltb, ltb-false}
 use lib.Dec.{ltb}
 use lib.ListN.{length, getD, take, drop, length-append, length-drop, length-take, List·getD-append, List·getD-eq-default}
 use lib.Seq.{drop-append-le, take-append-le, getD-drop, getD-take}
+use lib.IntN.{ℤ}
 use lib.Signed.{mag}
 use Rattle.numbers.specs.Circular.{signed}
 use Rattle.numbers.proofs.Flags.{by-test, by-order}
@@ -160,6 +161,54 @@ size-some (Ack2 t n) whole good = omega arith
 size-some (Drop a b) whole good = omega arith
 size-some (Clock t n) whole good = omega arith
 size-some Clear whole good = omega arith
+
+-- at a cursor: the record, and the payload of a data record, end within the piece; the payload is at most 1,456 bytes
+pub record-in : (xs : List ℕ) (at : ℕ) {r : RecordRead} → r ≡ recordOf (drop at xs) → 0 < sizeOf r → at + sizeOf r ≤ length xs
+record-in xs at {r} e h =
+    let w : sizeOf r ≤ length xs - at = rw (e, ← length-drop at xs) (size-within (drop at xs)) in
+    omega arith
+
+pub payload-in : (xs : List ℕ) (at : ℕ) {r : RecordRead} {time : ℤ} {number message location stamp n : ℕ}
+    → r ≡ recordOf (drop at xs) → r ≡ Data time number message location stamp n → at + 24 + n ≤ length xs
+payload-in xs at e f =
+    let k = ap sizeOf f in
+    omega (arith, record-in xs at e (omega arith))
+
+abbrev ShortPayload : RecordRead → Type 0
+ShortPayload Short = Unit {0}
+ShortPayload Bad = Unit {0}
+ShortPayload (Data time number message location stamp n) = n ≤ 1456
+ShortPayload (Pop time) = Unit {0}
+ShortPayload (Report time) = Unit {0}
+ShortPayload (FullAck time) = Unit {0}
+ShortPayload (Ack2 time number) = Unit {0}
+ShortPayload (Drop first last) = Unit {0}
+ShortPayload (Clock time stamp) = Unit {0}
+ShortPayload Clear = Unit {0}
+
+short-payload : (xs : List ℕ) → ShortPayload (recordOf xs)
+unfolding recordOf fieldsOf dataOf
+short-payload xs =
+    by-test ShortPayload (ltb (length xs) (fixedOf (byteAt xs 0))) _ _
+    (λ t. tt)
+    (λ t.
+    by-kind (λ (kind : ℕ). ShortPayload (fieldsOf kind xs)) tt
+    (by-test ShortPayload (ltb 1456 (field xs 22 2)) _ _
+    (λ u. tt)
+    (λ u. by-test ShortPayload (ltb (length xs) (24 + field xs 22 2)) _ _ (λ v. tt) (λ v. ltb-false _ _ u)))
+    tt
+    tt
+    tt
+    tt
+    tt
+    tt
+    tt
+    (λ k l. rw (unknown xs k l) tt)
+    (byteAt xs 0))
+
+pub payload-short : (xs : List ℕ) {r : RecordRead} {time : ℤ} {number message location stamp n : ℕ}
+    → r ≡ recordOf xs → r ≡ Data time number message location stamp n → n ≤ 1456
+payload-short xs e f = subst ShortPayload (sym e ∙ f) (short-payload xs)
 
 -- numbers below their widths, of bytes
 abbrev pub AreBytes : List ℕ → Type 0
