@@ -1,0 +1,3 @@
+-- The laws of lines: `Answers` is for the code of this crate.
+pub mod Answers
+pub mod Examples

@@ -1,0 +1,12 @@
+use Rattle.shapes.proofs.Tails.{tails}
+use Rattle.shapes.proofs.tail.signed2.Statement.{statement}
+use Rattle.shapes.proofs.tail.signed2.Tie as tie
+
+pub signed2-spec : {M : Type 1} → statement M
+signed2-spec =
+    tie.close
+    (tie.spec
+    (λ c κs. search tails)
+    (λ c κs. search tails)
+    (λ c. search tails)
+    (λ c. search tails))

@@ -1,0 +1,2 @@
+-- The definitions of a line's shape: 01, "Trace, mark DLT".
+pub mod Shapes

@@ -1,0 +1,5 @@
+-- The laws of text; `Steps` is for the code of this crate.
+pub mod Numerals
+pub mod Puts
+pub mod Steps
+pub mod Examples
