@@ -1,0 +1,2 @@
+-- The trace: what a whole file gives.
+pub mod Trace
