@@ -1,0 +1,2 @@
+-- The table holds.
+pub mod Computed

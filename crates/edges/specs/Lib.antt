@@ -1,0 +1,2 @@
+-- The table of 01, "Both sides of the edge".
+pub mod Table
