@@ -1,0 +1,74 @@
+#!/usr/bin/env python3
+"""Makes the three recordings beside it: wrap.dlt, recovered.dlt, twice.dlt. Format: document 01, "Trace, mark DLT"."""
+import pathlib
+import struct
+
+HERE = pathlib.Path(__file__).resolve().parent
+LAST = 2**31 - 1
+
+
+def header(start, latency, dropping, first, capacity):
+    return b"DLT" + struct.pack(">HQIBIH", 1, start, latency, dropping, first, capacity)
+
+
+def data(now, number, stamp, text, message=0, location=3):
+    payload = text.encode()
+    return struct.pack(">BQIIBIH", 1, now, number % 2**31, message, location, stamp, len(payload)) + payload
+
+
+def pop(now):
+    return struct.pack(">BQ", 2, now)
+
+
+def report(now):
+    return struct.pack(">BQ", 3, now)
+
+
+def ack(now):
+    return struct.pack(">BQ", 4, now)
+
+
+def ack2(now, number):
+    return struct.pack(">BQI", 5, now, number)
+
+
+def frame(place):
+    return f"frame {place:02}"
+
+
+# A clean pass: 16 frames in order, a millisecond apart, the ninth with number 0; then one ACK, its ACK2, and every frame popped.
+first = LAST - 7
+wrap = header(0, 20000, 0, first, 32)
+for i in range(16):
+    wrap += data(1000 * i, first + i, 1000 * i, frame(i))
+wrap += ack(16000) + ack2(26000, 1)
+for i in range(17):
+    wrap += pop(40000)
+
+# Frames 2 and 3, with the numbers 2147483647 and 0, are lost, asked for, and sent again.
+first = LAST - 2
+recovered = header(0, 100000, 0, first, 32)
+for i in (0, 1, 4, 5):
+    recovered += data(1000 * i, first + i, 1000 * i, frame(i))
+recovered += report(10000) + report(24001)
+recovered += data(30000, first + 3, 3000, frame(3))
+recovered += report(54001) + report(54002)
+recovered += data(60000, first + 2, 2000, frame(2))
+for i in range(6):
+    recovered += pop(120000)
+
+# Every frame comes twice, and around the wrap late or not at all; late dropping is on.
+first = LAST - 1
+twice = header(0, 50000, 1, first, 8)
+twice += data(0, first, 0, frame(0)) + data(100, first, 0, frame(0))
+twice += data(2000, first + 2, 2000, frame(2)) + data(2100, first + 2, 2000, frame(2))
+twice += pop(50000) + pop(50001)
+twice += data(50002, first, 0, frame(0))
+twice += pop(57000)
+twice += data(57001, first + 1, 1000, frame(1))
+twice += data(57002, first + 2, 2000, frame(2))
+twice += data(57003, first + 3, 57003, frame(3)) + data(57004, first + 3, 57003, frame(3))
+twice += pop(107003) + pop(107004)
+
+for name, recording in (("wrap", wrap), ("recovered", recovered), ("twice", twice)):
+    (HERE / f"{name}.dlt").write_bytes(recording)
