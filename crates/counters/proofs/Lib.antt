@@ -1,3 +1,4 @@
 -- The laws of the counters.
 pub mod Rises
 pub mod Layers
+pub mod Determined

@@ -4,6 +4,7 @@ use mathlib.Core.Bool.{Bool, true, false, _&&_}
 use mathlib.Core.List.{List, [], _∷_}
 use Prim.Native.Nat.{ℕ}
 use borrow.Author.Needs.{needs}
+use borrow.Author.Tests.{ne-eqb}
 use denote.Enum.Declared.{tagOf}
 use lib.Dec.{eqb, leb}
 use lib.Ieee.{Float}
@@ -66,6 +67,9 @@ module _ (c : Counters) (size : ℕ) {w : ℕ} {g r : Counters} (e : w ≡ wire 
   pub refused-duplicate : (n : ℕ) → n ≡ 10 → g ≡ duplicate w → r ≡ raised c g → r ≡ refusedCounts c size n
   refused-duplicate n t f p = p ∙ rw (t, f, e)
 
+pub refused-stays : (c : Counters) (size n : ℕ) → (leb 7 n && leb n 9) ≡ false → (n ≡ 10 → ⊥) → c ≡ refusedCounts c size n
+refused-stays c size n t z = rw (t, ne-eqb n 10 z)
+
 -- after_data
 module _ (c : Counters) (size : ℕ) (a : DataAnswer) {r : Counters} where
   pub data-got : {lrsn : ℕ} {recovered : Bool} → a ≡ datas.Got lrsn recovered → r ≡ gotCounts c size recovered → r ≡ dataCounts c size a
@@ -108,4 +112,4 @@ clock-stays c (clocks.Adjusted mean deviation) p = absurd (miss (0 ∷ 2 ∷ 3 �
 clock-stays c (clocks.Unsteady deviation v) p = refl
 clock-stays c (clocks.Refused n) p = refl
 
-pub ruleset rises = (duplicate-made, unique-made, again-made, dropped-made, gone-made, unknown-made, found-made, adjusted-made, raised-made, got-again, got-unique, refused-dropped, refused-duplicate, data-got, data-light, data-loss, data-refused, data-early, ack2-unknown, ack2-found, ack2-refused, drop-gone, clock-adjusted, clock-stays, needs)
+pub ruleset rises = (duplicate-made, unique-made, again-made, dropped-made, gone-made, unknown-made, found-made, adjusted-made, raised-made, got-again, got-unique, refused-dropped, refused-duplicate, refused-stays, data-got, data-light, data-loss, data-refused, data-early, ack2-unknown, ack2-found, ack2-refused, drop-gone, clock-adjusted, clock-stays, needs)
