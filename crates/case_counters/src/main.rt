@@ -1,13 +1,9 @@
 // Runs the calls of the counter layer and writes a line for each: its name, then the ten counters in 003's order. Carries 01, "Counters follow 003" and "7 to 10 still count in the counters", by example.
 use case_print::put;
-use case_print::put_bytes;
 use case_print::put_count;
-use case_print::put_refused;
 use clock::base::TimeBase;
 use counters::Counters;
 use head::state::Head;
-use receiver::request::RoomAnswer;
-use receiver::show::ShowAnswer;
 
 // A head and its counters.
 struct State {
@@ -122,35 +118,6 @@ fn clock(s: State, time: i64, stamp: u32) -> State {
     after(b"clock", head, r.counters)
 }
 
-// The questions, which have no counters.
-fn questions(s: State, words: &[u64; 12], bytes: &[u8; 5824], number: u32) {
-    put(b"show ");
-    put_bytes(counters::show::show(s.head, words, bytes, number));
-    let answer = counters::show::shown(s.head, words, bytes, number);
-    match answer {
-        ShowAnswer::Received => {
-            put(b"shown received\n");
-        }
-        ShowAnswer::Other => {
-            put(b"shown other\n");
-        }
-        ShowAnswer::Refused(n) => {
-            put_refused(n);
-        }
-    }
-    let room = counters::request::buffer_available(s.head);
-    match room {
-        RoomAnswer::Room(n) => {
-            put(b"room");
-            put_count(n as u64);
-            put(b"\n");
-        }
-        RoomAnswer::Refused(n) => {
-            put_refused(n);
-        }
-    }
-}
-
 // The areas of capacity 4, and a payload one byte too long. They come from functions, so that no proof looks into them.
 
 fn slot_area() -> [u64; 12] {
@@ -237,7 +204,6 @@ fn refusals() {
     s = data(s, &mut ws, &mut bs, 0, 0, b"four");
     s = data(s, &mut ws, &mut bs, 0, 0, b"four");
     s = data(s, &mut ws, &mut bs, 0, 1, b"four");
-    questions(s, &ws, &bs, 0);
     s = pop(s, &ws, &bs, 0);
     s = data(s, &mut ws, &mut bs, 0, 0, b"four");
     data(s, &mut ws, &mut bs, 0, 3, b"");
