@@ -2,3 +2,4 @@
 pub mod Rises
 pub mod Layers
 pub mod Determined
+pub mod Examples

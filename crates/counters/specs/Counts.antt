@@ -31,32 +31,39 @@ counts packets bytes once onceBytes twice lost lostBytes acks errors adjustments
 abbrev pub fresh : Counters
 fresh = counts 0 0 0 0 0 0 0 0 0 0
 
--- what an answer raises; b is the packet's size
+-- What an answer raises, a row each; b is the packet's size.
+-- a packet that is new
 abbrev pub unique : ℕ → Counters
 unique b = counts 1 b 1 b 0 0 0 0 0 0
 
+-- one that was lost and is recovered
 abbrev pub again : ℕ → Counters
 again b = counts 1 b 0 0 1 0 0 0 0 0
 
+-- one refused by 7, 8 or 9
 abbrev pub dropped : ℕ → Counters
 dropped b = counts 1 b 0 0 0 1 b 0 0 0
 
+-- one refused by 10
 abbrev pub duplicate : ℕ → Counters
 duplicate b = counts 1 b 0 0 0 0 0 0 0 0
 
+-- n packets given up by a request
 abbrev pub gone : ℕ → Counters
 gone n = counts 0 0 0 0 0 n 0 0 0 0
 
+-- an ACK2 that is not held, and one that is found
 abbrev pub unknown : Counters
 unknown = counts 0 0 0 0 0 0 0 1 0 0
 
 abbrev pub found : Counters
 found = counts 0 0 0 0 0 0 0 1 1 0
 
+-- an adjustment of the clock
 abbrev pub adjusted : Counters
 adjusted = counts 0 0 0 0 0 0 0 0 0 1
 
--- mod 2^64
+-- counters go on mod 2^64
 abbrev pub sum : ℕ → ℕ → ℕ
 sum a b = (a + b) % 2 ^ 64
 
@@ -74,7 +81,7 @@ raised c r = counts
 abbrev pub wire : ℕ → ℕ
 wire size = sum size 16
 
--- a packet in the window: recovered, it is there again; else it is unique
+-- a packet that the window took
 abbrev pub gotCounts : Counters → ℕ → Bool → Counters
 gotCounts c size recovered = raised c (cond recovered (again (wire size)) (unique (wire size)))
 
@@ -93,7 +100,7 @@ dataCounts c size (datas.Loss first last) = raised c (unique (wire size))
 dataCounts c size (datas.Refused n) = refusedCounts c size n
 dataCounts c size (datas.PacketTooEarly room need) = refusedCounts c size 8
 
--- an ACK2; 003 counts a found one as an error (A6)
+-- an ACK2: 003 raises the errors for a found one (A6)
 abbrev pub ack2Counts : Counters → RttAnswer → Counters
 ack2Counts c rtts.Nothing = raised c unknown
 ack2Counts c (rtts.Rtt mean variance) = raised c found
