@@ -1,0 +1,14 @@
+use Rattle.counters.proofs.Rises.{rises}
+use Rattle.counters.proofs.request.after_drop.Statement.{statement}
+use Rattle.counters.proofs.request.after_drop.Tie as tie
+
+pub after-drop-spec : {M : Type 1} → statement M
+after-drop-spec =
+    tie.close
+    (tie.spec
+    (λ c. search rises)
+    (λ c. search rises)
+    (λ c. search rises)
+    (λ c κs. search rises)
+    (λ c κs. search rises)
+    (λ c. search rises))

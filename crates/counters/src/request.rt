@@ -1,0 +1,68 @@
+// The drop request with its counters, receiver/mod.rs `handle_drop_request`, and clear and room, which count nothing: 01, "Counters follow 003".
+ghost use mathlib.Core.Path.{_≡_};
+ghost use Rattle.receiver.specs.Request.{dropEnded, clearEnded, roomEnded, roomCallOf};
+ghost use Rattle.counters.specs.Counts.{gone, dropCounts};
+ghost use Rattle.counters.specs.Calls.{counted, dropCounted, clearCounted};
+use crate::Counters;
+use head::state::Head;
+use receiver::request::Cleared;
+use receiver::request::DropAnswer;
+use receiver::request::RoomAnswer;
+
+pub struct DropCounted {
+    pub counters: Counters,
+    pub answer: DropAnswer,
+}
+
+pub struct ClearCounted {
+    pub counters: Counters,
+    pub cleared: Cleared,
+}
+
+fn gone(n: usize) -> Counters
+    ensures { λ r. ⌜ r ≡ gone n ⌝ }
+{
+    let mut r = Counters::new();
+    r.rx_dropped_data = n as u64;
+    r
+}
+
+pub fn after_drop(c: Counters, answer: DropAnswer) -> Counters
+    ensures { λ r. ⌜ r ≡ dropCounts c answer ⌝ }
+{
+    let DropAnswer::Gone(n) = answer else {
+        return c;
+    };
+    c.raised(gone(n))
+}
+
+pub fn handle_drop_request(
+    c: Counters,
+    h: Head,
+    words: &mut [u64],
+    first: u32,
+    last: u32,
+) -> DropCounted
+    ensures { λ r. ⌜ counted (dropEnded (r .answer) (now (words .exit))) (r .counters) ≡ dropCounted c h (now (words .entry)) first last ⌝ }
+{
+    let answer = receiver::request::handle_drop_request(h, words, first, last);
+    let counters = after_drop(c, answer);
+    DropCounted { counters, answer }
+}
+
+pub fn clear(c: Counters, h: Head) -> ClearCounted
+    ensures { λ r. ⌜ counted (clearEnded (r .cleared)) (r .counters) ≡ clearCounted c h ⌝ }
+{
+    let cleared = receiver::request::clear(h);
+    ClearCounted {
+        counters: c,
+        cleared,
+    }
+}
+
+// A question: it leaves head and counters to its caller.
+pub fn buffer_available(h: Head) -> RoomAnswer
+    ensures { λ r. ⌜ roomEnded r ≡ roomCallOf h ⌝ }
+{
+    receiver::request::buffer_available(h)
+}
