@@ -1,1 +1,2 @@
 -- Laws of the trace.
+pub mod Steps

@@ -1,2 +1,3 @@
--- The trace: what a whole file gives.
+-- The trace: what a whole file gives, and what one turn gives of the bytes at hand.
 pub mod Trace
+pub mod Turn

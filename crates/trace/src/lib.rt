@@ -1,1 +1,221 @@
-// The trace: 01's file format read record by record, each record a call of the receiver, each answer a line.
+// The trace: 01's file format read record by record, each record a call of the receiver, each answer a line. 01, "Trace, mark DLT".
+// Nothing here reads or writes a file: the bytes at hand and a line are lent.
+ghost use mathlib.Core.Path.{_≡_};
+ghost use mathlib.Core.Bool.{_&&_, not, cond};
+ghost use Prim.Native.Nat.{_≤_};
+ghost use lib.Dec.{eqb, leb};
+ghost use lib.ListN.{length};
+ghost use Rattle.dlt.specs.declared.header.HeaderRead.the-variants as headers;
+ghost use Rattle.text.specs.Put.{putEnded, putOf};
+ghost use Rattle.lines.specs.Lines.{lineBytes};
+ghost use Rattle.step.specs.Step as steps;
+ghost use Rattle.trace.specs.Trace.{callIn, lengthIn};
+ghost use Rattle.trace.specs.Turn.{noHead, begunAs, begunBy, beginOf, isShort, lineNeed};
+ghost use Rattle.trace.specs.declared.Opened.the-variants as opened;
+use dlt::header::HeaderRead;
+use dlt::record::RecordRead;
+use head::state::Head;
+use step::Answer;
+use step::Call;
+
+// A replay between two records: the receiver's head, how many records were read, and where the next begins in the file.
+pub struct Trace {
+    pub head: Head,
+    pub count: u64,
+    pub offset: u64,
+}
+
+pub enum Opened {
+    // The bytes at hand end within the header.
+    Short,
+    // No trace, a refused setting, or a capacity over 32.
+    Bad,
+    Ready,
+}
+
+// The trace is of use only if it is ready: an enum cannot hold a head.
+pub struct Begun {
+    pub trace: Trace,
+    pub opened: Opened,
+}
+
+pub enum Status {
+    // A record was read and its line written.
+    Line,
+    // The record is not whole yet, and more may come.
+    More,
+    // The end line was written.
+    End,
+    // The bad line was written.
+    Bad,
+    // The lent line is too short; nothing is done.
+    LineShort,
+}
+
+// `size` bytes of the file were used, and the first `length` bytes of the lent line written.
+pub struct Turned {
+    pub trace: Trace,
+    pub size: usize,
+    pub length: usize,
+    pub status: Status,
+}
+
+fn judge(refusal: u32, capacity: usize) -> Opened
+    ensures { λ r. ⌜ r ≡ cond (not (eqb refusal 0 && leb capacity 32)) opened.Bad opened.Ready ⌝ }
+{
+    if refusal == 0 {
+        if capacity <= 32 {
+            return Opened::Ready;
+        }
+    }
+    Opened::Bad
+}
+
+fn begun_as(opened: Opened, head: Head) -> Begun
+    ensures { λ r. ⌜ r ≡ begunAs opened head ⌝ }
+{
+    let trace = Trace {
+        head,
+        count: 0,
+        offset: 24,
+    };
+    Begun { trace, opened }
+}
+
+fn no_head() -> Head
+    ensures { λ r. ⌜ r ≡ noHead ⌝ }
+{
+    let made = Head::new(0, 0, false, 0, 1);
+    made.head
+}
+
+fn begun_by(start: i64, latency: u32, dropping: bool, first: u32, capacity: usize) -> Begun
+    ensures { λ r. ⌜ r ≡ begunBy (headers.Header start latency dropping first capacity) ⌝ }
+{
+    let made = Head::new(start, latency, dropping, first, capacity);
+    let head = made.head;
+    begun_as(judge(made.refusal, capacity), head)
+}
+
+// The header, from the bytes that the file starts with, and the receiver by its settings.
+pub fn begin(piece: &[u8]) -> Begun
+    ensures { λ r. ⌜ r ≡ beginOf (now (piece .entry)) ⌝ }
+{
+    match dlt::header::header(piece) {
+        HeaderRead::Short => begun_as(Opened::Short, no_head()),
+        HeaderRead::Bad => begun_as(Opened::Bad, no_head()),
+        HeaderRead::Header {
+            start,
+            latency,
+            dropping,
+            first,
+            capacity,
+        } => begun_by(start, latency, dropping, first, capacity),
+    }
+}
+
+fn call_of(r: RecordRead) -> Call
+    ensures { λ c. ⌜ c ≡ callIn r ⌝ }
+{
+    match r {
+        RecordRead::Short => Call::Clear,
+        RecordRead::Bad => Call::Clear,
+        RecordRead::Data {
+            time,
+            number,
+            message,
+            location,
+            stamp,
+            length: _,
+        } => Call::Data {
+            time,
+            number,
+            message,
+            location,
+            stamp,
+        },
+        RecordRead::Pop { time } => Call::Pop { time },
+        RecordRead::Report { time } => Call::Report { time },
+        RecordRead::FullAck { time } => Call::FullAck { time },
+        RecordRead::Ack2 { time, number } => Call::Ack2 { time, number },
+        RecordRead::Drop { first, last } => Call::Drop { first, last },
+        RecordRead::Clock { time, stamp } => Call::Clock { time, stamp },
+        RecordRead::Clear => Call::Clear,
+    }
+}
+
+fn length_of(r: RecordRead) -> usize
+    ensures { λ n. ⌜ n ≡ lengthIn r ⌝ }
+{
+    match r {
+        RecordRead::Short => 0,
+        RecordRead::Bad => 0,
+        RecordRead::Data {
+            time: _,
+            number: _,
+            message: _,
+            location: _,
+            stamp: _,
+            length,
+        } => length as usize,
+        RecordRead::Pop { time: _ } => 0,
+        RecordRead::Report { time: _ } => 0,
+        RecordRead::FullAck { time: _ } => 0,
+        RecordRead::Ack2 { time: _, number: _ } => 0,
+        RecordRead::Drop { first: _, last: _ } => 0,
+        RecordRead::Clock { time: _, stamp: _ } => 0,
+        RecordRead::Clear => 0,
+    }
+}
+
+// Whether the bytes end within the record.
+fn is_short(r: RecordRead) -> bool
+    ensures { λ b. ⌜ b ≡ isShort r ⌝ }
+{
+    match r {
+        RecordRead::Short => true,
+        RecordRead::Bad => false,
+        RecordRead::Data {
+            time: _,
+            number: _,
+            message: _,
+            location: _,
+            stamp: _,
+            length: _,
+        } => false,
+        RecordRead::Pop { time: _ } => false,
+        RecordRead::Report { time: _ } => false,
+        RecordRead::FullAck { time: _ } => false,
+        RecordRead::Ack2 { time: _, number: _ } => false,
+        RecordRead::Drop { first: _, last: _ } => false,
+        RecordRead::Clock { time: _, stamp: _ } => false,
+        RecordRead::Clear => false,
+    }
+}
+
+// 21 bytes a word, without a product that might be too large.
+fn has_room(line: &[u8], list: &[u32]) -> bool
+    ensures { λ b. ⌜ b ≡ leb (lineNeed (now (list .entry))) (length (now (line .entry))) ⌝ }
+{
+    if line.len() < 256 {
+        return false;
+    }
+    list.len() <= (line.len() - 256) / 21
+}
+
+// The line of an answer, at the start of the lent line.
+fn answer_line(line: &mut [u8], nth: u64, answer: Answer, list: &[u32]) -> usize
+    requires { ⌜ lineNeed (now list) ≤ length (now line) ⌝ }
+    ensures { λ r. ⌜ putEnded r (now (line .exit)) ≡ putOf (now (line .entry)) 0 (lineBytes nth (steps.lineOf answer (now (list .entry)))) ⌝ }
+{
+    match answer {
+        Answer::Data(a) => lines::data_line(line, 0, nth, a),
+        Answer::Pop(a) => lines::message_line(line, 0, nth, a),
+        Answer::Report(a) => lines::loss_line(line, 0, nth, a, list),
+        Answer::FullAck(a) => lines::full_ack_line(line, 0, nth, a),
+        Answer::Ack2(a) => lines::ack2_line(line, 0, nth, a),
+        Answer::Drop(a) => lines::drop_line(line, 0, nth, a),
+        Answer::Clock(a) => lines::clock_line(line, 0, nth, a),
+        Answer::Clear(a) => lines::clear_line(line, 0, nth, a),
+    }
+}

@@ -1,0 +1,134 @@
+-- What the code of lib.rt does at each return, as laws over plain values. A signed number stands twice, as it is and as the machine reads it back.
+-- Assumes nothing.
+use mathlib.Core.Path.{_≡_, refl, sym, _∙_, ap}
+use mathlib.Core.Bool.{Bool, true, false, _&&_, not, cond}
+use mathlib.Core.List.{List, []}
+use Prim.Native.Nat.{ℕ, _+_, _-_, _*_, _/_, _<_, _≤_}
+use native.Mathlib.Omega.{arith}
+use borrow.Author.Needs.{needs}
+use borrow.Author.Tests.{ne-eqb, le-leb, lt-leb, lt-ltb, le-ltb}
+use lib.Dec.{eqb, leb, ltb}
+use lib.IntN.{ℤ, pos}
+use lib.ListN.{length, take, drop}
+use Rattle.numbers.proofs.Flags.{by-order}
+use Rattle.head.specs.Head.{madeOf}
+use Rattle.head.specs.declared.state.Head.{Head}
+use Rattle.head.specs.declared.state.Made.{Made}
+use Rattle.dlt.specs.Header.{headerOf}
+use Rattle.dlt.specs.declared.header.HeaderRead.{HeaderRead}
+use Rattle.dlt.specs.declared.header.HeaderRead.the-variants as headers
+use Rattle.dlt.specs.declared.record.RecordRead.{RecordRead}
+use Rattle.dlt.specs.declared.record.RecordRead.the-variants as records
+use Rattle.text.specs.Put.{Put, putEnded, putOf}
+use Rattle.lines.specs.Lines.{lineBytes}
+use Rattle.step.specs.Step as steps
+use Rattle.step.specs.declared.Call.the-variants as calls
+use Rattle.step.specs.declared.Answer.{Answer}
+use Rattle.trace.specs.Trace.{callIn, lengthIn}
+use Rattle.trace.specs.Turn.{noHead, begunAs, begunBy, beginOf, lineNeed}
+use Rattle.trace.specs.declared.Begun.{Begun}
+use Rattle.trace.specs.declared.Opened.{Opened}
+use Rattle.trace.specs.declared.Opened.the-variants as opened
+
+-- judge
+abbrev Judged : ℕ → ℕ → Opened → Type 0
+Judged refusal capacity o = o ≡ cond (not (eqb refusal 0 && leb capacity 32)) opened.Bad opened.Ready
+
+pub judge-ready : (refusal capacity : ℕ) → refusal ≡ 0 → capacity ≤ 32 → Judged refusal capacity opened.Ready
+judge-ready refusal capacity e h = rw (e, le-leb _ _ h)
+
+pub judge-wide : (refusal capacity : ℕ) → refusal ≡ 0 → 32 < capacity → Judged refusal capacity opened.Bad
+judge-wide refusal capacity e h = rw (e, lt-leb _ _ h)
+
+pub judge-refused : (refusal capacity : ℕ) → (refusal ≡ 0 → ⊥) → Judged refusal capacity opened.Bad
+judge-refused refusal capacity h = rw (ne-eqb _ _ h)
+
+-- begin
+pub no-head-made : {m : Made} → m ≡ madeOf (pos 0) 0 false 0 1 → m .head ≡ noHead
+no-head-made e = rw e
+
+pub begun-made : (start : ℤ) (latency : ℕ) (dropping : Bool) (first capacity : ℕ) {n : ℤ} {m : Made} {o : Opened} {b : Begun} → m ≡ madeOf n latency dropping first capacity
+    → n ≡ start → Judged (m .refusal) capacity o → b ≡ begunAs o (m .head) → b ≡ begunBy (headers.Header start latency dropping first capacity)
+begun-made start latency dropping first capacity e q f g = rw (← q, ← e, ← f) g
+
+pub begun-none : (xs : List ℕ) {h : Head} {r : HeaderRead} {b : Begun} → r ≡ headerOf xs → r ≡ headers.Short → h ≡ noHead → b ≡ begunAs opened.Short h
+    → b ≡ beginOf xs
+begun-none xs e f g k = rw (← e, f, ← g) k
+
+pub begun-bad : (xs : List ℕ) {h : Head} {r : HeaderRead} {b : Begun} → r ≡ headerOf xs → r ≡ headers.Bad → h ≡ noHead → b ≡ begunAs opened.Bad h
+    → b ≡ beginOf xs
+begun-bad xs e f g k = rw (← e, f, ← g) k
+
+pub begun-header : (xs : List ℕ) {r : HeaderRead} {start n : ℤ} {latency : ℕ} {dropping : Bool} {first capacity : ℕ} {b : Begun}
+    → r ≡ headerOf xs → r ≡ headers.Header start latency dropping first capacity → n ≡ start → b ≡ begunBy (headers.Header n latency dropping first capacity) → b ≡ beginOf xs
+begun-header xs e f q k = rw (← e, f, ← q) k
+
+-- length_of
+pub length-data : (r : RecordRead) {time : ℤ} {number message location stamp n : ℕ} → r ≡ records.Data time number message location stamp n → n ≡ lengthIn r
+length-data r e = rw e
+
+-- call_of
+module _ (r : RecordRead) where
+  pub call-data : {time n : ℤ} {number message location stamp length : ℕ} → r ≡ records.Data time number message location stamp length → n ≡ time
+      → calls.Data n number message location stamp ≡ callIn r
+  call-data e q = rw (e, q)
+
+  pub call-pop : {time n : ℤ} → r ≡ records.Pop time → n ≡ time → calls.Pop n ≡ callIn r
+  call-pop e q = rw (e, q)
+
+  pub call-report : {time n : ℤ} → r ≡ records.Report time → n ≡ time → calls.Report n ≡ callIn r
+  call-report e q = rw (e, q)
+
+  pub call-full-ack : {time n : ℤ} → r ≡ records.FullAck time → n ≡ time → calls.FullAck n ≡ callIn r
+  call-full-ack e q = rw (e, q)
+
+  pub call-ack2 : {time n : ℤ} {number : ℕ} → r ≡ records.Ack2 time number → n ≡ time → calls.Ack2 n number ≡ callIn r
+  call-ack2 e q = rw (e, q)
+
+  pub call-drop : {first last : ℕ} → r ≡ records.Drop first last → calls.Drop first last ≡ callIn r
+  call-drop e = rw e
+
+  pub call-clock : {time n : ℤ} {stamp : ℕ} → r ≡ records.Clock time stamp → n ≡ time → calls.Clock n stamp ≡ callIn r
+  call-clock e q = rw (e, q)
+
+-- has_room
+module _ (line list : List ℕ) where
+  pub room-none : length line < 256 → false ≡ leb (lineNeed list) (length line)
+  room-none h = sym (lt-leb (lineNeed list) (length line) (omega arith))
+
+  pub room-by-words : {b : Bool} → 256 ≤ length line → b ≡ leb (length list) ((length line - 256) / 21) → b ≡ leb (lineNeed list) (length line)
+  room-by-words {b} h e = e ∙ same (length list) (length line) h
+    where
+      same : (n m : ℕ) → 256 ≤ m → leb n ((m - 256) / 21) ≡ leb (256 + 21 * n) m
+      same n m h =
+          by-order ((m - 256) / 21) n
+          (λ l. rw (lt-leb _ _ l) (sym (lt-leb (256 + 21 * n) m (omega arith))))
+          (λ l. rw (le-leb _ _ l) (sym (le-leb (256 + 21 * n) m (omega arith))))
+
+-- answer_line: an answer by its case
+module _ (line : List ℕ) (nth : ℕ) (list : List ℕ) where
+  pub answer-case : (a b : Answer) {x : Put} → a ≡ b → x ≡ putOf line 0 (lineBytes nth (steps.lineOf b list)) → x ≡ putOf line 0 (lineBytes nth (steps.lineOf a list))
+  answer-case a b h e = rw h e
+
+pub ruleset steps-here = (
+  judge-ready,
+  judge-wide,
+  judge-refused,
+  call-data,
+  call-pop,
+  call-report,
+  call-full-ack,
+  call-ack2,
+  call-drop,
+  call-clock,
+  no-head-made,
+  begun-made,
+  begun-none,
+  begun-bad,
+  begun-header,
+  length-data,
+  room-none,
+  room-by-words,
+  answer-case,
+  needs,
+)
