@@ -3,7 +3,7 @@
 use mathlib.Core.Path.{_≡_, refl, sym, _∙_, ap}
 use mathlib.Core.Bool.{Bool, true, false, _&&_, not, cond}
 use mathlib.Core.List.{List, []}
-use Prim.Native.Nat.{ℕ, _+_, _-_, _*_, _/_, _<_, _≤_}
+use Prim.Native.Nat.{ℕ, _+_, _-_, _*_, _/_, _%_, _^_, _<_, _≤_}
 use native.Mathlib.Omega.{arith}
 use borrow.Author.Needs.{needs}
 use borrow.Author.Tests.{ne-eqb, le-leb, lt-leb, lt-ltb, le-ltb}
@@ -22,10 +22,15 @@ use Rattle.dlt.specs.declared.record.RecordRead.the-variants as records
 use Rattle.text.specs.Put.{Put, putEnded, putOf}
 use Rattle.lines.specs.Lines.{lineBytes}
 use Rattle.step.specs.Step as steps
+use Rattle.step.specs.Step.{Ended, ended, stateOf, lentFor, stepOf}
+use Rattle.step.specs.declared.Stepped.{Stepped}
+use Rattle.step.specs.declared.Call.{Call}
 use Rattle.step.specs.declared.Call.the-variants as calls
 use Rattle.step.specs.declared.Answer.{Answer}
 use Rattle.trace.specs.Trace.{callIn, lengthIn}
-use Rattle.trace.specs.Turn.{noHead, begunAs, begunBy, beginOf, lineNeed}
+use Rattle.trace.specs.Turn.{noHead, begunAs, begunBy, beginOf, lineNeed, areasOf, replayIn, next, turned, stepIn, ran, ranOf, advancesBy}
+use Rattle.trace.specs.declared.Status.the-variants as status
+use Rattle.trace.specs.declared.Trace.{Trace}
 use Rattle.trace.specs.declared.Begun.{Begun}
 use Rattle.trace.specs.declared.Opened.{Opened}
 use Rattle.trace.specs.declared.Opened.the-variants as opened
@@ -110,6 +115,18 @@ module _ (line : List ℕ) (nth : ℕ) (list : List ℕ) where
   pub answer-case : (a b : Answer) {x : Put} → a ≡ b → x ≡ putOf line 0 (lineBytes nth (steps.lineOf b list)) → x ≡ putOf line 0 (lineBytes nth (steps.lineOf a list))
   answer-case a b h e = rw h e
 
+-- advance
+pub room-after : (line list list₁ : List ℕ) → length list₁ ≡ length list → lineNeed list ≤ length line → lineNeed list₁ ≤ length line
+room-after line list list₁ e h = rw e h
+
+module _ (h : Head) (ws bs a out list line : List ℕ) (nth : ℕ) (call : Call) (payload : List ℕ) where
+  pub done : {n : ℕ} {s : Stepped} {ws₁ bs₁ a₁ out₁ list₁ line₁ : List ℕ}
+      → ended s ws₁ bs₁ a₁ out₁ list₁ ≡ stepOf (stateOf h ws bs a) (lentFor payload out list) call
+      → putEnded n line₁ ≡ putOf line 0 (lineBytes nth (steps.lineOf (s .answer) list₁))
+      → ran (s .head) (putEnded n line₁) (areasOf ws₁ bs₁ a₁ out₁ list₁) ≡ ranOf (stepIn h (areasOf ws bs a out list) call payload) line nth
+  done {n} {s} {ws₁} {bs₁} {a₁} {out₁} {list₁} {line₁} g e =
+      ap (λ (p : Put). ran (s .head) p (areasOf ws₁ bs₁ a₁ out₁ list₁)) e ∙ ap (λ (x : Ended). ranOf x line nth) g
+
 pub ruleset steps-here = (
   judge-ready,
   judge-wide,
@@ -130,5 +147,7 @@ pub ruleset steps-here = (
   room-none,
   room-by-words,
   answer-case,
+  room-after,
+  done,
   needs,
 )

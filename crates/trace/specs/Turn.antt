@@ -13,8 +13,11 @@ use Rattle.dlt.specs.declared.header.HeaderRead.{HeaderRead}
 use Rattle.dlt.specs.declared.header.HeaderRead.the-variants as headers
 use Rattle.dlt.specs.declared.record.RecordRead.{RecordRead}
 use Rattle.dlt.specs.declared.record.RecordRead.the-variants as records
+use Rattle.lines.specs.Lines.{lineBytes}
+use Rattle.step.specs.Step.{Ended, stateOf, lentFor, stepOf}
+use Rattle.step.specs.declared.Call.{Call}
 use Rattle.text.specs.Put.{Put, putEnded, putOf}
-use Rattle.trace.specs.Trace.{Areas, Replay, called, replayed, lineOf, closing, isRefused}
+use Rattle.trace.specs.Trace.{Areas, Replay, called, counted, replayed, lineOf, closing, isRefused}
 use Rattle.trace.specs.declared.Begun.{Begun}
 use Rattle.trace.specs.declared.Opened.{Opened}
 use Rattle.trace.specs.declared.Opened.the-variants as opened
@@ -82,6 +85,28 @@ stays t line s = next t 0 (putEnded 0 line) s
 -- the last line: the end, or bad
 abbrev pub closes : Replay → List ℕ → List ℕ → Next
 closes t rest line = next t 0 (putOf line 0 (closing t rest)) (cond (eqb (length rest) 0) status.End status.Bad)
+
+-- a call's payload lent; the areas after it
+abbrev pub stepIn : Head → Areas → Call → List ℕ → Ended
+stepIn h a call payload = stepOf (stateOf h (a .slots) (a .payloads) (a .history)) (lentFor payload (a .output) (a .list)) call
+
+-- a call and its line: the head, what was written, and the areas
+pub record Ran : Type 0 where
+  pub head : Head
+  pub written : Put
+  pub areas : Areas
+
+abbrev pub ran : Head → Put → Areas → Ran
+ran h w a = record { head = h; written = w; areas = a }
+
+abbrev pub ranOf : Ended → List ℕ → ℕ → Ran
+ranOf e line nth = ran (e .state .head) (putOf line 0 (lineBytes nth (e .line))) (areasOf (e .state .slots) (e .state .payloads) (e .state .history) (e .output) (e .list))
+
+-- a call with its payload and the size of its record
+abbrev pub advancesBy : Replay → List ℕ → Call → List ℕ → ℕ → Next
+advancesBy t line call payload size =
+    let r = ranOf (stepIn (t .head) (t .areas) call payload) line (counted (t .count) 1) in
+    next (record { count = counted (t .count) 1; offset = counted (t .offset) size; head = r .head; areas = r .areas }) size (r .written) status.Line
 
 -- a record: its call, and its line
 abbrev pub advances : Replay → List ℕ → List ℕ → RecordRead → Next

@@ -10,7 +10,7 @@ ghost use Rattle.text.specs.Put.{putEnded, putOf};
 ghost use Rattle.lines.specs.Lines.{lineBytes};
 ghost use Rattle.step.specs.Step as steps;
 ghost use Rattle.trace.specs.Trace.{callIn, lengthIn};
-ghost use Rattle.trace.specs.Turn.{noHead, begunAs, begunBy, beginOf, isShort, lineNeed};
+ghost use Rattle.trace.specs.Turn.{noHead, begunAs, begunBy, beginOf, areasOf, replayIn, turned, isShort, lineNeed, stepIn, ran, ranOf};
 ghost use Rattle.trace.specs.declared.Opened.the-variants as opened;
 use dlt::header::HeaderRead;
 use dlt::record::RecordRead;
@@ -218,4 +218,32 @@ fn answer_line(line: &mut [u8], nth: u64, answer: Answer, list: &[u32]) -> usize
         Answer::Clock(a) => lines::clock_line(line, 0, nth, a),
         Answer::Clear(a) => lines::clear_line(line, 0, nth, a),
     }
+}
+
+struct Done {
+    head: Head,
+    length: usize,
+}
+
+// A call, and its line.
+fn run(
+    h: Head,
+    words: &mut [u64],
+    bytes: &mut [u8],
+    area: &mut [u64],
+    out: &mut [u8],
+    list: &mut [u32],
+    line: &mut [u8],
+    nth: u64,
+    call: Call,
+    payload: &[u8],
+) -> Done
+    requires { ⌜ lineNeed (now list) ≤ length (now line) ⌝ }
+    ensures { λ r. ⌜ ran (r .head) (putEnded (r .length) (now (line .exit))) (areasOf (now (words .exit)) (now (bytes .exit)) (now (area .exit)) (now (out .exit)) (now (list .exit))) ≡ ranOf (stepIn h (areasOf (now (words .entry)) (now (bytes .entry)) (now (area .entry)) (now (out .entry)) (now (list .entry))) call (now (payload .entry))) (now (line .entry)) nth ⌝ }
+{
+    let r = step::step(h, words, bytes, area, out, list, call, payload);
+    let answer = r.answer;
+    let length = answer_line(line, nth, answer, list);
+    let head = r.head;
+    Done { head, length }
 }
