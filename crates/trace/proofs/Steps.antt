@@ -20,7 +20,7 @@ use Rattle.dlt.specs.declared.header.HeaderRead.the-variants as headers
 use Rattle.dlt.specs.declared.record.RecordRead.{RecordRead}
 use Rattle.dlt.specs.declared.record.RecordRead.the-variants as records
 use Rattle.text.specs.Put.{Put, putEnded, putOf}
-use Rattle.lines.specs.Lines.{lineBytes}
+use Rattle.lines.specs.Lines.{lineBytes, endBytes, badBytes}
 use Rattle.step.specs.Step as steps
 use Rattle.step.specs.Step.{Ended, ended, stateOf, lentFor, stepOf}
 use Rattle.step.specs.declared.Stepped.{Stepped}
@@ -28,7 +28,9 @@ use Rattle.step.specs.declared.Call.{Call}
 use Rattle.step.specs.declared.Call.the-variants as calls
 use Rattle.step.specs.declared.Answer.{Answer}
 use Rattle.trace.specs.Trace.{callIn, lengthIn}
-use Rattle.trace.specs.Turn.{noHead, begunAs, begunBy, beginOf, lineNeed, areasOf, replayIn, next, turned, stepIn, ran, ranOf, advancesBy}
+use Rattle.trace.specs.Turn.{noHead, begunAs, begunBy, beginOf, lineNeed, areasOf, outcome, next, turned, stays, endsWith, endsBy, stepIn, Ran, ran, ranOf, advances}
+use Rattle.trace.specs.declared.Turned.{Turned}
+use Rattle.trace.specs.declared.Status.{Status}
 use Rattle.trace.specs.declared.Status.the-variants as status
 use Rattle.trace.specs.declared.Trace.{Trace}
 use Rattle.trace.specs.declared.Begun.{Begun}
@@ -127,6 +129,35 @@ module _ (h : Head) (ws bs a out list line : List ℕ) (nth : ℕ) (call : Call)
   done {n} {s} {ws₁} {bs₁} {a₁} {out₁} {list₁} {line₁} g e =
       ap (λ (p : Put). ran (s .head) p (areasOf ws₁ bs₁ a₁ out₁ list₁)) e ∙ ap (λ (x : Ended). ranOf x line nth) g
 
+-- advance
+module _ (t : Trace) (ws bs a out list line : List ℕ) (call : Call) (payload : List ℕ) (size : ℕ) where
+  pub advanced : {count offset n : ℕ} {h : Head} {ws₁ bs₁ a₁ out₁ list₁ line₁ : List ℕ}
+      → count ≡ (t .count + 1) % 2 ^ 64 → offset ≡ (t .offset + size) % 2 ^ 64
+      → ran h (putEnded n line₁) (areasOf ws₁ bs₁ a₁ out₁ list₁) ≡ ranOf (stepIn (t .head) (areasOf ws bs a out list) call payload) line count
+      → next (outcome (record { head = h; count = count; offset = offset }) size (putEnded n line₁) status.Line) (areasOf ws₁ bs₁ a₁ out₁ list₁)
+      ≡ advances t (areasOf ws bs a out list) line call payload size
+  advanced {count} {offset} e f g =
+      ap (λ (r : Ran). next (outcome (record { head = r .head; count = count; offset = offset }) size (r .written) status.Line) (r .areas)) g ∙ rw (e, f)
+
+-- end, bad, close
+module _ (t : Trace) (line : List ℕ) {line₁ : List ℕ} where
+  pub ended-with : {n : ℕ} → putEnded n line₁ ≡ putOf line 0 (endBytes (t .count) (t .head .window .lrsn) (t .head .window .seqno0) (t .head .window .held))
+      → outcome t 0 (putEnded n line₁) status.End ≡ endsWith t line true
+  ended-with e = ap (λ (p : Put). outcome t 0 p status.End) e
+
+  pub ended-bad : {n : ℕ} → putEnded n line₁ ≡ putOf line 0 (badBytes (t .offset)) → outcome t 0 (putEnded n line₁) status.Bad ≡ endsWith t line false
+  ended-bad e = ap (λ (p : Put). outcome t 0 p status.Bad) e
+
+module _ (t : Trace) (line : List ℕ) (more empty : Bool) {line₁ : List ℕ} {r : Turned} where
+  pub close-more : more ≡ true → r ≡ record { trace = t; size = 0; length = 0; status = status.More } → line₁ ≡ line → turned r line₁ ≡ endsBy t line more empty
+  close-more e f g = rw (e, f, g)
+
+  pub close-end : more ≡ false → empty ≡ true → turned r line₁ ≡ endsWith t line true → turned r line₁ ≡ endsBy t line more empty
+  close-end e f g = rw (e, f) g
+
+  pub close-bad : more ≡ false → empty ≡ false → turned r line₁ ≡ endsWith t line false → turned r line₁ ≡ endsBy t line more empty
+  close-bad e f g = rw (e, f) g
+
 pub ruleset steps-here = (
   judge-ready,
   judge-wide,
@@ -149,5 +180,11 @@ pub ruleset steps-here = (
   answer-case,
   room-after,
   done,
+  advanced,
+  ended-with,
+  ended-bad,
+  close-more,
+  close-end,
+  close-bad,
   needs,
 )

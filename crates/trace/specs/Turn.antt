@@ -2,7 +2,7 @@
 use mathlib.Core.Bool.{Bool, true, false, _&&_, not, cond}
 use mathlib.Core.List.{List}
 use Prim.Native.Nat.{ℕ, _+_, _*_}
-use lib.Dec.{eqb, ltb}
+use lib.Dec.{eqb, leb}
 use lib.IntN.{pos}
 use lib.ListN.{length}
 use Rattle.head.specs.Head.{madeOf}
@@ -13,11 +13,11 @@ use Rattle.dlt.specs.declared.header.HeaderRead.{HeaderRead}
 use Rattle.dlt.specs.declared.header.HeaderRead.the-variants as headers
 use Rattle.dlt.specs.declared.record.RecordRead.{RecordRead}
 use Rattle.dlt.specs.declared.record.RecordRead.the-variants as records
-use Rattle.lines.specs.Lines.{lineBytes}
+use Rattle.lines.specs.Lines.{lineBytes, endBytes, badBytes}
 use Rattle.step.specs.Step.{Ended, stateOf, lentFor, stepOf}
 use Rattle.step.specs.declared.Call.{Call}
 use Rattle.text.specs.Put.{Put, putEnded, putOf}
-use Rattle.trace.specs.Trace.{Areas, Replay, called, counted, replayed, lineOf, closing, isRefused}
+use Rattle.trace.specs.Trace.{Areas, Replay, callIn, payloadIn, counted, isRefused}
 use Rattle.trace.specs.declared.Begun.{Begun}
 use Rattle.trace.specs.declared.Opened.{Opened}
 use Rattle.trace.specs.declared.Opened.the-variants as opened
@@ -49,18 +49,26 @@ areasOf ws bs a out list = record { slots = ws; payloads = bs; history = a; outp
 abbrev pub replayIn : Trace → Areas → Replay
 replayIn t a = record { count = t .count; offset = t .offset; head = t .head; areas = a }
 
--- what a turn leaves: the replay, how many bytes of the file it used, what it wrote at the start of the lent line, and what came of it
-pub record Next : Type 0 where
-  pub replay : Replay
+-- what came of a turn: the trace, how many bytes of the file it used, and what it wrote at the start of the lent line
+pub record Outcome : Type 0 where
+  pub trace : Trace
   pub size : ℕ
   pub written : Put
   pub status : Status
 
-abbrev pub next : Replay → ℕ → Put → Status → Next
-next t size w s = record { replay = t; size = size; written = w; status = s }
+abbrev pub outcome : Trace → ℕ → Put → Status → Outcome
+outcome t size w s = record { trace = t; size = size; written = w; status = s }
 
-abbrev pub turned : Turned → Areas → List ℕ → Next
-turned r a line = next (replayIn (r .trace) a) (r .size) (putEnded (r .length) line) (r .status)
+abbrev pub turned : Turned → List ℕ → Outcome
+turned r line = outcome (r .trace) (r .size) (putEnded (r .length) line) (r .status)
+
+-- and the areas after it
+pub record Next : Type 0 where
+  pub outcome : Outcome
+  pub areas : Areas
+
+abbrev pub next : Outcome → Areas → Next
+next o a = record { outcome = o; areas = a }
 
 abbrev pub isShort : RecordRead → Bool
 isShort records.Short = true
@@ -79,14 +87,21 @@ abbrev pub lineNeed : List ℕ → ℕ
 lineNeed list = 256 + 21 * length list
 
 -- nothing is done, and nothing changes
-abbrev pub stays : Replay → List ℕ → Status → Next
-stays t line s = next t 0 (putEnded 0 line) s
+abbrev pub stays : Trace → List ℕ → Status → Outcome
+stays t line s = outcome t 0 (putEnded 0 line) s
 
--- the last line: the end, or bad
-abbrev pub closes : Replay → List ℕ → List ℕ → Next
-closes t rest line = next t 0 (putOf line 0 (closing t rest)) (cond (eqb (length rest) 0) status.End status.Bad)
+-- the last line: at the end of the file the end, else bad
+abbrev pub endsWith : Trace → List ℕ → Bool → Outcome
+endsWith t line empty =
+    outcome t 0
+    (putOf line 0
+    (cond empty (endBytes (t .count) (t .head .window .lrsn) (t .head .window .seqno0) (t .head .window .held)) (badBytes (t .offset))))
+    (cond empty status.End status.Bad)
 
--- a call's payload lent; the areas after it
+abbrev pub endsBy : Trace → List ℕ → Bool → Bool → Outcome
+endsBy t line more empty = cond more (stays t line status.More) (endsWith t line empty)
+
+-- a call, with its payload lent, on a head and the areas
 abbrev pub stepIn : Head → Areas → Call → List ℕ → Ended
 stepIn h a call payload = stepOf (stateOf h (a .slots) (a .payloads) (a .history)) (lentFor payload (a .output) (a .list)) call
 
@@ -100,23 +115,22 @@ abbrev pub ran : Head → Put → Areas → Ran
 ran h w a = record { head = h; written = w; areas = a }
 
 abbrev pub ranOf : Ended → List ℕ → ℕ → Ran
-ranOf e line nth = ran (e .state .head) (putOf line 0 (lineBytes nth (e .line))) (areasOf (e .state .slots) (e .state .payloads) (e .state .history) (e .output) (e .list))
+ranOf e line nth =
+    ran (e .state .head) (putOf line 0 (lineBytes nth (e .line))) (areasOf (e .state .slots) (e .state .payloads) (e .state .history) (e .output) (e .list))
 
--- a call with its payload and the size of its record
-abbrev pub advancesBy : Replay → List ℕ → Call → List ℕ → ℕ → Next
-advancesBy t line call payload size =
-    let r = ranOf (stepIn (t .head) (t .areas) call payload) line (counted (t .count) 1) in
-    next (record { count = counted (t .count) 1; offset = counted (t .offset) size; head = r .head; areas = r .areas }) size (r .written) status.Line
+-- the record's call, counted, with the size of its record
+abbrev pub advances : Trace → Areas → List ℕ → Call → List ℕ → ℕ → Next
+advances t a line call payload size =
+    let r = ranOf (stepIn (t .head) a call payload) line (counted (t .count) 1) in
+    next (outcome (record { head = r .head; count = counted (t .count) 1; offset = counted (t .offset) size }) size (r .written) status.Line) (r .areas)
 
--- a record: its call, and its line
-abbrev pub advances : Replay → List ℕ → List ℕ → RecordRead → Next
-advances t rest line r = let e = called t rest r in next (replayed t r e) (sizeOf r) (putOf line 0 (lineOf t e)) status.Line
+-- by the record that the bytes at hand start with; `last` says that none come behind them
+abbrev pub nextBy : Trace → Areas → List ℕ → Bool → List ℕ → RecordRead → Next
+nextBy t a rest last line r =
+    cond (eqb (sizeOf r) 0)
+    (next (endsBy t line (isShort r && not last) (eqb (length rest) 0)) a)
+    (advances t a line (callIn r) (payloadIn rest r) (sizeOf r))
 
-abbrev pub nextBy : Replay → List ℕ → Bool → List ℕ → RecordRead → Next
-nextBy t rest last line r =
-    cond (isShort r && not last) (stays t line status.More) (cond (eqb (sizeOf r) 0) (closes t rest line) (advances t rest line r))
-
--- by the bytes at hand; `last` says that none come behind them
-unfoldable pub nextOf : Replay → List ℕ → Bool → List ℕ → Next
-nextOf t rest last line =
-    cond (ltb (length line) (lineNeed (t .areas .list))) (stays t line status.LineShort) (nextBy t rest last line (recordOf rest))
+unfoldable pub nextOf : Trace → Areas → List ℕ → Bool → List ℕ → Next
+nextOf t a rest last line =
+    cond (leb (lineNeed (a .list)) (length line)) (nextBy t a rest last line (recordOf rest)) (next (stays t line status.LineShort) a)

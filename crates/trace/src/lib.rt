@@ -1,7 +1,7 @@
 // The trace: 01's file format read record by record, each record a call of the receiver, each answer a line. 01, "Trace, mark DLT".
 // Nothing here reads or writes a file: the bytes at hand and a line are lent.
 ghost use mathlib.Core.Path.{_≡_};
-ghost use mathlib.Core.Bool.{_&&_, not, cond};
+ghost use mathlib.Core.Bool.{true, false, _&&_, not, cond};
 ghost use Prim.Native.Nat.{_≤_};
 ghost use lib.Dec.{eqb, leb};
 ghost use lib.ListN.{length};
@@ -10,7 +10,7 @@ ghost use Rattle.text.specs.Put.{putEnded, putOf};
 ghost use Rattle.lines.specs.Lines.{lineBytes};
 ghost use Rattle.step.specs.Step as steps;
 ghost use Rattle.trace.specs.Trace.{callIn, lengthIn};
-ghost use Rattle.trace.specs.Turn.{noHead, begunAs, begunBy, beginOf, areasOf, replayIn, turned, isShort, lineNeed, stepIn, ran, ranOf};
+ghost use Rattle.trace.specs.Turn.{noHead, begunAs, begunBy, beginOf, areasOf, next, turned, isShort, lineNeed, endsWith, endsBy, stepIn, ran, ranOf, advances};
 ghost use Rattle.trace.specs.declared.Opened.the-variants as opened;
 use dlt::header::HeaderRead;
 use dlt::record::RecordRead;
@@ -246,4 +246,103 @@ fn run(
     let length = answer_line(line, nth, answer, list);
     let head = r.head;
     Done { head, length }
+}
+
+// A record's call, counted.
+fn advance(
+    t: Trace,
+    words: &mut [u64],
+    bytes: &mut [u8],
+    area: &mut [u64],
+    out: &mut [u8],
+    list: &mut [u32],
+    line: &mut [u8],
+    call: Call,
+    payload: &[u8],
+    size: usize,
+) -> Turned
+    requires { ⌜ lineNeed (now list) ≤ length (now line) ⌝ }
+    ensures { λ r. ⌜ next (turned r (now (line .exit))) (areasOf (now (words .exit)) (now (bytes .exit)) (now (area .exit)) (now (out .exit)) (now (list .exit))) ≡ advances t (areasOf (now (words .entry)) (now (bytes .entry)) (now (area .entry)) (now (out .entry)) (now (list .entry))) (now (line .entry)) call (now (payload .entry)) size ⌝ }
+{
+    let count = std::num::wrapping_add_u64(t.count, 1);
+    let offset = std::num::wrapping_add_u64(t.offset, size as u64);
+    let before = t.head;
+    let r = run(
+        before,
+        words,
+        bytes,
+        area,
+        out,
+        list,
+        line,
+        count,
+        call,
+        payload,
+    );
+    let length = r.length;
+    let head = r.head;
+    let trace = Trace {
+        head,
+        count,
+        offset,
+    };
+    Turned {
+        trace,
+        size,
+        length,
+        status: Status::Line,
+    }
+}
+
+fn stay(t: Trace, status: Status) -> Turned
+    ensures { λ r. ⌜ r ≡ record { trace = t; size = 0; length = 0; status = status } ⌝ }
+{
+    Turned {
+        trace: t,
+        size: 0,
+        length: 0,
+        status,
+    }
+}
+
+fn end(t: Trace, line: &mut [u8]) -> Turned
+    requires { ⌜ 256 ≤ length (now line) ⌝ }
+    ensures { λ r. ⌜ turned r (now (line .exit)) ≡ endsWith t (now (line .entry)) true ⌝ }
+{
+    let h = t.head;
+    let w = h.window;
+    let length = lines::end_line(line, 0, t.count, w.lrsn, w.seqno0, w.held);
+    Turned {
+        trace: t,
+        size: 0,
+        length,
+        status: Status::End,
+    }
+}
+
+fn bad(t: Trace, line: &mut [u8]) -> Turned
+    requires { ⌜ 256 ≤ length (now line) ⌝ }
+    ensures { λ r. ⌜ turned r (now (line .exit)) ≡ endsWith t (now (line .entry)) false ⌝ }
+{
+    let length = lines::bad_line(line, 0, t.offset);
+    Turned {
+        trace: t,
+        size: 0,
+        length,
+        status: Status::Bad,
+    }
+}
+
+// No record is at hand: more may come, or it is the end, or it is bad.
+fn close(t: Trace, line: &mut [u8], more: bool, empty: bool) -> Turned
+    requires { ⌜ 256 ≤ length (now line) ⌝ }
+    ensures { λ r. ⌜ turned r (now (line .exit)) ≡ endsBy t (now (line .entry)) more empty ⌝ }
+{
+    if more {
+        return stay(t, Status::More);
+    }
+    if empty {
+        return end(t, line);
+    }
+    bad(t, line)
 }
