@@ -10,11 +10,14 @@ use borrow.Author.Tests.{ne-eqb, le-leb, lt-leb, lt-ltb, le-ltb}
 use lib.Dec.{eqb, leb, ltb}
 use lib.IntN.{ℤ, pos}
 use lib.ListN.{length, take, drop}
+use lib.Seq.{drop-drop}
 use Rattle.numbers.proofs.Flags.{by-order}
 use Rattle.head.specs.Head.{madeOf}
 use Rattle.head.specs.declared.state.Head.{Head}
 use Rattle.head.specs.declared.state.Made.{Made}
 use Rattle.dlt.specs.Header.{headerOf}
+use Rattle.dlt.specs.Record.{recordOf, sizeOf}
+use Rattle.dlt.proofs.Laws.{record-in}
 use Rattle.dlt.specs.declared.header.HeaderRead.{HeaderRead}
 use Rattle.dlt.specs.declared.header.HeaderRead.the-variants as headers
 use Rattle.dlt.specs.declared.record.RecordRead.{RecordRead}
@@ -27,10 +30,11 @@ use Rattle.step.specs.declared.Stepped.{Stepped}
 use Rattle.step.specs.declared.Call.{Call}
 use Rattle.step.specs.declared.Call.the-variants as calls
 use Rattle.step.specs.declared.Answer.{Answer}
-use Rattle.trace.specs.Trace.{callIn, lengthIn}
-use Rattle.trace.specs.Turn.{noHead, begunAs, begunBy, beginOf, lineNeed, areasOf, outcome, next, turned, stays, endsWith, endsBy, stepIn, Ran, ran, ranOf, advances}
+use Rattle.trace.specs.Trace.{Areas, callIn, lengthIn, payloadIn}
+use Rattle.trace.specs.Turn.{noHead, begunAs, begunBy, beginOf, lineNeed, areasOf, outcome, Next, next, turned, stays, endsWith, endsBy, stepIn, Ran, ran, ranOf, advances}
 use Rattle.trace.specs.declared.Turned.{Turned}
 use Rattle.trace.specs.declared.Status.{Status}
+use Rattle.trace.specs.Whole.{Whole}
 use Rattle.trace.specs.declared.Status.the-variants as status
 use Rattle.trace.specs.declared.Trace.{Trace}
 use Rattle.trace.specs.declared.Begun.{Begun}
@@ -158,6 +162,53 @@ module _ (t : Trace) (line : List ℕ) (more empty : Bool) {line₁ : List ℕ} 
   pub close-bad : more ≡ false → empty ≡ false → turned r line₁ ≡ endsWith t line false → turned r line₁ ≡ endsBy t line more empty
   close-bad e f g = rw (e, f) g
 
+-- make: a record's payload is the end of it
+payload-no-longer : (r : RecordRead) → lengthIn r ≤ sizeOf r
+payload-no-longer records.Short = omega arith
+payload-no-longer records.Bad = omega arith
+payload-no-longer (records.Data time number message location stamp n) = omega arith
+payload-no-longer (records.Pop time) = omega arith
+payload-no-longer (records.Report time) = omega arith
+payload-no-longer (records.FullAck time) = omega arith
+payload-no-longer (records.Ack2 time number) = omega arith
+payload-no-longer (records.Drop first last) = omega arith
+payload-no-longer (records.Clock time stamp) = omega arith
+payload-no-longer records.Clear = omega arith
+
+payload-lies : (piece : List ℕ) (at : ℕ) (r : RecordRead) → take (lengthIn r) (drop (at + sizeOf r - lengthIn r) piece) ≡ payloadIn (drop at piece) r
+payload-lies piece at records.Short = refl
+payload-lies piece at records.Bad = refl
+payload-lies piece at (records.Data time number message location stamp n) =
+    ap (take n) (ap (λ (k : ℕ). drop k piece) (let k : at + (24 + n) - n ≡ at + 24 = omega arith in k) ∙ sym (drop-drop 24 at piece))
+payload-lies piece at (records.Pop time) = refl
+payload-lies piece at (records.Report time) = refl
+payload-lies piece at (records.FullAck time) = refl
+payload-lies piece at (records.Ack2 time number) = refl
+payload-lies piece at (records.Drop first last) = refl
+payload-lies piece at (records.Clock time stamp) = refl
+payload-lies piece at records.Clear = refl
+
+pub whole-is : (list line piece : List ℕ) (at : ℕ) {r : RecordRead} {size : ℕ} → lineNeed list ≤ length line → r ≡ recordOf (drop at piece) → size ≡ sizeOf r
+    → (size ≡ 0 → ⊥) → Whole list line piece at r size
+whole-is list line piece at {r} {size} a b c d =
+    record {
+      room = a;
+      read = b;
+      sized = c;
+      ends = rw c (record-in piece at b (rw (← c) (omega arith)));
+      pays = rw c (payload-no-longer r);
+    }
+
+pub made-is : (t : Trace) (a : Areas) (list line piece : List ℕ) (at : ℕ) (r : RecordRead) (size n : ℕ) {call : Call} {x : Next} → Whole list line piece at r size
+    → call ≡ callIn r → n ≡ lengthIn r → x ≡ advances t a line call (take (at + size - (at + size - n)) (drop (at + size - n) piece)) size
+    → x ≡ advances t a line (callIn r) (payloadIn (drop at piece) r) size
+made-is t a list line piece at r size n w e f g =
+    let short : n ≤ size = rw f (w .pays) in
+    let k : at + size - (at + size - n) ≡ n = omega arith in
+    let same : take (at + size - (at + size - n)) (drop (at + size - n) piece) ≡ payloadIn (drop at piece) r =
+    rw (k, f, w .sized) (payload-lies piece at r) in
+    g ∙ rw (e, same)
+
 pub ruleset steps-here = (
   judge-ready,
   judge-wide,
@@ -186,5 +237,7 @@ pub ruleset steps-here = (
   close-more,
   close-end,
   close-bad,
+  whole-is,
+  made-is,
   needs,
 )

@@ -4,13 +4,14 @@ ghost use mathlib.Core.Path.{_≡_};
 ghost use mathlib.Core.Bool.{true, false, _&&_, not, cond};
 ghost use Prim.Native.Nat.{_≤_};
 ghost use lib.Dec.{eqb, leb};
-ghost use lib.ListN.{length};
+ghost use lib.ListN.{length, drop};
 ghost use Rattle.dlt.specs.declared.header.HeaderRead.the-variants as headers;
 ghost use Rattle.text.specs.Put.{putEnded, putOf};
 ghost use Rattle.lines.specs.Lines.{lineBytes};
 ghost use Rattle.step.specs.Step as steps;
-ghost use Rattle.trace.specs.Trace.{callIn, lengthIn};
+ghost use Rattle.trace.specs.Trace.{callIn, lengthIn, payloadIn};
 ghost use Rattle.trace.specs.Turn.{noHead, begunAs, begunBy, beginOf, areasOf, next, turned, isShort, lineNeed, endsWith, endsBy, stepIn, ran, ranOf, advances};
+ghost use Rattle.trace.specs.Whole.{Whole};
 ghost use Rattle.trace.specs.declared.Opened.the-variants as opened;
 use dlt::header::HeaderRead;
 use dlt::record::RecordRead;
@@ -345,4 +346,39 @@ fn close(t: Trace, line: &mut [u8], more: bool, empty: bool) -> Turned
         return end(t, line);
     }
     bad(t, line)
+}
+
+// A record's payload ends where the record does.
+fn make(
+    t: Trace,
+    words: &mut [u64],
+    bytes: &mut [u8],
+    area: &mut [u64],
+    out: &mut [u8],
+    list: &mut [u32],
+    line: &mut [u8],
+    piece: &[u8],
+    at: usize,
+    r: RecordRead,
+    size: usize,
+) -> Turned
+    requires { ⌜ Whole (now list) (now line) (now piece) at r size ⌝ }
+    ensures { λ x. ⌜ next (turned x (now (line .exit))) (areasOf (now (words .exit)) (now (bytes .exit)) (now (area .exit)) (now (out .exit)) (now (list .exit))) ≡ advances t (areasOf (now (words .entry)) (now (bytes .entry)) (now (area .entry)) (now (out .entry)) (now (list .entry))) (now (line .entry)) (callIn r) (payloadIn (drop at (now (piece .entry))) r) size ⌝ }
+{
+    let call = call_of(r);
+    let n = length_of(r);
+    let to = at + size;
+    let from = to - n;
+    advance(
+        t,
+        words,
+        bytes,
+        area,
+        out,
+        list,
+        line,
+        call,
+        &piece[from..to],
+        size,
+    )
 }
