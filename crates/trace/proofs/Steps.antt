@@ -9,9 +9,9 @@ use borrow.Author.Needs.{needs}
 use borrow.Author.Tests.{ne-eqb, le-leb, lt-leb, lt-ltb, le-ltb}
 use lib.Dec.{eqb, leb, ltb}
 use lib.IntN.{ℤ, pos}
-use lib.ListN.{length, take, drop}
+use lib.ListN.{length, take, drop, length-drop}
 use lib.Seq.{drop-drop}
-use Rattle.numbers.proofs.Flags.{by-order}
+use Rattle.numbers.proofs.Flags.{by-order, and-false}
 use Rattle.head.specs.Head.{madeOf}
 use Rattle.head.specs.declared.state.Head.{Head}
 use Rattle.head.specs.declared.state.Made.{Made}
@@ -31,7 +31,7 @@ use Rattle.step.specs.declared.Call.{Call}
 use Rattle.step.specs.declared.Call.the-variants as calls
 use Rattle.step.specs.declared.Answer.{Answer}
 use Rattle.trace.specs.Trace.{Areas, callIn, lengthIn, payloadIn}
-use Rattle.trace.specs.Turn.{noHead, begunAs, begunBy, beginOf, lineNeed, areasOf, outcome, Next, next, turned, stays, endsWith, endsBy, stepIn, Ran, ran, ranOf, advances}
+use Rattle.trace.specs.Turn.{noHead, begunAs, begunBy, beginOf, isShort, lineNeed, areasOf, Outcome, outcome, Next, next, turned, stays, endsWith, endsBy, stepIn, Ran, ran, ranOf, advances, nextBy, nextOf}
 use Rattle.trace.specs.declared.Turned.{Turned}
 use Rattle.trace.specs.declared.Status.{Status}
 use Rattle.trace.specs.Whole.{Whole}
@@ -209,6 +209,43 @@ made-is t a list line piece at r size n w e f g =
     rw (k, f, w .sized) (payload-lies piece at r) in
     g ∙ rw (e, same)
 
+-- may_come, is_empty, turn
+pub come-not : (r : RecordRead) (last : Bool) → last ≡ true → false ≡ (isShort r && not last)
+come-not r last e = rw (e, and-false (isShort r) refl)
+
+and-true : (b : Bool) → (b && true) ≡ b
+and-true true = refl
+and-true false = refl
+
+pub come-so : (r : RecordRead) (last : Bool) {b : Bool} → last ≡ false → b ≡ isShort r → b ≡ (isShort r && not last)
+come-so r last {b} e f = rw (e, ← f) (sym (and-true b))
+
+pub empty-by : (piece : List ℕ) (at : ℕ) {b : Bool} → b ≡ leb (length piece) at → b ≡ eqb (length (drop at piece)) 0
+empty-by piece at e =
+    e
+    ∙ by-order at (length piece)
+    (λ h. rw (lt-leb _ _ h, length-drop at piece) (sym (ne-eqb (length piece - at) 0 (λ k. omega arith))))
+    (λ h. rw (le-leb _ _ h, length-drop at piece) (let k : length piece - at ≡ 0 = omega arith in rw k))
+
+module _ (t : Trace) (a : Areas) (rest : List ℕ) (last : Bool) (line : List ℕ) {r : RecordRead} {n : ℕ} where
+  pub turn-close : {more empty : Bool} {o : Outcome} → r ≡ recordOf rest → n ≡ sizeOf r → n ≡ 0 → more ≡ (isShort r && not last) → empty ≡ eqb (length rest) 0
+      → o ≡ endsBy t line more empty → next o a ≡ nextBy t a rest last line (recordOf rest)
+  turn-close e f g h k o = rw (← e, ← f, g, ← h, ← k, o)
+
+  pub turn-made : {x : Next} → r ≡ recordOf rest → n ≡ sizeOf r → (n ≡ 0 → ⊥) → x ≡ advances t a line (callIn r) (payloadIn rest r) n → x ≡ nextBy t a rest last line (recordOf rest)
+  turn-made e f g h = rw (← e, ← f, ne-eqb n 0 g) h
+
+-- next
+module _ (t : Trace) (a : Areas) (rest : List ℕ) (last : Bool) (line : List ℕ) {b : Bool} where
+  pub next-short : {line₁ : List ℕ} {r : Turned} → b ≡ leb (lineNeed (a .list)) (length line) → b ≡ false → r ≡ record { trace = t; size = 0; length = 0; status = status.LineShort } → line₁ ≡ line
+      → next (turned r line₁) a ≡ nextOf t a rest last line
+  unfolding nextOf
+  next-short e f g h = rw (← e, f, g, h)
+
+  pub next-turn : {x : Next} → b ≡ leb (lineNeed (a .list)) (length line) → b ≡ true → x ≡ nextBy t a rest last line (recordOf rest) → x ≡ nextOf t a rest last line
+  unfolding nextOf
+  next-turn e f g = rw (← e, f) g
+
 pub ruleset steps-here = (
   judge-ready,
   judge-wide,
@@ -239,5 +276,12 @@ pub ruleset steps-here = (
   close-bad,
   whole-is,
   made-is,
+  come-not,
+  come-so,
+  empty-by,
+  turn-close,
+  turn-made,
+  next-short,
+  next-turn,
   needs,
 )

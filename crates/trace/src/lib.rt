@@ -5,12 +5,13 @@ ghost use mathlib.Core.Bool.{true, false, _&&_, not, cond};
 ghost use Prim.Native.Nat.{_≤_};
 ghost use lib.Dec.{eqb, leb};
 ghost use lib.ListN.{length, drop};
+ghost use Rattle.dlt.specs.Record.{recordOf};
 ghost use Rattle.dlt.specs.declared.header.HeaderRead.the-variants as headers;
 ghost use Rattle.text.specs.Put.{putEnded, putOf};
 ghost use Rattle.lines.specs.Lines.{lineBytes};
 ghost use Rattle.step.specs.Step as steps;
 ghost use Rattle.trace.specs.Trace.{callIn, lengthIn, payloadIn};
-ghost use Rattle.trace.specs.Turn.{noHead, begunAs, begunBy, beginOf, areasOf, next, turned, isShort, lineNeed, endsWith, endsBy, stepIn, ran, ranOf, advances};
+ghost use Rattle.trace.specs.Turn.{noHead, begunAs, begunBy, beginOf, areasOf, next, turned, isShort, lineNeed, endsWith, endsBy, stepIn, ran, ranOf, advances, nextBy};
 ghost use Rattle.trace.specs.Whole.{Whole};
 ghost use Rattle.trace.specs.declared.Opened.the-variants as opened;
 use dlt::header::HeaderRead;
@@ -381,4 +382,45 @@ fn make(
         &piece[from..to],
         size,
     )
+}
+
+fn may_come(r: RecordRead, last: bool) -> bool
+    ensures { λ b. ⌜ b ≡ (isShort r && not last) ⌝ }
+{
+    if last {
+        return false;
+    }
+    is_short(r)
+}
+
+fn is_empty(piece: &[u8], at: usize) -> bool
+    ensures { λ b. ⌜ b ≡ eqb (length (drop at (now (piece .entry)))) 0 ⌝ }
+{
+    piece.len() <= at
+}
+
+// By the record at the cursor.
+fn turn(
+    t: Trace,
+    words: &mut [u64],
+    bytes: &mut [u8],
+    area: &mut [u64],
+    out: &mut [u8],
+    list: &mut [u32],
+    line: &mut [u8],
+    piece: &[u8],
+    at: usize,
+    last: bool,
+) -> Turned
+    requires { ⌜ lineNeed (now list) ≤ length (now line) ⌝ }
+    ensures { λ x. ⌜ next (turned x (now (line .exit))) (areasOf (now (words .exit)) (now (bytes .exit)) (now (area .exit)) (now (out .exit)) (now (list .exit))) ≡ nextBy t (areasOf (now (words .entry)) (now (bytes .entry)) (now (area .entry)) (now (out .entry)) (now (list .entry))) (drop at (now (piece .entry))) last (now (line .entry)) (recordOf (drop at (now (piece .entry)))) ⌝ }
+{
+    let r = dlt::record::record(piece, at);
+    let size = dlt::record::size(r);
+    if size == 0 {
+        let more = may_come(r, last);
+        let empty = is_empty(piece, at);
+        return close(t, line, more, empty);
+    }
+    make(t, words, bytes, area, out, list, line, piece, at, r, size)
 }
