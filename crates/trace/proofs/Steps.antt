@@ -6,7 +6,7 @@ use mathlib.Core.List.{List, []}
 use Prim.Native.Nat.{ℕ, _+_, _-_, _*_, _/_, _%_, _^_, _<_, _≤_}
 use native.Mathlib.Omega.{arith}
 use borrow.Author.Needs.{needs}
-use borrow.Author.Tests.{ne-eqb, le-leb, lt-leb, lt-ltb, le-ltb}
+use borrow.Author.Tests.{leb-true, ne-eqb, le-leb, lt-leb, lt-ltb, le-ltb}
 use lib.Dec.{eqb, leb, ltb}
 use lib.IntN.{ℤ, pos}
 use lib.ListN.{length, take, drop, length-drop}
@@ -236,6 +236,9 @@ module _ (t : Trace) (a : Areas) (rest : List ℕ) (last : Bool) (line : List �
   turn-made e f g h = rw (← e, ← f, ne-eqb n 0 g) h
 
 -- next
+pub room-so : (list line : List ℕ) {b : Bool} → b ≡ leb (lineNeed list) (length line) → b ≡ true → lineNeed list ≤ length line
+room-so list line e f = leb-true _ _ (sym e ∙ f)
+
 module _ (t : Trace) (a : Areas) (rest : List ℕ) (last : Bool) (line : List ℕ) {b : Bool} where
   pub next-short : {line₁ : List ℕ} {r : Turned} → b ≡ leb (lineNeed (a .list)) (length line) → b ≡ false → r ≡ record { trace = t; size = 0; length = 0; status = status.LineShort } → line₁ ≡ line
       → next (turned r line₁) a ≡ nextOf t a rest last line
@@ -281,6 +284,7 @@ pub ruleset steps-here = (
   empty-by,
   turn-close,
   turn-made,
+  room-so,
   next-short,
   next-turn,
   needs,

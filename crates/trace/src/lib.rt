@@ -11,7 +11,7 @@ ghost use Rattle.text.specs.Put.{putEnded, putOf};
 ghost use Rattle.lines.specs.Lines.{lineBytes};
 ghost use Rattle.step.specs.Step as steps;
 ghost use Rattle.trace.specs.Trace.{callIn, lengthIn, payloadIn};
-ghost use Rattle.trace.specs.Turn.{noHead, begunAs, begunBy, beginOf, areasOf, next, turned, isShort, lineNeed, endsWith, endsBy, stepIn, ran, ranOf, advances, nextBy};
+ghost use Rattle.trace.specs.Turn.{noHead, begunAs, begunBy, beginOf, areasOf, next, turned, isShort, lineNeed, endsWith, endsBy, stepIn, ran, ranOf, advances, nextBy, nextOf};
 ghost use Rattle.trace.specs.Whole.{Whole};
 ghost use Rattle.trace.specs.declared.Opened.the-variants as opened;
 use dlt::header::HeaderRead;
@@ -423,4 +423,26 @@ fn turn(
         return close(t, line, more, empty);
     }
     make(t, words, bytes, area, out, list, line, piece, at, r, size)
+}
+
+// One turn, on the bytes from `at` on; `last` says that the file ends with them. Lent are the slots, payloads, history, output and loss
+// words of `step::step`, and a line of 256 bytes and 21 a loss word, at whose start the turn's line is written.
+pub fn next(
+    t: Trace,
+    words: &mut [u64],
+    bytes: &mut [u8],
+    area: &mut [u64],
+    out: &mut [u8],
+    list: &mut [u32],
+    line: &mut [u8],
+    piece: &[u8],
+    at: usize,
+    last: bool,
+) -> Turned
+    ensures { λ x. ⌜ next (turned x (now (line .exit))) (areasOf (now (words .exit)) (now (bytes .exit)) (now (area .exit)) (now (out .exit)) (now (list .exit))) ≡ nextOf t (areasOf (now (words .entry)) (now (bytes .entry)) (now (area .entry)) (now (out .entry)) (now (list .entry))) (drop at (now (piece .entry))) last (now (line .entry)) ⌝ }
+{
+    if has_room(line, list) {
+        return turn(t, words, bytes, area, out, list, line, piece, at, last);
+    }
+    stay(t, Status::LineShort)
 }
