@@ -213,7 +213,7 @@ made-is t a list line piece at r size n w e f g =
 pub come-not : (r : RecordRead) (last : Bool) → last ≡ true → false ≡ (isShort r && not last)
 come-not r last e = rw (e, and-false (isShort r) refl)
 
-and-true : (b : Bool) → (b && true) ≡ b
+pub and-true : (b : Bool) → (b && true) ≡ b
 and-true true = refl
 and-true false = refl
 
