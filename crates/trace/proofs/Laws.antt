@@ -5,7 +5,7 @@ use mathlib.Core.Bool.{Bool, true, false, _&&_, not, cond}
 use mathlib.Core.List.{List, [], _∷_, _++_, append-nil}
 use Prim.Native.Nat.{ℕ, zero, suc, _+_, _-_, _<_, _≤_}
 use native.Mathlib.Omega.{arith}
-use borrow.Author.Tests.{ne-eqb, le-leb, lt-leb, leb-true}
+use borrow.Author.Tests.{ne-eqb, lt-ltb}
 use lib.Dec.{eqb, leb}
 use lib.IntN.{ℤ}
 use lib.ListN.{length, take, drop, length-append, length-drop}
@@ -14,12 +14,22 @@ use Rattle.numbers.proofs.Flags.{by-test, by-bool, by-order, impossible}
 use Rattle.dlt.specs.Record.{recordOf, sizeOf, fixedOf}
 use Rattle.dlt.specs.declared.record.RecordRead.{RecordRead}
 use Rattle.dlt.specs.declared.record.RecordRead.the-variants as records
-use Rattle.dlt.proofs.Laws.{record-behind, size-within, size-some}
+use Rattle.dlt.specs.Header.{headerOf}
+use Rattle.dlt.specs.declared.header.HeaderRead.{HeaderRead}
+use Rattle.dlt.specs.declared.header.HeaderRead.the-variants as headers
+use Rattle.head.specs.Head.{madeOf}
+use Rattle.text.specs.Decimal as decimals
+use Rattle.shapes.specs.Shapes as shapes
+use Rattle.lines.specs.Lines as lines
+use Rattle.lines.specs.Lines.{badBytes}
+use Rattle.dlt.proofs.Laws.{header-behind, record-behind, size-within, size-some}
 use Rattle.text.specs.Put.{put, putOf}
 use Rattle.trace.proofs.Steps.{and-true}
-use Rattle.trace.specs.Trace.{Areas, Replay, callIn, lengthIn, payloadIn, called, replayed, lineOf, closing, linesOf}
-use Rattle.trace.specs.Turn.{replayIn, Outcome, outcome, isShort, lineNeed, stays, endsWith, Next, next, advances, nextBy, nextOf}
-use Rattle.trace.specs.Loop.{wroteIn, Writes, record-line, end-line, bad-line}
+use Rattle.trace.specs.Trace.{Areas, Replay, callIn, lengthIn, payloadIn, called, replayed, lineOf, closing, linesOf, isRefused, byHeader, outputOf}
+use Rattle.trace.specs.Turn.{beginOf, begunBy, replayIn, Outcome, outcome, isShort, lineNeed, stays, endsWith, Next, next, advances, nextBy, nextOf}
+use Rattle.trace.specs.Loop.{wroteIn, Writes, record-line, end-line, bad-line, Replays, cut, refused, ready}
+use Rattle.trace.specs.declared.Opened.{Opened}
+use Rattle.trace.specs.declared.Opened.the-variants as opened
 use Rattle.trace.specs.declared.Status.{Status}
 use Rattle.trace.specs.declared.Status.the-variants as status
 use Rattle.trace.specs.declared.Trace.{Trace}
@@ -197,3 +207,58 @@ pub loop-writes : (t : Trace) (a : Areas) (rest out : List ℕ) → Writes t a r
 loop-writes _ _ _ _ (record-line t a hand more last line out x told e s w) = turn-line t a hand more last line out e s (loop-writes _ _ _ _ w)
 loop-writes _ _ _ _ (end-line t a hand more last line x told e s) = turn-close t a hand more last line told e (rw s (omega arith)) (rw s (omega arith))
 loop-writes _ _ _ _ (bad-line t a hand more last line x told e s) = turn-close t a hand more last line told e (rw s (omega arith)) (rw s (omega arith))
+
+-- the header
+abbrev mark : Opened → ℕ
+mark opened.Short = 0
+mark opened.Bad = 1
+mark opened.Ready = 2
+
+unlike : {P : Type 0} {o u : Opened} → o ≡ u → (mark o ≡ mark u → ⊥) → P
+unlike e h = absurd (h (ap mark e))
+
+module _ (a : Areas) (rest : List ℕ) where
+  bad-by : (h : HeaderRead) → mark (begunBy h .opened) ≤ 1 → badBytes 0 ≡ byHeader a h rest
+  bad-by headers.Short e = refl
+  bad-by headers.Bad e = refl
+  bad-by (headers.Header start latency dropping first capacity) e =
+      by-bool (isRefused (madeOf start latency dropping first capacity) capacity) (λ b. rw b) (λ b. absurd (let k = rw b at e in omega arith))
+
+  ready-by : (h : HeaderRead) (out : List ℕ) → begunBy h .opened ≡ opened.Ready → out ≡ linesOf (length rest) (replayIn (begunBy h .trace) a) rest → out ≡ byHeader a h rest
+  ready-by headers.Short out e w = unlike e (λ k. omega arith)
+  ready-by headers.Bad out e w = unlike e (λ k. omega arith)
+  ready-by (headers.Header start latency dropping first capacity) out e w =
+      by-bool (isRefused (madeOf start latency dropping first capacity) capacity) (λ b. unlike (rw b at e) (λ k. omega arith)) (λ b. rw b w)
+
+header-long : (xs : List ℕ) → (headerOf xs ≡ headers.Short → ⊥) → 24 ≤ length xs
+unfolding headerOf
+header-long xs h = by-order (length xs) 24 (λ l. absurd (h (rw (lt-ltb _ _ l)))) (λ l. l)
+
+-- a program's turns on any pieces of a file write what the whole file gives
+pub loop-whole : (a : Areas) (file out : List ℕ) → Replays a file out → out ≡ outputOf a file
+unfolding outputOf
+loop-whole _ _ _ (cut a file e) = bad-by a (drop 24 file) (headerOf file) (rw e (omega arith))
+loop-whole _ _ _ (refused a hand more e) =
+    let whole : headerOf hand ≡ headers.Short → ⊥ = λ q. unlike (sym (ap (λ (h : HeaderRead). begunBy h .opened) q) ∙ e) (λ k. omega arith) in
+    rw (header-behind hand more whole) (bad-by a (drop 24 (hand ++ more)) (headerOf hand) (rw e (omega arith)))
+loop-whole _ _ _ (ready a hand more out e w) =
+    let whole : headerOf hand ≡ headers.Short → ⊥ = λ q. unlike (sym (ap (λ (h : HeaderRead). begunBy h .opened) q) ∙ e) (λ k. omega arith) in
+    rw (header-behind hand more whole, drop-append-le 24 hand more (header-long hand whole))
+    (ready-by a (drop 24 hand ++ more) (headerOf hand) out e (loop-writes (beginOf hand .trace) a (drop 24 hand ++ more) out w))
+
+-- a turn that gives a record's line moves the cursor, and not past the bytes at hand; so a file of any length comes to its end
+abbrev Moves : List ℕ → Next → Type 0
+Moves hand x = x .outcome .status ≡ status.Line → (0 < x .outcome .size) × (x .outcome .size ≤ length hand)
+
+pub turn-moves : (t : Trace) (a : Areas) (hand : List ℕ) (last : Bool) (line : List ℕ) → Moves hand (nextOf t a hand last line)
+turn-moves t a hand last line =
+    by-turn t a hand last line (Moves hand)
+    (λ s. other s (λ k. omega arith))
+    (λ s. other s (λ k. omega arith))
+    (λ f m s. by-bool (eqb (length hand) 0) (λ b. other (rw b at s) (λ k. omega arith)) (λ b. other (rw b at s) (λ k. omega arith)))
+    (λ f s. (positive (sizeOf (recordOf hand)) f, size-within hand))
+
+-- the line of a file that is no trace
+pub bad-start : badBytes 0 ≡ 98 ∷ 97 ∷ 100 ∷ 32 ∷ 48 ∷ 10 ∷ []
+unfolding lines.badBytes shapes.closed shapes.spaced decimals.signed decimals.decimal decimals.digits
+bad-start = refl
