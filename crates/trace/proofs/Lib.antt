@@ -1,1 +1,3 @@
--- Laws of the trace.
+-- Laws of the trace: `Steps` is for the code of this crate.
+pub mod Laws
+pub mod Steps

@@ -1,0 +1,264 @@
+-- What a reader of a file piece by piece may lean on: a piece that has the whole record is enough, and the turns of any division into pieces
+-- write, joined, what the whole file gives. Assumes nothing.
+use mathlib.Core.Path.{_≡_, refl, sym, _∙_, ap, subst}
+use mathlib.Core.Bool.{Bool, true, false, _&&_, not, cond}
+use mathlib.Core.List.{List, [], _∷_, _++_, append-nil}
+use Prim.Native.Nat.{ℕ, zero, suc, _+_, _-_, _<_, _≤_}
+use native.Mathlib.Omega.{arith}
+use borrow.Author.Tests.{ne-eqb, lt-ltb}
+use lib.Dec.{eqb, leb}
+use lib.IntN.{ℤ}
+use lib.ListN.{length, take, drop, length-append, length-drop}
+use lib.Seq.{drop-append-le, take-append-le, take-at}
+use Rattle.numbers.proofs.Flags.{by-test, by-bool, by-order, impossible}
+use Rattle.dlt.specs.Record.{recordOf, sizeOf, fixedOf}
+use Rattle.dlt.specs.declared.record.RecordRead.{RecordRead}
+use Rattle.dlt.specs.declared.record.RecordRead.the-variants as records
+use Rattle.dlt.specs.Header.{headerOf}
+use Rattle.dlt.specs.declared.header.HeaderRead.{HeaderRead}
+use Rattle.dlt.specs.declared.header.HeaderRead.the-variants as headers
+use Rattle.head.specs.Head.{madeOf}
+use Rattle.text.specs.Decimal as decimals
+use Rattle.shapes.specs.Shapes as shapes
+use Rattle.lines.specs.Lines as lines
+use Rattle.lines.specs.Lines.{badBytes}
+use Rattle.dlt.proofs.Laws.{header-behind, record-behind, size-within, size-some}
+use Rattle.text.specs.Put.{put, putOf}
+use Rattle.trace.proofs.Steps.{and-true}
+use Rattle.trace.specs.Trace.{Areas, Replay, callIn, lengthIn, payloadIn, called, replayed, lineOf, closing, linesOf, isRefused, byHeader, outputOf}
+use Rattle.trace.specs.Turn.{beginOf, begunBy, replayIn, Outcome, outcome, isShort, lineNeed, stays, endsWith, Next, next, advances, nextBy, nextOf}
+use Rattle.trace.specs.Loop.{wroteIn, Writes, record-line, end-line, bad-line, Replays, cut, refused, ready}
+use Rattle.trace.specs.declared.Opened.{Opened}
+use Rattle.trace.specs.declared.Opened.the-variants as opened
+use Rattle.trace.specs.declared.Status.{Status}
+use Rattle.trace.specs.declared.Status.the-variants as status
+use Rattle.trace.specs.declared.Trace.{Trace}
+
+-- a piece is enough
+payload-behind : (r : RecordRead) (xs ys : List ℕ) → sizeOf r ≤ length xs → payloadIn (xs ++ ys) r ≡ payloadIn xs r
+payload-behind records.Short xs ys h = refl
+payload-behind records.Bad xs ys h = refl
+payload-behind (records.Data time number message location stamp n) xs ys h =
+    let a : 24 ≤ length xs = omega arith in
+    let b : n ≤ length (drop 24 xs) = rw (length-drop 24 xs) (omega arith) in
+    rw (drop-append-le 24 xs ys a, take-append-le n (drop 24 xs) ys b)
+payload-behind (records.Pop time) xs ys h = refl
+payload-behind (records.Report time) xs ys h = refl
+payload-behind (records.FullAck time) xs ys h = refl
+payload-behind (records.Ack2 time number) xs ys h = refl
+payload-behind (records.Drop first last) xs ys h = refl
+payload-behind (records.Clock time stamp) xs ys h = refl
+payload-behind records.Clear xs ys h = refl
+
+not-short : (r : RecordRead) → (r ≡ records.Short → ⊥) → isShort r ≡ false
+not-short records.Short h = absurd (h refl)
+not-short records.Bad h = refl
+not-short (records.Data time number message location stamp n) h = refl
+not-short (records.Pop time) h = refl
+not-short (records.Report time) h = refl
+not-short (records.FullAck time) h = refl
+not-short (records.Ack2 time number) h = refl
+not-short (records.Drop first last) h = refl
+not-short (records.Clock time stamp) h = refl
+not-short records.Clear h = refl
+
+none-short : recordOf [] ≡ records.Short
+unfolding recordOf fixedOf
+none-short = refl
+
+whole-some : (xs : List ℕ) → (recordOf xs ≡ records.Short → ⊥) → 0 < length xs
+whole-some [] h = absurd (h none-short)
+whole-some (x ∷ xs) h = omega arith
+
+pub piece-enough : (t : Trace) (a : Areas) (xs ys : List ℕ) (last last₁ : Bool) (line : List ℕ) → (recordOf xs ≡ records.Short → ⊥)
+    → nextOf t a (xs ++ ys) last₁ line ≡ nextOf t a xs last line
+unfolding nextOf
+piece-enough t a xs ys last last₁ line h =
+    let some = whole-some xs h in
+    let long : 0 < length (xs ++ ys) = rw (length-append xs ys) (omega arith) in
+    rw (
+      record-behind xs ys h,
+      not-short (recordOf xs) h,
+      ne-eqb (length xs) 0 (λ e. omega arith),
+      ne-eqb (length (xs ++ ys)) 0 (λ e. omega arith),
+      payload-behind (recordOf xs) xs ys (size-within xs),
+    )
+
+positive : (n : ℕ) → eqb n 0 ≡ false → 0 < n
+positive zero e = impossible e
+positive (suc n) e = omega arith
+
+-- more fuel than bytes changes nothing
+pub lines-enough : (n m : ℕ) (t : Replay) (rest : List ℕ) → length rest ≤ n → length rest ≤ m → linesOf n t rest ≡ linesOf m t rest
+unfolding linesOf
+lines-enough zero zero t rest h k = refl
+lines-enough zero (suc m) t [] h k = rw none-short
+lines-enough zero (suc m) t (x ∷ rest) h k = absurd (omega arith)
+lines-enough (suc n) zero t [] h k = rw none-short
+lines-enough (suc n) zero t (x ∷ rest) h k = absurd (omega arith)
+lines-enough (suc n) (suc m) t rest h k =
+    by-bool (eqb (sizeOf (recordOf rest)) 0)
+    (λ e. rw e)
+    (λ e.
+    let r = recordOf rest in
+    let some : 0 < sizeOf r = positive (sizeOf r) e in
+    let a : length (drop (sizeOf r) rest) ≤ n = rw (length-drop (sizeOf r) rest) (omega arith) in
+    let b : length (drop (sizeOf r) rest) ≤ m = rw (length-drop (sizeOf r) rest) (omega arith) in
+    rw e (ap (λ (l : List ℕ). lineOf t (called t rest r) ++ l) (lines-enough n m (replayed t r (called t rest r)) (drop (sizeOf r) rest) a b)))
+
+-- one turn of the whole: a record's line, then what the rest gives; or the last line
+pub lines-record : (t : Replay) (rest : List ℕ) → eqb (sizeOf (recordOf rest)) 0 ≡ false
+    → let r = recordOf rest in let e = called t rest r in let left = drop (sizeOf r) rest in
+    linesOf (length rest) t rest ≡ lineOf t e ++ linesOf (length left) (replayed t r e) left
+unfolding linesOf
+lines-record t [] e = impossible (sym (ap (λ (r : RecordRead). eqb (sizeOf r) 0) none-short) ∙ e)
+lines-record t (x ∷ xs) e =
+    let r = recordOf (x ∷ xs) in
+    let some = positive (sizeOf r) e in
+    let left = drop (sizeOf r) (x ∷ xs) in
+    let h : length left ≤ length xs = rw (length-drop (sizeOf r) (x ∷ xs)) (omega arith) in
+    rw e
+    (ap (λ (l : List ℕ). lineOf t (called t (x ∷ xs) r) ++ l)
+    (lines-enough (length xs) (length left) (replayed t r (called t (x ∷ xs) r)) left h (omega arith)))
+
+pub lines-close : (t : Replay) (rest : List ℕ) → eqb (sizeOf (recordOf rest)) 0 ≡ true → linesOf (length rest) t rest ≡ closing t rest
+unfolding linesOf
+lines-close t [] e = refl
+lines-close t (x ∷ xs) e = rw e
+
+-- what a turn wrote is the line that it was to write
+wrote : (line bs : List ℕ) → take (putOf line 0 bs .cursor) (putOf line 0 bs .area) ≡ bs
+unfolding putOf put
+wrote line bs = take-at bs (drop (0 + length bs) line) (0 + length bs) (omega arith)
+
+-- a turn by its cases
+module _ (t : Trace) (a : Areas) (hand : List ℕ) (last : Bool) (line : List ℕ) where
+  by-turn : (P : Next → Type 0) → P (next (stays t line status.LineShort) a) → P (next (stays t line status.More) a)
+      → (eqb (sizeOf (recordOf hand)) 0 ≡ true → (isShort (recordOf hand) && not last) ≡ false → P (next (endsWith t line (eqb (length hand) 0)) a))
+      → (eqb (sizeOf (recordOf hand)) 0 ≡ false → P (advances t a line (callIn (recordOf hand)) (payloadIn hand (recordOf hand)) (sizeOf (recordOf hand))))
+      → P (nextOf t a hand last line)
+  unfolding nextOf
+  by-turn P short more close advance =
+      by-test P (leb (lineNeed (a .list)) (length line)) _ _
+      (λ room.
+      by-test P (eqb (sizeOf (recordOf hand)) 0) _ _
+      (λ e. by-test (λ (o : Outcome). P (next o a)) (isShort (recordOf hand) && not last) _ _ (λ m. more) (λ m. close e m))
+      advance)
+      (λ room. short)
+
+abbrev code : Status → ℕ
+code status.Line = 0
+code status.More = 1
+code status.End = 2
+code status.Bad = 3
+code status.LineShort = 4
+
+other : {P : Type 0} {s u : Status} → s ≡ u → (code s ≡ code u → ⊥) → P
+other e h = absurd (h (ap code e))
+
+module _ (t : Trace) (a : Areas) (hand more : List ℕ) (last : Bool) (line : List ℕ) where
+  abbrev whole : Replay
+  whole = replayIn t a
+
+  -- the line of a record, then what the rest gives
+  step-line : (out : List ℕ) → eqb (sizeOf (recordOf hand)) 0 ≡ false
+      → let r = recordOf hand in let x = advances t a line (callIn r) (payloadIn hand r) (sizeOf r) in let left = drop (sizeOf r) hand ++ more in
+      out ≡ linesOf (length left) (replayIn (x .outcome .trace) (x .areas)) left → wroteIn x ++ out ≡ linesOf (length (hand ++ more)) whole (hand ++ more)
+  step-line out e ih =
+      let r = recordOf hand in
+      let full : recordOf (hand ++ more) ≡ r = record-behind hand more (λ q. impossible (sym (ap (λ (z : RecordRead). eqb (sizeOf z) 0) q) ∙ e)) in
+      let paid = payload-behind r hand more (size-within hand) in
+      let cut = drop-append-le (sizeOf r) hand more (size-within hand) in
+      rw (wrote line (lineOf whole (called whole hand r)), lines-record whole (hand ++ more) (rw full e), full, paid, cut) (ap (λ (l : List ℕ). lineOf whole (called whole hand r) ++ l) ih)
+
+  -- the last line
+  step-close : (last ≡ true → more ≡ []) → eqb (sizeOf (recordOf hand)) 0 ≡ true → (isShort (recordOf hand) && not last) ≡ false
+      → wroteIn (next (endsWith t line (eqb (length hand) 0)) a) ≡ linesOf (length (hand ++ more)) whole (hand ++ more)
+  step-close told e m =
+      wrote line (closing whole hand)
+      ∙ by-bool last
+      (λ l. rw (told l, append-nil hand) (sym (lines-close whole hand e)))
+      (λ l.
+      let cut : isShort (recordOf hand) ≡ false = sym (and-true (isShort (recordOf hand))) ∙ rw l at m in
+      let some : recordOf hand ≡ records.Short → ⊥ = λ q. impossible (sym (ap isShort q) ∙ cut) in
+      let long = whole-some hand some in
+      let longer : 0 < length (hand ++ more) = rw (length-append hand more) (omega arith) in
+      rw (lines-close whole (hand ++ more) (rw (record-behind hand more some) e), ne-eqb (length hand) 0 (λ q. omega arith), ne-eqb (length (hand ++ more)) 0 (λ q. omega arith)))
+
+  turn-line : (out : List ℕ) {x : Next} → x ≡ nextOf t a hand last line → x .outcome .status ≡ status.Line
+      → out ≡ linesOf (length (drop (x .outcome .size) hand ++ more)) (replayIn (x .outcome .trace) (x .areas)) (drop (x .outcome .size) hand ++ more)
+      → wroteIn x ++ out ≡ linesOf (length (hand ++ more)) whole (hand ++ more)
+  turn-line out {x} e = subst P (sym e) (by-turn t a hand last line P (λ s ih. other s (λ k. omega arith)) (λ s ih. other s (λ k. omega arith)) (λ f m s ih. by-bool (eqb (length hand) 0) (λ b. other (rw b at s) (λ k. omega arith)) (λ b. other (rw b at s) (λ k. omega arith))) (λ f s ih. step-line out f ih))
+    where
+      P : Next → Type 0
+      P y =
+          y .outcome .status ≡ status.Line
+          → out ≡ linesOf (length (drop (y .outcome .size) hand ++ more)) (replayIn (y .outcome .trace) (y .areas)) (drop (y .outcome .size) hand ++ more)
+          → wroteIn y ++ out ≡ linesOf (length (hand ++ more)) whole (hand ++ more)
+
+  turn-close : {x : Next} → (last ≡ true → more ≡ []) → x ≡ nextOf t a hand last line → 2 ≤ code (x .outcome .status) → code (x .outcome .status) ≤ 3
+      → wroteIn x ≡ linesOf (length (hand ++ more)) whole (hand ++ more)
+  turn-close told e = subst P (sym e) (by-turn t a hand last line P (λ l m. absurd (omega arith)) (λ l m. absurd (omega arith)) (λ f m l k. step-close told f m) (λ f l m. absurd (omega arith)))
+    where
+      P : Next → Type 0
+      P y = 2 ≤ code (y .outcome .status) → code (y .outcome .status) ≤ 3 → wroteIn y ≡ linesOf (length (hand ++ more)) whole (hand ++ more)
+
+pub loop-writes : (t : Trace) (a : Areas) (rest out : List ℕ) → Writes t a rest out → out ≡ linesOf (length rest) (replayIn t a) rest
+loop-writes _ _ _ _ (record-line t a hand more last line out x told e s w) = turn-line t a hand more last line out e s (loop-writes _ _ _ _ w)
+loop-writes _ _ _ _ (end-line t a hand more last line x told e s) = turn-close t a hand more last line told e (rw s (omega arith)) (rw s (omega arith))
+loop-writes _ _ _ _ (bad-line t a hand more last line x told e s) = turn-close t a hand more last line told e (rw s (omega arith)) (rw s (omega arith))
+
+-- the header
+abbrev mark : Opened → ℕ
+mark opened.Short = 0
+mark opened.Bad = 1
+mark opened.Ready = 2
+
+unlike : {P : Type 0} {o u : Opened} → o ≡ u → (mark o ≡ mark u → ⊥) → P
+unlike e h = absurd (h (ap mark e))
+
+module _ (a : Areas) (rest : List ℕ) where
+  bad-by : (h : HeaderRead) → mark (begunBy h .opened) ≤ 1 → badBytes 0 ≡ byHeader a h rest
+  bad-by headers.Short e = refl
+  bad-by headers.Bad e = refl
+  bad-by (headers.Header start latency dropping first capacity) e =
+      by-bool (isRefused (madeOf start latency dropping first capacity) capacity) (λ b. rw b) (λ b. absurd (let k = rw b at e in omega arith))
+
+  ready-by : (h : HeaderRead) (out : List ℕ) → begunBy h .opened ≡ opened.Ready → out ≡ linesOf (length rest) (replayIn (begunBy h .trace) a) rest → out ≡ byHeader a h rest
+  ready-by headers.Short out e w = unlike e (λ k. omega arith)
+  ready-by headers.Bad out e w = unlike e (λ k. omega arith)
+  ready-by (headers.Header start latency dropping first capacity) out e w =
+      by-bool (isRefused (madeOf start latency dropping first capacity) capacity) (λ b. unlike (rw b at e) (λ k. omega arith)) (λ b. rw b w)
+
+header-long : (xs : List ℕ) → (headerOf xs ≡ headers.Short → ⊥) → 24 ≤ length xs
+unfolding headerOf
+header-long xs h = by-order (length xs) 24 (λ l. absurd (h (rw (lt-ltb _ _ l)))) (λ l. l)
+
+-- a program's turns on any pieces of a file write what the whole file gives
+pub loop-whole : (a : Areas) (file out : List ℕ) → Replays a file out → out ≡ outputOf a file
+unfolding outputOf
+loop-whole _ _ _ (cut a file e) = bad-by a (drop 24 file) (headerOf file) (rw e (omega arith))
+loop-whole _ _ _ (refused a hand more e) =
+    let whole : headerOf hand ≡ headers.Short → ⊥ = λ q. unlike (sym (ap (λ (h : HeaderRead). begunBy h .opened) q) ∙ e) (λ k. omega arith) in
+    rw (header-behind hand more whole) (bad-by a (drop 24 (hand ++ more)) (headerOf hand) (rw e (omega arith)))
+loop-whole _ _ _ (ready a hand more out e w) =
+    let whole : headerOf hand ≡ headers.Short → ⊥ = λ q. unlike (sym (ap (λ (h : HeaderRead). begunBy h .opened) q) ∙ e) (λ k. omega arith) in
+    rw (header-behind hand more whole, drop-append-le 24 hand more (header-long hand whole))
+    (ready-by a (drop 24 hand ++ more) (headerOf hand) out e (loop-writes (beginOf hand .trace) a (drop 24 hand ++ more) out w))
+
+-- a turn that gives a record's line moves the cursor, and not past the bytes at hand; so a file of any length comes to its end
+abbrev Moves : List ℕ → Next → Type 0
+Moves hand x = x .outcome .status ≡ status.Line → (0 < x .outcome .size) × (x .outcome .size ≤ length hand)
+
+pub turn-moves : (t : Trace) (a : Areas) (hand : List ℕ) (last : Bool) (line : List ℕ) → Moves hand (nextOf t a hand last line)
+turn-moves t a hand last line =
+    by-turn t a hand last line (Moves hand)
+    (λ s. other s (λ k. omega arith))
+    (λ s. other s (λ k. omega arith))
+    (λ f m s. by-bool (eqb (length hand) 0) (λ b. other (rw b at s) (λ k. omega arith)) (λ b. other (rw b at s) (λ k. omega arith)))
+    (λ f s. (positive (sizeOf (recordOf hand)) f, size-within hand))
+
+-- the line of a file that is no trace
+pub bad-start : badBytes 0 ≡ 98 ∷ 97 ∷ 100 ∷ 32 ∷ 48 ∷ 10 ∷ []
+unfolding lines.badBytes shapes.closed shapes.spaced decimals.signed decimals.decimal decimals.digits
+bad-start = refl

@@ -1,0 +1,18 @@
+use Rattle.trace.proofs.Steps.{steps-here}
+use Rattle.trace.proofs.advance.Statement.{statement}
+use Rattle.trace.proofs.advance.Tie as tie
+
+pub advance-spec : {M : Type 1} → statement M
+advance-spec =
+    tie.close
+    (tie.spec
+    (λ c κs. search steps-here)
+    (λ c κs. search steps-here)
+    (λ c κs. search steps-here)
+    (λ c. search steps-here)
+    (λ c. search steps-here)
+    (λ c. search steps-here)
+    (λ c. search steps-here)
+    (λ c. search steps-here)
+    (λ c. search steps-here)
+    (λ c. search steps-here))

@@ -1,0 +1,11 @@
+use Rattle.trace.proofs.Steps.{steps-here}
+use Rattle.trace.proofs.end.Statement.{statement}
+use Rattle.trace.proofs.end.Tie as tie
+
+pub end-spec : {M : Type 1} → statement M
+end-spec =
+    tie.close
+    (tie.spec
+    (λ c κs. search steps-here)
+    (λ c. search steps-here)
+    (λ c. search steps-here))

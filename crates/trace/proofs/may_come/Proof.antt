@@ -1,0 +1,11 @@
+use Rattle.trace.proofs.Steps.{steps-here}
+use Rattle.trace.proofs.may_come.Statement.{statement}
+use Rattle.trace.proofs.may_come.Tie as tie
+
+pub may-come-spec : {M : Type 1} → statement M
+may-come-spec =
+    tie.close
+    (tie.spec
+    (λ c. search steps-here)
+    (λ c κs. search steps-here)
+    (λ c. search steps-here))

@@ -1,0 +1,21 @@
+use Rattle.trace.proofs.Steps.{steps-here}
+use Rattle.trace.proofs.next.Statement.{statement}
+use Rattle.trace.proofs.next.Tie as tie
+
+pub next-spec : {M : Type 1} → statement M
+next-spec =
+    tie.close
+    (tie.spec
+    (λ c κs. search steps-here)
+    (λ c κs. search steps-here)
+    (λ c. search steps-here)
+    (λ c. search steps-here)
+    (λ c. search steps-here)
+    (λ c. search steps-here)
+    (λ c. search steps-here)
+    (λ c. search steps-here)
+    (λ c. search steps-here)
+    (λ c κs. search steps-here)
+    (λ c. search steps-here)
+    (λ c. search steps-here)
+    (λ c. search steps-here))

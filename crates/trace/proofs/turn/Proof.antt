@@ -1,0 +1,23 @@
+use Rattle.trace.proofs.Steps.{steps-here}
+use Rattle.trace.proofs.turn.Statement.{statement}
+use Rattle.trace.proofs.turn.Tie as tie
+
+pub turn-spec : {M : Type 1} → statement M
+turn-spec =
+    tie.close
+    (tie.spec
+    (λ c κs. search steps-here)
+    (λ c κs. search steps-here)
+    (λ c κs. search steps-here)
+    (λ c κs. search steps-here)
+    (λ c κs. search steps-here)
+    (λ c. search steps-here)
+    (λ c. search steps-here)
+    (λ c κs. search steps-here)
+    (λ c. search steps-here)
+    (λ c. search steps-here)
+    (λ c. search steps-here)
+    (λ c. search steps-here)
+    (λ c. search steps-here)
+    (λ c. search steps-here)
+    (λ c. search steps-here))

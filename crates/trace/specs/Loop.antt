@@ -1,0 +1,33 @@
+-- What a program writes that replays a file piece by piece: it asks `begin` once, then `next` until the end or a bad line, and writes what each turn
+-- wrote. 01, "Trace, mark DLT". The law `loop-whole` says that this is what the whole file gives, whatever the pieces.
+use mathlib.Core.Path.{_≡_}
+use mathlib.Core.Bool.{Bool, true}
+use mathlib.Core.List.{List, [], _++_}
+use Prim.Native.Nat.{ℕ}
+use lib.ListN.{take, drop}
+use Rattle.lines.specs.Lines.{badBytes}
+use Rattle.trace.specs.Trace.{Areas}
+use Rattle.trace.specs.Turn.{Next, nextOf, beginOf}
+use Rattle.trace.specs.declared.Opened.the-variants as opened
+use Rattle.trace.specs.declared.Status.the-variants as status
+use Rattle.trace.specs.declared.Trace.{Trace}
+
+-- the bytes that a turn wrote
+abbrev pub wroteIn : Next → List ℕ
+wroteIn x = take (x .outcome .written .cursor) (x .outcome .written .area)
+
+-- From a trace and its areas on, with the rest of the file, of which the first bytes are at hand and more are still to be read; `last` is told only if
+-- there are none. Each turn has a lent line of any contents. A turn that asks for more, or for a longer line, writes nothing and changes nothing.
+pub data Writes : Trace → Areas → List ℕ → List ℕ → Type 0 where
+  record-line : (t : Trace) (a : Areas) (hand more : List ℕ) (last : Bool) (line out : List ℕ) (x : Next) → (last ≡ true → more ≡ []) → x ≡ nextOf t a hand last line
+      → x .outcome .status ≡ status.Line → Writes (x .outcome .trace) (x .areas) (drop (x .outcome .size) hand ++ more) out → Writes t a (hand ++ more) (wroteIn x ++ out)
+  end-line : (t : Trace) (a : Areas) (hand more : List ℕ) (last : Bool) (line : List ℕ) (x : Next) → (last ≡ true → more ≡ []) → x ≡ nextOf t a hand last line
+      → x .outcome .status ≡ status.End → Writes t a (hand ++ more) (wroteIn x)
+  bad-line : (t : Trace) (a : Areas) (hand more : List ℕ) (last : Bool) (line : List ℕ) (x : Next) → (last ≡ true → more ≡ []) → x ≡ nextOf t a hand last line
+      → x .outcome .status ≡ status.Bad → Writes t a (hand ++ more) (wroteIn x)
+
+-- From the start of a file on. A header that is still short when nothing is left is bad.
+pub data Replays : Areas → List ℕ → List ℕ → Type 0 where
+  cut : (a : Areas) (file : List ℕ) → beginOf file .opened ≡ opened.Short → Replays a file (badBytes 0)
+  refused : (a : Areas) (hand more : List ℕ) → beginOf hand .opened ≡ opened.Bad → Replays a (hand ++ more) (badBytes 0)
+  ready : (a : Areas) (hand more out : List ℕ) → beginOf hand .opened ≡ opened.Ready → Writes (beginOf hand .trace) a (drop 24 hand ++ more) out → Replays a (hand ++ more) out

@@ -1,0 +1,136 @@
+-- One turn of a replay, on the bytes of the file that are at hand: 01, "Trace, mark DLT". `Trace.antt` says what the whole file gives.
+use mathlib.Core.Bool.{Bool, true, false, _&&_, not, cond}
+use mathlib.Core.List.{List}
+use Prim.Native.Nat.{ℕ, _+_, _*_}
+use lib.Dec.{eqb, leb}
+use lib.IntN.{pos}
+use lib.ListN.{length}
+use Rattle.head.specs.Head.{madeOf}
+use Rattle.head.specs.declared.state.Head.{Head}
+use Rattle.dlt.specs.Header.{headerOf}
+use Rattle.dlt.specs.Record.{recordOf, sizeOf}
+use Rattle.dlt.specs.declared.header.HeaderRead.{HeaderRead}
+use Rattle.dlt.specs.declared.header.HeaderRead.the-variants as headers
+use Rattle.dlt.specs.declared.record.RecordRead.{RecordRead}
+use Rattle.dlt.specs.declared.record.RecordRead.the-variants as records
+use Rattle.lines.specs.Lines.{lineBytes, endBytes, badBytes}
+use Rattle.step.specs.Step.{Ended, stateOf, lentFor, stepOf}
+use Rattle.step.specs.declared.Call.{Call}
+use Rattle.text.specs.Put.{Put, putEnded, putOf}
+use Rattle.trace.specs.Trace.{Areas, Replay, callIn, payloadIn, counted, isRefused}
+use Rattle.trace.specs.declared.Begun.{Begun}
+use Rattle.trace.specs.declared.Opened.{Opened}
+use Rattle.trace.specs.declared.Opened.the-variants as opened
+use Rattle.trace.specs.declared.Status.{Status}
+use Rattle.trace.specs.declared.Status.the-variants as status
+use Rattle.trace.specs.declared.Trace.{Trace}
+use Rattle.trace.specs.declared.Turned.{Turned}
+
+-- the head of a file that is no trace: of no use
+abbrev pub noHead : Head
+noHead = madeOf (pos 0) 0 false 0 1 .head
+
+abbrev pub begunAs : Opened → Head → Begun
+begunAs o h = record { trace = record { head = h; count = 0; offset = 24 }; opened = o }
+
+abbrev pub begunBy : HeaderRead → Begun
+begunBy headers.Short = begunAs opened.Short noHead
+begunBy headers.Bad = begunAs opened.Bad noHead
+begunBy (headers.Header start latency dropping first capacity) =
+    let m = madeOf start latency dropping first capacity in begunAs (cond (isRefused m capacity) opened.Bad opened.Ready) (m .head)
+
+-- the header at the start of the bytes at hand
+abbrev pub beginOf : List ℕ → Begun
+beginOf piece = begunBy (headerOf piece)
+
+abbrev pub areasOf : List ℕ → List ℕ → List ℕ → List ℕ → List ℕ → Areas
+areasOf ws bs a out list = record { slots = ws; payloads = bs; history = a; output = out; list = list }
+
+abbrev pub replayIn : Trace → Areas → Replay
+replayIn t a = record { count = t .count; offset = t .offset; head = t .head; areas = a }
+
+-- what came of a turn: the trace, how many bytes of the file it used, and what it wrote at the start of the lent line
+pub record Outcome : Type 0 where
+  pub trace : Trace
+  pub size : ℕ
+  pub written : Put
+  pub status : Status
+
+abbrev pub outcome : Trace → ℕ → Put → Status → Outcome
+outcome t size w s = record { trace = t; size = size; written = w; status = s }
+
+abbrev pub turned : Turned → List ℕ → Outcome
+turned r line = outcome (r .trace) (r .size) (putEnded (r .length) line) (r .status)
+
+-- and the areas after it
+pub record Next : Type 0 where
+  pub outcome : Outcome
+  pub areas : Areas
+
+abbrev pub next : Outcome → Areas → Next
+next o a = record { outcome = o; areas = a }
+
+abbrev pub isShort : RecordRead → Bool
+isShort records.Short = true
+isShort records.Bad = false
+isShort (records.Data time number message location stamp n) = false
+isShort (records.Pop time) = false
+isShort (records.Report time) = false
+isShort (records.FullAck time) = false
+isShort (records.Ack2 time number) = false
+isShort (records.Drop first last) = false
+isShort (records.Clock time stamp) = false
+isShort records.Clear = false
+
+-- room for the longest line: a number and a word, and 21 bytes for each word of a loss report
+abbrev pub lineNeed : List ℕ → ℕ
+lineNeed list = 256 + 21 * length list
+
+-- nothing is done, and nothing changes
+abbrev pub stays : Trace → List ℕ → Status → Outcome
+stays t line s = outcome t 0 (putEnded 0 line) s
+
+-- the last line: at the end of the file the end, else bad
+abbrev pub endsWith : Trace → List ℕ → Bool → Outcome
+endsWith t line empty =
+    outcome t 0
+    (putOf line 0
+    (cond empty (endBytes (t .count) (t .head .window .lrsn) (t .head .window .seqno0) (t .head .window .held)) (badBytes (t .offset))))
+    (cond empty status.End status.Bad)
+
+abbrev pub endsBy : Trace → List ℕ → Bool → Bool → Outcome
+endsBy t line more empty = cond more (stays t line status.More) (endsWith t line empty)
+
+-- a call, with its payload lent, on a head and the areas
+abbrev pub stepIn : Head → Areas → Call → List ℕ → Ended
+stepIn h a call payload = stepOf (stateOf h (a .slots) (a .payloads) (a .history)) (lentFor payload (a .output) (a .list)) call
+
+-- a call and its line: the head, what was written, and the areas
+pub record Ran : Type 0 where
+  pub head : Head
+  pub written : Put
+  pub areas : Areas
+
+abbrev pub ran : Head → Put → Areas → Ran
+ran h w a = record { head = h; written = w; areas = a }
+
+abbrev pub ranOf : Ended → List ℕ → ℕ → Ran
+ranOf e line nth =
+    ran (e .state .head) (putOf line 0 (lineBytes nth (e .line))) (areasOf (e .state .slots) (e .state .payloads) (e .state .history) (e .output) (e .list))
+
+-- the record's call, counted, with the size of its record
+abbrev pub advances : Trace → Areas → List ℕ → Call → List ℕ → ℕ → Next
+advances t a line call payload size =
+    let r = ranOf (stepIn (t .head) a call payload) line (counted (t .count) 1) in
+    next (outcome (record { head = r .head; count = counted (t .count) 1; offset = counted (t .offset) size }) size (r .written) status.Line) (r .areas)
+
+-- by the record that the bytes at hand start with; `last` says that none come behind them
+abbrev pub nextBy : Trace → Areas → List ℕ → Bool → List ℕ → RecordRead → Next
+nextBy t a rest last line r =
+    cond (eqb (sizeOf r) 0)
+    (next (endsBy t line (isShort r && not last) (eqb (length rest) 0)) a)
+    (advances t a line (callIn r) (payloadIn rest r) (sizeOf r))
+
+unfoldable pub nextOf : Trace → Areas → List ℕ → Bool → List ℕ → Next
+nextOf t a rest last line =
+    cond (leb (lineNeed (a .list)) (length line)) (nextBy t a rest last line (recordOf rest)) (next (stays t line status.LineShort) a)
