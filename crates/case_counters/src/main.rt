@@ -2,7 +2,7 @@
 use case_print::put;
 use case_print::put_count;
 use clock::base::TimeBase;
-use counters::Counters;
+use counts::Counters;
 use head::state::Head;
 
 // A head and its counters.

@@ -16,9 +16,9 @@ use Rattle.receiver.specs.declared.data.DataAnswer.{DataAnswer}
 use Rattle.receiver.specs.declared.acking.RttAnswer.{RttAnswer}
 use Rattle.receiver.specs.declared.request.DropAnswer.{DropAnswer}
 use Rattle.receiver.specs.declared.sync.ClockAnswer.{ClockAnswer}
-use Rattle.counters.specs.Counts.{dataCounts, ack2Counts, dropCounts, clockCounts}
+use Rattle.counts.specs.Counts.{dataCounts, ack2Counts, dropCounts, clockCounts}
 use Rattle.counters.specs.Calls.{Counted, counted, dataCounted, ack2Counted, dropCounted, clockCounted, messageCounted, lossCounted, fullAckCounted, clearCounted}
-use Rattle.counters.specs.declared.Counters.{Counters}
+use Rattle.counts.specs.declared.Counters.{Counters}
 use Rattle.counters.specs.declared.acking.FullAckCounted.{FullAckCounted}
 use Rattle.counters.specs.declared.acking.Ack2Counted.{Ack2Counted}
 use Rattle.counters.specs.declared.data.DataCounted.{DataCounted}

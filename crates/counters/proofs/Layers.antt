@@ -22,9 +22,9 @@ use Rattle.receiver.specs.declared.message.Given.{Given}
 use Rattle.receiver.specs.declared.request.DropAnswer.{DropAnswer}
 use Rattle.receiver.specs.declared.request.Cleared.{Cleared}
 use Rattle.receiver.specs.declared.sync.Clocked.{Clocked}
-use Rattle.counters.specs.Counts.{dataCounts, ack2Counts, dropCounts, clockCounts}
+use Rattle.counts.specs.Counts.{dataCounts, ack2Counts, dropCounts, clockCounts}
 use Rattle.counters.specs.Calls.{Counted, counted, dataCounted, ack2Counted, dropCounted, clockCounted, messageCounted, lossCounted, fullAckCounted, clearCounted}
-use Rattle.counters.specs.declared.Counters.{Counters}
+use Rattle.counts.specs.declared.Counters.{Counters}
 
 -- counters by an answer, beside the outcome that has the answer
 module _ {A : Type 0} (f : A → Counters) {o p : A} {c : Counters} where

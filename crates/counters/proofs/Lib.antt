@@ -1,5 +1,3 @@
--- The laws of the counters.
-pub mod Rises
+-- The laws of the calls with counters.
 pub mod Layers
 pub mod Determined
-pub mod Examples

@@ -11,8 +11,8 @@ use Rattle.receiver.specs.Loss.{LossOutcome, lossOf}
 use Rattle.receiver.specs.Message.{GivenOutcome, messageOf}
 use Rattle.receiver.specs.Request.{DropOutcome, ClearOutcome, dropCallOf, clearOf}
 use Rattle.receiver.specs.Sync.{ClockOutcome, clockOf}
-use Rattle.counters.specs.Counts.{dataCounts, ack2Counts, dropCounts, clockCounts}
-use Rattle.counters.specs.declared.Counters.{Counters}
+use Rattle.counts.specs.Counts.{dataCounts, ack2Counts, dropCounts, clockCounts}
+use Rattle.counts.specs.declared.Counters.{Counters}
 
 -- all that a call leaves, with its counters
 pub record Counted (A : Type 0) : Type 0 where

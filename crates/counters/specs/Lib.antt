@@ -1,3 +1,2 @@
--- The counters, what each answer raises, and each call with its counters.
-pub mod Counts
+-- Each call with its counters.
 pub mod Calls

@@ -2,7 +2,7 @@
 ghost use mathlib.Core.Path.{_≡_};
 ghost use Rattle.receiver.specs.Loss.{lossEnded};
 ghost use Rattle.counters.specs.Calls.{counted, lossCounted};
-use crate::Counters;
+use counts::Counters;
 use head::state::Head;
 use receiver::loss::Reported;
 

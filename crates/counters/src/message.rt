@@ -2,7 +2,7 @@
 ghost use mathlib.Core.Path.{_≡_};
 ghost use Rattle.receiver.specs.Message.{givenEnded};
 ghost use Rattle.counters.specs.Calls.{counted, messageCounted};
-use crate::Counters;
+use counts::Counters;
 use head::state::Head;
 use receiver::message::Given;
 

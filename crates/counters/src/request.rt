@@ -1,9 +1,8 @@
 // The drop request with its counters, receiver/mod.rs `handle_drop_request`, and clear and room, which count nothing: 01, "Counters follow 003".
 ghost use mathlib.Core.Path.{_≡_};
 ghost use Rattle.receiver.specs.Request.{dropEnded, clearEnded, roomEnded, roomCallOf};
-ghost use Rattle.counters.specs.Counts.{gone, dropCounts};
 ghost use Rattle.counters.specs.Calls.{counted, dropCounted, clearCounted};
-use crate::Counters;
+use counts::Counters;
 use head::state::Head;
 use receiver::request::Cleared;
 use receiver::request::DropAnswer;
@@ -19,23 +18,6 @@ pub struct ClearCounted {
     pub cleared: Cleared,
 }
 
-fn gone(n: usize) -> Counters
-    ensures { λ r. ⌜ r ≡ gone n ⌝ }
-{
-    let mut r = Counters::new();
-    r.rx_dropped_data = n as u64;
-    r
-}
-
-pub fn after_drop(c: Counters, answer: DropAnswer) -> Counters
-    ensures { λ r. ⌜ r ≡ dropCounts c answer ⌝ }
-{
-    let DropAnswer::Gone(n) = answer else {
-        return c;
-    };
-    c.raised(gone(n))
-}
-
 pub fn handle_drop_request(
     c: Counters,
     h: Head,
@@ -46,7 +28,7 @@ pub fn handle_drop_request(
     ensures { λ r. ⌜ counted (dropEnded (r .answer) (now (words .exit))) (r .counters) ≡ dropCounted c h (now (words .entry)) first last ⌝ }
 {
     let answer = receiver::request::handle_drop_request(h, words, first, last);
-    let counters = after_drop(c, answer);
+    let counters = counts::after::after_drop(c, answer);
     DropCounted { counters, answer }
 }
 

@@ -1,11 +1,9 @@
 // The clock call with its counter, receiver/mod.rs `synchronize_clock`: 01, "Counters follow 003".
 ghost use mathlib.Core.Path.{_≡_};
 ghost use Rattle.receiver.specs.Sync.{clockEnded};
-ghost use Rattle.counters.specs.Counts.{adjusted, clockCounts};
 ghost use Rattle.counters.specs.Calls.{counted, clockCounted};
-use crate::Counters;
+use counts::Counters;
 use head::state::Head;
-use receiver::sync::ClockAnswer;
 use receiver::sync::Clocked;
 
 pub struct ClockCounted {
@@ -13,28 +11,11 @@ pub struct ClockCounted {
     pub clocked: Clocked,
 }
 
-fn adjusted() -> Counters
-    ensures { λ r. ⌜ r ≡ adjusted ⌝ }
-{
-    let mut r = Counters::new();
-    r.rx_clock_adjustments = 1;
-    r
-}
-
-pub fn after_clock(c: Counters, answer: ClockAnswer) -> Counters
-    ensures { λ r. ⌜ r ≡ clockCounts c answer ⌝ }
-{
-    let ClockAnswer::Adjusted { .. } = answer else {
-        return c;
-    };
-    c.raised(adjusted())
-}
-
 pub fn synchronize_clock(c: Counters, h: Head, time: i64, stamp: u32) -> ClockCounted
     ensures { λ r. ⌜ counted (clockEnded (r .clocked)) (r .counters) ≡ clockCounted c h time stamp ⌝ }
 {
     let clocked = receiver::sync::synchronize_clock(h, time, stamp);
     let answer = clocked.answer;
-    let counters = after_clock(c, answer);
+    let counters = counts::after::after_clock(c, answer);
     ClockCounted { counters, clocked }
 }

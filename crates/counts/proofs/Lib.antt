@@ -1,0 +1,3 @@
+-- The laws of the counters.
+pub mod Rises
+pub mod Examples

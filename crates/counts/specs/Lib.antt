@@ -1,0 +1,2 @@
+-- The counters, and what each answer raises.
+pub mod Counts
