@@ -1,0 +1,2 @@
+-- Proofs of the loops of the replay.
+pub mod Counting

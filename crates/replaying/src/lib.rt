@@ -1,0 +1,448 @@
+// Replaying a file: 01, "Trace, mark DLT". A file of any length is read in pieces into a fixed buffer, and each turn of the trace writes its line
+// behind the lines that are still to be written out. That the turns give together what the whole file gives is the trace's law `loop-whole`; no contract
+// can speak of what is read or written, so here the code only follows that loop.
+ghost use Prim.Native.Nat.{_<_, _≤_};
+ghost use lib.ListN.{length};
+ghost use Rattle.io.specs.Counts.{Counts};
+use libc::STDERR_FILENO;
+use libc::STDIN_FILENO;
+use libc::STDOUT_FILENO;
+use trace::Begun;
+use trace::Opened;
+use trace::Status;
+use trace::Trace;
+use trace::Turned;
+
+// The areas of capacity 32.
+fn slot_area() -> [u64; 96] {
+    [0; 96]
+}
+
+fn payload_area() -> [u8; 46592] {
+    [0; 46592]
+}
+
+fn history_area() -> [u64; 2048] {
+    [0; 2048]
+}
+
+fn loss_words() -> [u32; 64] {
+    [0; 64]
+}
+
+// What is to be done next.
+enum Want {
+    // The header, or a turn of the trace.
+    Header,
+    Turn,
+    // More bytes for either.
+    HeaderBytes,
+    TurnBytes,
+    // Room for a line.
+    Room,
+    // The last line is written.
+    Nothing,
+    // Reading or writing failed.
+    Unread,
+    Unwritten,
+}
+
+// Between two turns: the bytes at hand are those from `at` to `end` of the buffer, and `used` bytes of lines are still to be written out. `last`
+// says that the file has no more.
+struct State {
+    trace: Trace,
+    at: usize,
+    end: usize,
+    used: usize,
+    last: bool,
+    want: Want,
+}
+
+// n, or as many bytes as there are.
+fn within(n: usize, part: &[u8]) -> usize
+    ensures { λ r. ⌜ Counts r (now (part .entry)) ⌝ }
+{
+    if n < part.len() { n } else { part.len() }
+}
+
+fn least(a: usize, b: usize) -> usize
+    ensures { λ r. ⌜ r ≤ b ⌝ }
+{
+    if a < b { a } else { b }
+}
+
+// Moves the bytes from `at` to `end` to the front.
+fn shift(hand: &mut [u8], at: usize, end: usize)
+    requires { ⌜ at ≤ end ⌝ }
+    requires { ⌜ end ≤ length (now hand) ⌝ }
+{
+    let mut i = at;
+    while i < end {
+        hand[i - at] = hand[i];
+        i += 1;
+    }
+}
+
+fn wanting(s: State, want: Want) -> State {
+    let trace = s.trace;
+    State {
+        trace,
+        at: s.at,
+        end: s.end,
+        used: s.used,
+        last: s.last,
+        want,
+    }
+}
+
+// What a read gave: the bytes at hand end here, and its answer.
+struct Got {
+    end: usize,
+    answer: isize,
+}
+
+// The bytes at hand go to the front, and one read behind them.
+fn read_behind(fd: i32, hand: &mut [u8], from: usize, to: usize) -> Got {
+    let end = within(to, hand);
+    let at = least(from, end);
+    shift(hand, at, end);
+    let kept = end - at;
+    let part = &mut hand[kept..];
+    let answer = libc::read(fd, part);
+    let n = io::count(answer, part);
+    Got {
+        end: std::num::wrapping_add_usize(kept, n),
+        answer,
+    }
+}
+
+fn filled(s: State, got: Got, want: Want) -> State {
+    if got.answer < 0 {
+        return wanting(s, Want::Unread);
+    }
+    let trace = s.trace;
+    State {
+        trace,
+        at: 0,
+        end: got.end,
+        used: s.used,
+        last: got.answer == 0,
+        want,
+    }
+}
+
+fn write_out(text: &[u8], used: usize) -> bool {
+    let n = within(used, text);
+    io::write_all(STDOUT_FILENO, &text[..n])
+}
+
+// The lines were written out, or not.
+fn flushed(s: State, done: bool, want: Want) -> State {
+    if done {
+        let trace = s.trace;
+        return State {
+            trace,
+            at: s.at,
+            end: s.end,
+            used: 0,
+            last: s.last,
+            want,
+        };
+    }
+    wanting(s, Want::Unwritten)
+}
+
+// The line of a file that is no trace, `bad 0`, and the cursor behind it.
+fn put_bad(text: &mut [u8]) -> usize {
+    if text.len() < 256 {
+        return 0;
+    }
+    lines::bad_line(text, 0, 0)
+}
+
+fn bad_start(text: &mut [u8], s: State) -> State {
+    let used = put_bad(text);
+    let trace = s.trace;
+    State {
+        trace,
+        at: 0,
+        end: 0,
+        used,
+        last: true,
+        want: Want::Nothing,
+    }
+}
+
+fn opening(hand: &[u8], to: usize) -> Begun {
+    let end = within(to, hand);
+    trace::begin(&hand[..end])
+}
+
+// The header, from the bytes at hand.
+fn open(hand: &[u8], text: &mut [u8], s: State) -> State {
+    let b = opening(hand, s.end);
+    let trace = b.trace;
+    let opened = b.opened;
+    match opened {
+        Opened::Ready => State {
+            trace,
+            at: 24,
+            end: s.end,
+            used: s.used,
+            last: s.last,
+            want: Want::Turn,
+        },
+        Opened::Bad => bad_start(text, s),
+        Opened::Short => {
+            if s.last {
+                return bad_start(text, s);
+            }
+            wanting(s, Want::HeaderBytes)
+        }
+    }
+}
+
+fn after(status: Status) -> Want {
+    match status {
+        Status::Line => Want::Turn,
+        Status::More => Want::TurnBytes,
+        Status::LineShort => Want::Room,
+        Status::End => Want::Nothing,
+        Status::Bad => Want::Nothing,
+    }
+}
+
+fn turned(s: State, x: Turned) -> State {
+    let trace = x.trace;
+    let status = x.status;
+    State {
+        trace,
+        at: std::num::wrapping_add_usize(s.at, x.size),
+        end: s.end,
+        used: std::num::wrapping_add_usize(s.used, x.length),
+        last: s.last,
+        want: after(status),
+    }
+}
+
+// A turn of the trace, with its line behind the lines that are there.
+fn turn(
+    words: &mut [u64],
+    bytes: &mut [u8],
+    area: &mut [u64],
+    out: &mut [u8],
+    list: &mut [u32],
+    hand: &[u8],
+    text: &mut [u8],
+    trace: Trace,
+    at: usize,
+    to: usize,
+    last: bool,
+    used: usize,
+) -> Turned {
+    let end = within(to, hand);
+    let from = within(used, text);
+    trace::next(
+        trace,
+        words,
+        bytes,
+        area,
+        out,
+        list,
+        &mut text[from..],
+        &hand[..end],
+        at,
+        last,
+    )
+}
+
+// What is wanted is done once.
+fn act(
+    fd: i32,
+    words: &mut [u64],
+    bytes: &mut [u8],
+    area: &mut [u64],
+    out: &mut [u8],
+    list: &mut [u32],
+    hand: &mut [u8],
+    text: &mut [u8],
+    s: State,
+) -> State {
+    let want = s.want;
+    let trace = s.trace;
+    match want {
+        Want::Turn => {
+            let x = turn(
+                words,
+                bytes,
+                area,
+                out,
+                list,
+                hand,
+                text,
+                trace,
+                s.at,
+                s.end,
+                s.last,
+                s.used,
+            );
+            turned(s, x)
+        }
+        Want::Header => open(hand, text, s),
+        Want::HeaderBytes => filled(s, read_behind(fd, hand, s.at, s.end), Want::Header),
+        Want::TurnBytes => filled(s, read_behind(fd, hand, s.at, s.end), Want::Turn),
+        Want::Room => flushed(s, write_out(text, s.used), Want::Turn),
+        Want::Nothing => s,
+        Want::Unread => s,
+        Want::Unwritten => s,
+    }
+}
+
+// The turns that are left: none once nothing is wanted.
+fn left(want: Want, turns: u64) -> u64
+    requires { ⌜ 0 < turns ⌝ }
+    ensures { λ r. ⌜ r < turns ⌝ }
+{
+    match want {
+        Want::Nothing => 0,
+        Want::Unread => 0,
+        Want::Unwritten => 0,
+        Want::Turn => turns - 1,
+        Want::Header => turns - 1,
+        Want::HeaderBytes => turns - 1,
+        Want::TurnBytes => turns - 1,
+        Want::Room => turns - 1,
+    }
+}
+
+// A proved loop has to end, and nothing says that a file does: it counts down from a number that no run uses up.
+fn replay_all(
+    fd: i32,
+    words: &mut [u64],
+    bytes: &mut [u8],
+    area: &mut [u64],
+    out: &mut [u8],
+    list: &mut [u32],
+    hand: &mut [u8],
+    text: &mut [u8],
+    start: State,
+) -> State {
+    let mut s = start;
+    let mut turns = u64::MAX;
+    while turns > 0 {
+        s = act(fd, words, bytes, area, out, list, hand, text, s);
+        let want = s.want;
+        turns = left(want, turns);
+    }
+    s
+}
+
+fn fresh() -> State {
+    let b = trace::begin(b"");
+    let trace = b.trace;
+    State {
+        trace,
+        at: 0,
+        end: 0,
+        used: 0,
+        last: false,
+        want: Want::Header,
+    }
+}
+
+fn write_rest(text: &[u8], used: usize) {
+    if write_out(text, used) {
+        return;
+    }
+    os::fail(b"standard output");
+}
+
+// The lines that are left, and what failed. errno is told before anything else can change it.
+fn finish(want: Want, text: &[u8], used: usize, name: &[u8]) {
+    match want {
+        Want::Unwritten => os::fail(b"standard output"),
+        Want::Unread => {
+            os::fail(name);
+            write_rest(text, used);
+        }
+        Want::Nothing => write_rest(text, used),
+        Want::Turn => write_rest(text, used),
+        Want::Header => write_rest(text, used),
+        Want::HeaderBytes => write_rest(text, used),
+        Want::TurnBytes => write_rest(text, used),
+        Want::Room => write_rest(text, used),
+    }
+}
+
+fn replay_open(fd: i32, name: &[u8]) {
+    let mut words = slot_area();
+    let mut bytes = payload_area();
+    let mut area = history_area();
+    let mut out = payload_area();
+    let mut list = loss_words();
+    let mut hand = io::large_buffer();
+    let mut text = io::large_buffer();
+    let s = replay_all(
+        fd,
+        &mut words,
+        &mut bytes,
+        &mut area,
+        &mut out,
+        &mut list,
+        &mut hand,
+        &mut text,
+        fresh(),
+    );
+    let want = s.want;
+    finish(want, &text, s.used, name);
+}
+
+fn replay_file(path: &[u8]) {
+    let fd = os::open_read(path);
+    if fd < 0 {
+        os::fail(path);
+        return;
+    }
+    replay_open(fd, path);
+    libc::close(fd);
+}
+
+fn replay_argument(i: usize) {
+    let mut path = io::buffer();
+    let length = os::arg(i, &mut path);
+    if os::errno() != 0 {
+        os::fail(b"argument");
+        return;
+    }
+    replay_file(&path[..length]);
+}
+
+// Replays the file that the first argument names, or standard input.
+pub fn run() {
+    let n = os::arg_count();
+    if n <= 1 {
+        replay_open(STDIN_FILENO, b"standard input");
+        return;
+    }
+    if n == 2 {
+        replay_argument(1);
+        return;
+    }
+    io::write_all(STDERR_FILENO, b"usage: replay [FILE]\n");
+}
+
+fn write_name(i: usize) {
+    let mut path = io::buffer();
+    let length = os::arg(i, &mut path);
+    io::write_all(STDOUT_FILENO, &path[..length]);
+    io::write_all(STDOUT_FILENO, b"\n");
+}
+
+// Replays each file that an argument names, after a line with the name: for the cases of the gate.
+pub fn run_each() {
+    let n = os::arg_count();
+    for i in 1..n {
+        write_name(i);
+        replay_argument(i);
+    }
+}
