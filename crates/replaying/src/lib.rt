@@ -417,18 +417,31 @@ fn replay_argument(i: usize) {
     replay_file(&path[..length]);
 }
 
-// Replays the file that the first argument names, or standard input.
-pub fn run() {
-    let n = os::arg_count();
-    if n <= 1 {
+// Replays the file that argument i names, or standard input if there is none.
+fn replay_from(i: usize) {
+    if os::arg_count() <= i {
         replay_open(STDIN_FILENO, b"standard input");
         return;
     }
-    if n == 2 {
-        replay_argument(1);
+    replay_argument(i);
+}
+
+// The program replay: at most one file.
+pub fn run() {
+    if os::arg_count() > 2 {
+        io::write_all(STDERR_FILENO, b"usage: replay [FILE]\n");
         return;
     }
-    io::write_all(STDERR_FILENO, b"usage: replay [FILE]\n");
+    replay_from(1);
+}
+
+// The subcommand replay: the file is the word behind it.
+pub fn run_subcommand() {
+    if os::arg_count() > 3 {
+        io::write_all(STDERR_FILENO, b"usage: pursethistle replay [FILE]\n");
+        return;
+    }
+    replay_from(2);
 }
 
 fn write_name(i: usize) {
