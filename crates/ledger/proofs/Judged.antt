@@ -6,11 +6,13 @@ use mathlib.Core.Logic.{_⊎_, inl, inr}
 use Prim.Native.Nat.{ℕ, zero, suc, _+_, _-_, _^_, _<_, _≤_}
 use native.Mathlib.Nat.{mod-eq-of-lt}
 use native.Mathlib.Omega.{arith}
+use borrow.Author.Tests.{ltb-true}
+use lib.Dec.{ltb}
 use lib.IntN.{ℤ, natAbs}
 use lib.ListN.{length, getD, set}
-use Rattle.numbers.specs.Circular.{distance, before, sum}
-use Rattle.numbers.proofs.Flags.{impossible}
-use Rattle.numbers.proofs.Circle.{stepped, around, before-not, distance-sum, distance-self}
+use Rattle.numbers.specs.Circular.{distance, before, after, sum}
+use Rattle.numbers.proofs.Flags.{impossible, and-left}
+use Rattle.numbers.proofs.Circle.{stepped, around, before-not, after-at, sum-sum, distance-sum, distance-self}
 use Rattle.numbers.proofs.Places.{place-distance}
 use Rattle.slots.specs.Words as words
 use Rattle.slots.specs.declared.entry.Entry.{Entry}
@@ -32,7 +34,7 @@ use Rattle.views.specs.View.{Seen, seenOf, seenAt, entries, LrsnRight, packetSe
 use Rattle.views.proofs.Lists.{entries-length, entries-at}
 use Rattle.ledger.specs.Ledger.{Place, lost, received, givenUp, Ledger, numberOf, frontOf, nextOf}
 use Rattle.ledger.specs.Runs.{placeOf}
-use Rattle.ledger.specs.Reading.{appends, recovers}
+use Rattle.ledger.specs.Reading.{appends, recovers, isLoss, LossIs}
 use Rattle.ledger.specs.Claims.{Judges}
 use Rattle.ledger.proofs.Moved.{Stands, held-count, place-number}
 use Rattle.ledger.proofs.Moves.{Admitted, Said, data-moves}
@@ -47,6 +49,11 @@ lost-is : (bs : List ℕ) (s : ℕ) (e : Entry) → placeOf (seenOf bs s e) ≡ 
 lost-is bs s (Lost k f) e = refl
 lost-is bs s (Received n l m t) e = absurd (let z : _≡_ {A = ℕ} 0 1 = cc in omega arith)
 lost-is bs s GivenUp e = absurd (let z : _≡_ {A = ℕ} 0 1 = cc in omega arith)
+
+lost-so : (bs : List ℕ) (s : ℕ) (e : Entry) → words.isLost e ≡ true → placeOf (seenOf bs s e) ≡ lost
+lost-so bs s (Lost k f) e = refl
+lost-so bs s (Received n l m t) e = impossible (sym e)
+lost-so bs s GivenUp e = impossible (sym e)
 
 module _ (S : ℕ → List ℕ → Type 0) (l : Ledger) (h : Head) (ws bs : List ℕ) (time : ℤ) (p : Packet) (payload : List ℕ) (hs : p .stamp < 2 ^ 32)
     (a : Stands S l (h .window) (entries (h .window) ws bs)) where
@@ -110,6 +117,26 @@ module _ (S : ℕ → List ℕ → Type 0) (l : Ledger) (h : Head) (ws bs : List
   unfolding sum
   number d = sym (place-number a at) ∙ stepped 31 (p .number) (w .seqno0) ∙ mod-eq-of-lt (d .right .number)
 
+  -- a number after the next expected, with room: how far it is from either
+  beyond-next : after 31 (p .number) (numberOf l (nextOf l)) ≡ true → 0 < distance 31 (p .number) (windows.nextOf w)
+  unfolding after
+  beyond-next e =
+      let n = distance 31 (p .number) (numberOf l (nextOf l)) in
+      subst (λ (x : ℕ). 0 < distance 31 (p .number) x) (sym next-is) (ltb-true 0 n (and-left (ltb 0 n) (ltb n (2 ^ 30)) e))
+
+  gap-room : Admitted h ws bs time p payload → length (l .held) + distance 31 (p .number) (numberOf l (nextOf l)) + 1 ≤ w .capacity
+      → w .held + distance 31 (p .number) (windows.nextOf w) + 1 ≤ 8192
+  gap-room d x = let n = ap (distance 31 (p .number)) next-is in omega (arith, count, n, x, d .good .most)
+
+  gap-index : Admitted h ws bs time p payload → after 31 (p .number) (numberOf l (nextOf l)) ≡ true
+      → length (l .held) + distance 31 (p .number) (numberOf l (nextOf l)) + 1 ≤ w .capacity → at ≡ w .held + distance 31 (p .number) (windows.nextOf w)
+  unfolding sum
+  gap-index d e x =
+      let m = distance 31 (p .number) (windows.nextOf w) in
+      let is : p .number ≡ sum 31 (w .seqno0) (w .held + m) =
+      sym (mod-eq-of-lt (d .right .number)) ∙ sym (stepped 31 (p .number) (windows.nextOf w)) ∙ sum-sum 31 (w .seqno0) (w .held) m in
+      ap (λ (y : ℕ). distance 31 y (w .seqno0)) is ∙ distance-sum 31 (w .seqno0) {n = w .held + m} (omega (arith, gap-room d x))
+
   abbrev tests : ℕ
   tests = firstRefusal (pushRules (headOk h) (w .capacity) (length ws) (length bs) time (h .latest) p (length payload))
 
@@ -120,25 +147,37 @@ module _ (S : ℕ → List ℕ → Type 0) (l : Ledger) (h : Head) (ws bs : List
   refused : (n : ℕ) → n ≡ tests → 1 ≤ n → n ≤ 6 → Judged (datas.Refused n)
   refused n t some most =
       record {
+        inOrder = λ e. impossible (sym e);
+        forLost = λ e. impossible (sym e);
+        afterGap = λ e. impossible (sym e);
+        gapNamed = tt;
         tested = inl t;
         full = λ e. absurd (omega arith);
         early = λ e. absurd (omega arith);
+        late = λ e. absurd (omega arith);
         unplaced = λ b c i k e. omega arith;
         duplicate = λ e. absurd (omega arith);
         taken = λ z i k e q. absurd (omega (arith, t, z));
         next = λ z e r. absurd (omega (arith, t, z));
+        gap = λ z e r. absurd (omega (arith, t, z));
       }
 
   full : Admitted h ws bs time p payload → p .number ≡ windows.nextOf w → w .held ≡ w .capacity → Judged (datas.Refused 7)
   full d q c =
       record {
-        tested = inr (d .tests, omega arith);
+        inOrder = λ e. impossible (sym e);
+        forLost = λ e. impossible (sym e);
+        afterGap = λ e. impossible (sym e);
+        gapNamed = tt;
+        tested = inr (d .tests, omega arith, omega arith);
         full = λ e. (q ∙ next-is, sym count ∙ c);
         early = λ e. absurd (omega arith);
         unplaced = λ b m. not-next (d .good) q;
         duplicate = λ e. absurd (omega arith);
         taken = λ z i k e x. absurd (not-next (d .good) q i k e);
+        late = λ e. absurd (omega arith);
         next = λ z e r. absurd (omega (arith, count, c));
+        gap = λ z e r. absurd (let y = beyond-next e in let x = none-missing (q ∙ next-is) in omega arith);
       }
 
   early : Admitted h ws bs time p payload → (room need : ℕ) → 0 < distance 31 (p .number) (windows.nextOf w) → distance 31 (p .number) (windows.nextOf w) < 2 ^ 30
@@ -146,31 +185,50 @@ module _ (S : ℕ → List ℕ → Type 0) (l : Ledger) (h : Head) (ws bs : List
   early d room need some under r =
       let n = ap (distance 31 (p .number)) next-is in
       record {
-        tested = inr (d .tests, omega arith);
+        inOrder = λ e. impossible (sym e);
+        forLost = λ e. impossible (sym e);
+        afterGap = λ e. impossible (sym e);
+        gapNamed = tt;
+        tested = inr (d .tests, omega arith, omega arith);
         full = λ e. absurd (omega arith);
         early = λ e. omega (arith, count, n, r);
         unplaced = λ b m. not-far (d .good) under;
         duplicate = λ e. absurd (omega arith);
         taken = λ z i k e x. absurd (not-far (d .good) under i k e);
+        late = λ e. absurd (omega arith);
         next = λ z e x. absurd (let y = none-missing e in omega arith);
+        gap = λ z e x. absurd (omega (arith, count, n, r, x, d .good .holds));
       }
 
   late : Admitted h ws bs time p payload → before 31 (p .number) (w .seqno0) ≡ true → Judged (datas.Refused 9)
   late d b =
       record {
-        tested = inr (d .tests, omega arith);
+        inOrder = λ e. impossible (sym e);
+        forLost = λ e. impossible (sym e);
+        afterGap = λ e. impossible (sym e);
+        gapNamed = tt;
+        tested = inr (d .tests, omega arith, omega arith);
         full = λ e. absurd (omega arith);
         early = λ e. absurd (omega arith);
         unplaced = λ c m i k e. not-late (d .good) b i (omega (arith, count)) e;
         duplicate = λ e. absurd (omega arith);
         taken = λ z i k e x. absurd (not-late (d .good) b i (omega (arith, count)) e);
+        late = λ e. ap (before 31 (p .number)) (sym (a .front)) ∙ b;
         next = λ z e x. absurd (not-late (d .good) b (w .held) (omega arith) (ap (λ (y : ℕ). numberOf l (frontOf l + y)) count ∙ sym e));
+        gap =
+            λ z e x.
+            let y = gap-index d e x in
+            impossible (sym b ∙ before-not 31 (p .number) (w .seqno0) (omega (arith, d .good .most, gap-room d x)));
       }
 
   twice : Admitted h ws bs time p payload → at < w .held → words.isLost (entryIn w ws at) ≡ false → Judged (datas.Refused 10)
   twice d i n =
       record {
-        tested = inr (d .tests, omega arith);
+        inOrder = λ e. impossible (sym e);
+        forLost = λ e. impossible (sym e);
+        afterGap = λ e. impossible (sym e);
+        gapNamed = tt;
+        tested = inr (d .tests, omega arith, omega arith);
         full = λ e. absurd (omega arith);
         early = λ e. absurd (omega arith);
         unplaced = λ b m j k e. omega arith;
@@ -181,22 +239,36 @@ module _ (S : ℕ → List ℕ → Type 0) (l : Ledger) (h : Head) (ws bs : List
             λ z j k e q.
             let y = index-is (d .good) j (omega (arith, count)) e in
             impossible (sym (lost-is bs (slotIn w at) (entryIn w ws at) (sym (place-is views.givenUp at i) ∙ ap (λ (x : ℕ). getD (l .held) x givenUp) y ∙ q)) ∙ n);
+        late = λ e. absurd (omega arith);
         next = λ z e x. absurd (let y = fresh-index (d .good) e in omega arith);
+        gap = λ z e x. absurd (let y = gap-index d e x in omega arith);
       }
 
   -- one that is taken
   took : (x : DataAnswer) → dataLine x .refusal ≡ 0 → Admitted h ws bs time p payload
+      → (appends x ≡ true → p .number ≡ numberOf l (nextOf l))
+      → (recovers x ≡ true → (i : ℕ) × (i < length (l .held)) × (numberOf l (frontOf l + i) ≡ p .number) × (getD (l .held) i givenUp ≡ lost))
+      → (isLoss x ≡ true → after 31 (p .number) (numberOf l (nextOf l)) ≡ true)
+      → LossIs x (numberOf l (nextOf l)) (sum 31 (p .number) (2 ^ 31 - 1))
       → ((i : ℕ) → i < length (l .held) → numberOf l (frontOf l + i) ≡ p .number → getD (l .held) i givenUp ≡ lost → recovers x ≡ true)
-      → (p .number ≡ numberOf l (nextOf l) → appends x ≡ true) → Judged x
-  took x z d r f =
+      → (p .number ≡ numberOf l (nextOf l) → appends x ≡ true)
+      → (after 31 (p .number) (numberOf l (nextOf l)) ≡ true → length (l .held) + distance 31 (p .number) (numberOf l (nextOf l)) + 1 ≤ w .capacity → isLoss x ≡ true)
+      → Judged x
+  took x z d o v g n r f m =
       record {
+        inOrder = o;
+        forLost = v;
+        afterGap = g;
+        gapNamed = n;
         tested = inl (z ∙ sym (d .tests));
         full = λ e. absurd (omega (arith, z));
         early = λ e. absurd (omega (arith, z));
+        late = λ e. absurd (omega (arith, z));
         unplaced = λ b m i k e. omega (arith, z);
         duplicate = λ e. absurd (omega (arith, z));
         taken = λ t. r;
         next = λ t e y. f e;
+        gap = λ t. m;
       }
 
   pub data-judged : Said h ws bs time p payload hs (a .right) (λ v fs x. Judged x) (dataOf h ws bs time p payload)
@@ -210,15 +282,52 @@ module _ (S : ℕ → List ℕ → Type 0) (l : Ledger) (h : Head) (ws bs : List
       next
       (λ d some room r.
       took (datas.Loss (windows.nextOf w) (sum 31 (p .number) (2 ^ 31 - 1))) refl d
+      (λ e. impossible (sym e))
+      (λ e. impossible (sym e))
+      (λ e. ap (after 31 (p .number)) (sym next-is) ∙ after-at 31 (p .number) (windows.nextOf w) some (omega (arith, d .good .most)))
+      (next-is, refl)
       (λ i k e q. absurd (not-far (d .good) (omega (arith, d .good .most)) i k e))
-      (λ e. absurd (let y = none-missing e in omega arith)))
+      (λ e. absurd (let y = none-missing e in omega arith))
+      (λ e m. refl))
       recovered
     where
       next : Admitted h ws bs time p payload → (light : Bool) (lrsn : ℕ) → p .number ≡ windows.nextOf w → LrsnRight (grown w p 1) (es ++ (packetSeen p payload ∷ [])) → Judged (gotAnswer light lrsn false)
-      next d true lrsn q r = took (datas.Light lrsn false) refl d (λ i k e x. absurd (not-next (d .good) q i k e)) (λ e. refl)
-      next d false lrsn q r = took (datas.Got lrsn false) refl d (λ i k e x. absurd (not-next (d .good) q i k e)) (λ e. refl)
+      next d true lrsn q r =
+          took (datas.Light lrsn false) refl d
+          (λ e. q ∙ next-is)
+          (λ e. impossible (sym e))
+          (λ e. impossible (sym e))
+          tt
+          (λ i k e x. absurd (not-next (d .good) q i k e))
+          (λ e. refl)
+          (λ e m. absurd (let y = beyond-next e in let x = none-missing (q ∙ next-is) in omega arith))
+      next d false lrsn q r =
+          took (datas.Got lrsn false) refl d
+          (λ e. q ∙ next-is)
+          (λ e. impossible (sym e))
+          (λ e. impossible (sym e))
+          tt
+          (λ i k e x. absurd (not-next (d .good) q i k e))
+          (λ e. refl)
+          (λ e m. absurd (let y = beyond-next e in let x = none-missing (q ∙ next-is) in omega arith))
 
       recovered : Admitted h ws bs time p payload → (light : Bool) (lrsn : ℕ) → at < w .held → words.isLost (entryIn w ws at) ≡ true
           → LrsnRight (withLrsn w lrsn) (set es at (packetSeen p payload)) → Judged (gotAnswer light lrsn true)
-      recovered d true lrsn i n r = took (datas.Light lrsn true) refl d (λ j k e q. refl) (λ e. absurd (let y = fresh-index (d .good) e in omega arith))
-      recovered d false lrsn i n r = took (datas.Got lrsn true) refl d (λ j k e q. refl) (λ e. absurd (let y = fresh-index (d .good) e in omega arith))
+      recovered d true lrsn i n r =
+          took (datas.Light lrsn true) refl d
+          (λ e. impossible (sym e))
+          (λ e. (at, omega (arith, count), number d, place-is views.givenUp at i ∙ lost-so bs (slotIn w at) (entryIn w ws at) n))
+          (λ e. impossible (sym e))
+          tt
+          (λ j k e q. refl)
+          (λ e. absurd (let y = fresh-index (d .good) e in omega arith))
+          (λ e m. absurd (let y = gap-index d e m in omega arith))
+      recovered d false lrsn i n r =
+          took (datas.Got lrsn true) refl d
+          (λ e. impossible (sym e))
+          (λ e. (at, omega (arith, count), number d, place-is views.givenUp at i ∙ lost-so bs (slotIn w at) (entryIn w ws at) n))
+          (λ e. impossible (sym e))
+          tt
+          (λ j k e q. refl)
+          (λ e. absurd (let y = fresh-index (d .good) e in omega arith))
+          (λ e m. absurd (let y = gap-index d e m in omega arith))

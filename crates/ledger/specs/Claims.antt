@@ -4,9 +4,9 @@ use mathlib.Core.Path.{_≡_}
 use mathlib.Core.Bool.{true}
 use mathlib.Core.List.{List, _∷_, map}
 use mathlib.Core.Logic.{_⊎_}
-use Prim.Native.Nat.{ℕ, _+_, _<_, _≤_}
+use Prim.Native.Nat.{ℕ, _+_, _-_, _^_, _<_, _≤_}
 use lib.ListN.{length, take, getD}
-use Rattle.numbers.specs.Circular.{distance}
+use Rattle.numbers.specs.Circular.{distance, before, after, sum}
 use Rattle.head.specs.Head.{headOk}
 use Rattle.head.specs.Rules.{firstRefusal, pushRules}
 use Rattle.receiver.specs.Data.{packet}
@@ -21,9 +21,10 @@ use Rattle.step.specs.declared.Call.{Call}
 use Rattle.step.specs.declared.Call.the-variants as calls
 use Rattle.step.specs.declared.Answer.{Answer}
 use Rattle.step.specs.declared.Answer.the-variants as answers
-use Rattle.ledger.specs.Reading.{Plain, numberIn, lastIn, appends, recovers, kindOf, kindIn}
+use Rattle.ledger.specs.Reading.{Plain, numberIn, lastIn, appends, recovers, isLoss, LossIs, kindOf, kindIn}
 use Rattle.ledger.specs.Ledger.{lost, received, givenUp, released, discarded, Ledger, numberOf, frontOf, nextOf, bytesOf, receivedRun, lostCount, releasedBytes, enterDrop}
-use Rattle.ledger.specs.Runs.{Event, Book, Fresh, fresh, AllPlain, answered, turned, after, handedOut, entered, Sent, Agrees}
+use Rattle.ledger.specs.Runs as runs
+use Rattle.ledger.specs.Runs.{Event, Book, Fresh, fresh, AllPlain, answered, turned, handedOut, entered, Sent, Agrees}
 
 -- after any calls: past has them all, out is all that they handed out, count how many places they entered
 pub record Holds (l : Ledger) (s : State) (past : List Event) (out : List ℕ) (count : ℕ) : Type 0 where
@@ -43,19 +44,27 @@ pub record Holds (l : Ledger) (s : State) (past : List Event) (out : List ℕ) (
 
 -- the answer to a packet, by its number and by the first of the tests 1 to 6 that holds (0 for none), which look at no place
 pub record Judges (l : Ledger) (capacity tests number : ℕ) (a : DataAnswer) : Type 0 where
-  -- refused by 1 to 6 just if a test holds
-  pub tested : (dataLine a .refusal ≡ tests) ⊎ ((tests ≡ 0) × (7 ≤ dataLine a .refusal))
+  -- taken in order: its number is the next; for a lost place: a held place of its number is lost; after a gap: the gap is what lies between
+  pub inOrder : appends a ≡ true → number ≡ numberOf l (nextOf l)
+  pub forLost : recovers a ≡ true → (i : ℕ) × (i < length (l .held)) × (numberOf l (frontOf l + i) ≡ number) × (getD (l .held) i givenUp ≡ lost)
+  pub afterGap : isLoss a ≡ true → after 31 number (numberOf l (nextOf l)) ≡ true
+  pub gapNamed : LossIs a (numberOf l (nextOf l)) (sum 31 number (2 ^ 31 - 1))
+  -- and a packet of each of these kinds is taken: one of the number next expected, after any number of wraps, if there is room ..
+  pub next : tests ≡ 0 → number ≡ numberOf l (nextOf l) → length (l .held) < capacity → appends a ≡ true
+  -- .. one whose held place is lost ..
+  pub taken : tests ≡ 0 → (i : ℕ) → i < length (l .held) → numberOf l (frontOf l + i) ≡ number → getD (l .held) i givenUp ≡ lost → recovers a ≡ true
+  -- .. and one after a gap, if there is room for both
+  pub gap : tests ≡ 0 → after 31 number (numberOf l (nextOf l)) ≡ true → length (l .held) + distance 31 number (numberOf l (nextOf l)) + 1 ≤ capacity → isLoss a ≡ true
+  -- refused by 1 to 6 just if a test holds, and by no number over 10
+  pub tested : (dataLine a .refusal ≡ tests) ⊎ ((tests ≡ 0) × (7 ≤ dataLine a .refusal) × (dataLine a .refusal ≤ 10))
   -- 7 and 8: there is no room
   pub full : dataLine a .refusal ≡ 7 → (number ≡ numberOf l (nextOf l)) × (length (l .held) ≡ capacity)
   pub early : dataLine a .refusal ≡ 8 → capacity < length (l .held) + distance 31 number (numberOf l (nextOf l)) + 1
-  -- 7, 8 and 9: it has no held place
+  -- 9: it is before the front; 7, 8 and 9: it has no held place
+  pub late : dataLine a .refusal ≡ 9 → before 31 number (numberOf l (frontOf l)) ≡ true
   pub unplaced : 7 ≤ dataLine a .refusal → dataLine a .refusal ≤ 9 → (i : ℕ) → i < length (l .held) → numberOf l (frontOf l + i) ≡ number → ⊥
-  -- refused as a duplicate only if its held place is received or given up
+  -- 10, a duplicate: its held place is received or given up
   pub duplicate : dataLine a .refusal ≡ 10 → (i : ℕ) × (i < length (l .held)) × (numberOf l (frontOf l + i) ≡ number) × (getD (l .held) i lost ≡ lost → ⊥)
-  -- a packet whose held place is lost is taken
-  pub taken : tests ≡ 0 → (i : ℕ) → i < length (l .held) → numberOf l (frontOf l + i) ≡ number → getD (l .held) i givenUp ≡ lost → recovers a ≡ true
-  -- a fresh packet, of the number next expected after any number of wraps, is taken if there is room
-  pub next : tests ≡ 0 → number ≡ numberOf l (nextOf l) → length (l .held) < capacity → appends a ≡ true
 
 -- a pop: a message's places are all received and its output is their bytes, in order; a late drop names the places that it discards
 abbrev pub Tells : Ledger → MessageAnswer → List ℕ → Type 0
@@ -106,8 +115,8 @@ pub record Told (b b₁ : Book) (e : Event) (r : Ended) : Type 0 where
 
 -- demand 3, of what makes a call
 pub record Demanded (step : State → Lent → Call → Ended) (first : ℕ) (s : State) (past : List Event) : Type 0 where
-  pub holds : Holds (after step (fresh first s) past .ledger) (after step (fresh first s) past .state) past (handedOut step (fresh first s) past) (entered step (fresh first s) past)
-  pub told : (e : Event) → Plain (e .call) → Told (after step (fresh first s) past) (turned step (after step (fresh first s) past) e) e (answered step (after step (fresh first s) past) e)
+  pub holds : Holds (runs.after step (fresh first s) past .ledger) (runs.after step (fresh first s) past .state) past (handedOut step (fresh first s) past) (entered step (fresh first s) past)
+  pub told : (e : Event) → Plain (e .call) → Told (runs.after step (fresh first s) past) (turned step (runs.after step (fresh first s) past) e) e (answered step (runs.after step (fresh first s) past) e)
 
 abbrev pub Demand3 : (State → Lent → Call → Ended) → Type 0
 Demand3 step = (first : ℕ) (s : State) → Fresh first s → (past : List Event) → AllPlain past → Demanded step first s past

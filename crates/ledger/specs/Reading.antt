@@ -1,4 +1,5 @@
 -- What the ledger reads of a call and of its answer: plain cases, one a constructor.
+use mathlib.Core.Path.{_≡_}
 use mathlib.Core.Bool.{Bool, true, false}
 use mathlib.Core.List.{List, []}
 use Prim.Native.Nat.{ℕ, _+_, _^_, _<_}
@@ -99,6 +100,21 @@ appends (datas.Light lrsn false) = true
 appends (datas.Loss a b) = false
 appends (datas.Refused n) = false
 appends (datas.PacketTooEarly room need) = false
+
+-- whether it came after a gap, and that the gap named is from a to b
+abbrev pub isLoss : DataAnswer → Bool
+isLoss (datas.Got lrsn recovered) = false
+isLoss (datas.Light lrsn recovered) = false
+isLoss (datas.Loss a b) = true
+isLoss (datas.Refused n) = false
+isLoss (datas.PacketTooEarly room need) = false
+
+abbrev pub LossIs : DataAnswer → ℕ → ℕ → Type 0
+LossIs (datas.Got lrsn recovered) first last = Unit
+LossIs (datas.Light lrsn recovered) first last = Unit
+LossIs (datas.Loss a b) first last = (a ≡ first) × (b ≡ last)
+LossIs (datas.Refused n) first last = Unit
+LossIs (datas.PacketTooEarly room need) first last = Unit
 
 -- an answer is of its call's kind
 abbrev pub kindOf : Call → ℕ
