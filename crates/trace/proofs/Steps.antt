@@ -249,10 +249,9 @@ module _ (t : Trace) (a : Areas) (rest : List ℕ) (last : Bool) (line : List �
   unfolding nextOf
   next-turn e f g = rw (← e, f) g
 
-pub ruleset steps-here = (
-  judge-ready,
-  judge-wide,
-  judge-refused,
+pub ruleset begins = (judge-ready, judge-wide, judge-refused, no-head-made, begun-made, begun-none, begun-bad, begun-header, needs)
+
+pub ruleset reads = (
   call-data,
   call-pop,
   call-report,
@@ -260,32 +259,15 @@ pub ruleset steps-here = (
   call-ack2,
   call-drop,
   call-clock,
-  no-head-made,
-  begun-made,
-  begun-none,
-  begun-bad,
-  begun-header,
   length-data,
   room-none,
   room-by-words,
-  answer-case,
-  room-after,
-  done,
-  advanced,
-  ended-with,
-  ended-bad,
-  close-more,
-  close-end,
-  close-bad,
-  whole-is,
-  made-is,
   come-not,
   come-so,
   empty-by,
-  turn-close,
-  turn-made,
-  room-so,
-  next-short,
-  next-turn,
   needs,
 )
+
+pub ruleset runs = (answer-case, room-after, done, advanced, ended-with, ended-bad, close-more, close-end, close-bad, needs)
+
+pub ruleset turns = (whole-is, turn-close, turn-made, room-so, next-short, next-turn, needs)

@@ -1,4 +1,4 @@
-use Rattle.trace.proofs.Steps.{steps-here}
+use Rattle.trace.proofs.Steps.{runs}
 use Rattle.trace.proofs.advance.Statement.{statement}
 use Rattle.trace.proofs.advance.Tie as tie
 
@@ -6,13 +6,13 @@ pub advance-spec : {M : Type 1} → statement M
 advance-spec =
     tie.close
     (tie.spec
-    (λ c κs. search steps-here)
-    (λ c κs. search steps-here)
-    (λ c κs. search steps-here)
-    (λ c. search steps-here)
-    (λ c. search steps-here)
-    (λ c. search steps-here)
-    (λ c. search steps-here)
-    (λ c. search steps-here)
-    (λ c. search steps-here)
-    (λ c. search steps-here))
+    (λ c κs. search runs)
+    (λ c κs. search runs)
+    (λ c κs. search runs)
+    (λ c. search runs)
+    (λ c. search runs)
+    (λ c. search runs)
+    (λ c. search runs)
+    (λ c. search runs)
+    (λ c. search runs)
+    (λ c. search runs))

@@ -1,4 +1,4 @@
-use Rattle.trace.proofs.Steps.{steps-here}
+use Rattle.trace.proofs.Steps.{reads}
 use Rattle.trace.proofs.is_empty.Statement.{statement}
 use Rattle.trace.proofs.is_empty.Tie as tie
 
@@ -6,4 +6,4 @@ pub is-empty-spec : {M : Type 1} → statement M
 is-empty-spec =
     tie.close
     (tie.spec
-    (λ c. search steps-here))
+    (λ c. search reads))

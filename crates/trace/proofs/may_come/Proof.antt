@@ -1,4 +1,4 @@
-use Rattle.trace.proofs.Steps.{steps-here}
+use Rattle.trace.proofs.Steps.{reads}
 use Rattle.trace.proofs.may_come.Statement.{statement}
 use Rattle.trace.proofs.may_come.Tie as tie
 
@@ -6,6 +6,6 @@ pub may-come-spec : {M : Type 1} → statement M
 may-come-spec =
     tie.close
     (tie.spec
-    (λ c. search steps-here)
-    (λ c κs. search steps-here)
-    (λ c. search steps-here))
+    (λ c. search reads)
+    (λ c κs. search reads)
+    (λ c. search reads))

@@ -1,4 +1,4 @@
-use Rattle.trace.proofs.Steps.{steps-here}
+use Rattle.trace.proofs.Steps.{turns}
 use Rattle.trace.proofs.turn.Statement.{statement}
 use Rattle.trace.proofs.turn.Tie as tie
 
@@ -6,18 +6,18 @@ pub turn-spec : {M : Type 1} → statement M
 turn-spec =
     tie.close
     (tie.spec
-    (λ c κs. search steps-here)
-    (λ c κs. search steps-here)
-    (λ c κs. search steps-here)
-    (λ c κs. search steps-here)
-    (λ c κs. search steps-here)
-    (λ c. search steps-here)
-    (λ c. search steps-here)
-    (λ c κs. search steps-here)
-    (λ c. search steps-here)
-    (λ c. search steps-here)
-    (λ c. search steps-here)
-    (λ c. search steps-here)
-    (λ c. search steps-here)
-    (λ c. search steps-here)
-    (λ c. search steps-here))
+    (λ c κs. search turns)
+    (λ c κs. search turns)
+    (λ c κs. search turns)
+    (λ c κs. search turns)
+    (λ c κs. search turns)
+    (λ c. search turns)
+    (λ c. search turns)
+    (λ c κs. search turns)
+    (λ c. search turns)
+    (λ c. search turns)
+    (λ c. search turns)
+    (λ c. search turns)
+    (λ c. search turns)
+    (λ c. search turns)
+    (λ c. search turns))
