@@ -587,6 +587,17 @@ pub struct Outcome {
     pub acts: Acts,
 }
 
+impl Outcome {
+    pub fn text(&self, counters: bool) -> String {
+        let mut text = String::new();
+        for line in self.lines.iter().chain(self.counters.as_ref().filter(|_| counters)) {
+            text.push_str(line);
+            text.push('\n');
+        }
+        text
+    }
+}
+
 pub fn run(bytes: &[u8], switches: Switches) -> Outcome {
     let mut lines = Vec::new();
     let Some(header) = trace::header(bytes) else {

@@ -1,6 +1,9 @@
 // The Rust receiver on traces. See README.md.
 #![allow(dead_code)]
+mod compare;
 mod connection;
+mod form;
+mod generate;
 mod machine;
 mod options;
 mod packet;
@@ -8,12 +11,17 @@ mod protocol;
 mod statistics;
 mod trace;
 
-use std::{env, fs, process::exit};
+use std::{env, fs, path::Path, process::exit};
 
 use machine::Switches;
 
 fn usage() -> ! {
-    eprintln!("oracle replay [--counters] [--without SWITCH].. FILE");
+    eprintln!("oracle replay [--counters] [--without SWITCH].. FILE     01's lines, by the Rust");
+    eprintln!("oracle generate KIND SEED N DIRECTORY                    traces KIND-SEED-0.dlt and on");
+    eprintln!("oracle compare PROGRAM N SEED [KIND]                     N traces of each kind through PROGRAM and the Rust");
+    eprintln!("oracle mutate PROGRAM N SEED                             N damaged traces through both, and the form of every answer");
+    eprintln!("oracle sample DIRECTORY N SEED                           a fixed sample: traces.bin and lines.txt");
+    eprintln!("kinds: {}", generate::KINDS.join(" "));
     eprintln!("switches: {}", Switches::NAMES.join(" "));
     exit(2)
 }
@@ -26,9 +34,26 @@ fn main() {
         }
     }));
     let words: Vec<String> = env::args().skip(1).collect();
+    let number = |i: usize| words.get(i).and_then(|w| w.parse::<u64>().ok()).unwrap_or_else(|| usage());
+    let word = |i: usize| words.get(i).unwrap_or_else(|| usage()).as_str();
     match words.first().map(String::as_str) {
         Some("replay") => replay(&words[1..]),
+        Some("generate") => generate_files(word(1), number(2), number(3), Path::new(word(4))),
+        Some("compare") => exit(compare::compare(word(1), number(2), number(3), words.get(4).map(|w| kind(w)))),
+        Some("mutate") => exit(compare::mutate(word(1), number(2), number(3))),
+        Some("sample") => compare::sample(Path::new(word(1)), number(2), number(3)),
         _ => usage(),
+    }
+}
+
+fn kind(name: &str) -> usize {
+    generate::KINDS.iter().position(|k| *k == name).unwrap_or_else(|| usage())
+}
+
+fn generate_files(name: &str, seed: u64, n: u64, directory: &Path) {
+    fs::create_dir_all(directory).unwrap();
+    for index in 0..n {
+        fs::write(directory.join(format!("{name}-{seed}-{index}.dlt")), generate::trace(kind(name), seed, index)).unwrap();
     }
 }
 
@@ -51,12 +76,7 @@ fn replay(words: &[String]) {
         exit(2)
     });
     let outcome = machine::run(&bytes, switches);
-    let mut text = String::new();
-    for line in outcome.lines.iter().chain(outcome.counters.as_ref().filter(|_| counters)) {
-        text.push_str(line);
-        text.push('\n');
-    }
-    print!("{text}");
+    print!("{}", outcome.text(counters));
     if let Some((record, why)) = outcome.left {
         eprintln!("left the domain at record {record}: {why}");
     }
