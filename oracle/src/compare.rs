@@ -144,8 +144,8 @@ impl Tally {
         if let Some(what) = found.take() {
             self.differed += 1;
             println!("{name}: differed: {what}");
-            if self.differed <= 5 {
-                let small = reduce(program, bytes, formed);
+            if formed && self.differed <= 5 {
+                let small = reduce(program, bytes);
                 let file = PathBuf::from(format!("{name}.dlt"));
                 println!("  reduced to {} bytes ({}): {}", small.len(), file.display(), notation(&small));
                 fs::write(file, small).unwrap();
@@ -187,13 +187,14 @@ impl Tally {
     }
 }
 
-pub fn compare(path: &str, n: u64, seed: u64, only: Option<usize>) -> i32 {
+/// `formed`: the form of every answer is judged too, outside the domain as well, and traces that differ are reduced.
+pub fn compare(path: &str, n: u64, seed: u64, only: Option<usize>, formed: bool) -> i32 {
     let program = Program::new(path);
     let mut all = Tally::default();
     for kind in (0..KINDS.len()).filter(|k| only.is_none_or(|o| o == *k)) {
         let mut tally = Tally::default();
         for index in 0..n {
-            tally.take(&program, &generate::trace(kind, seed, index), &format!("{}-{seed}-{index}", KINDS[kind]), true);
+            tally.take(&program, &generate::trace(kind, seed, index), &format!("{}-{seed}-{index}", KINDS[kind]), formed);
         }
         println!(
             "{:>9}: {} agreed, {} left the domain, {} differed; {} lines",
@@ -243,10 +244,10 @@ fn parts(bytes: &[u8]) -> Option<Vec<Vec<u8>>> {
 }
 
 /// Takes records out, ever fewer at a time, while the two still differ.
-fn reduce(program: &Program, bytes: &[u8], formed: bool) -> Vec<u8> {
+fn reduce(program: &Program, bytes: &[u8]) -> Vec<u8> {
     let wrong = |bytes: &[u8]| match program.run(bytes) {
         Ok(said) => {
-            differ(&machine::run(bytes, Switches::all()), &said).1.is_some() || formed && form::wrong(bytes, &said).is_some()
+            differ(&machine::run(bytes, Switches::all()), &said).1.is_some() || form::wrong(bytes, &said).is_some()
         }
         Err(_) => true,
     };

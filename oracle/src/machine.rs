@@ -453,7 +453,9 @@ impl Machine {
             let whole = self.answering.arq.link_by_01();
             self.acts.link_figure[0] += 1;
             self.acts.link_figure[1] += u64::from(whole != link);
-            if self.switches.link_figure {
+            // 01: "The Rust's f64 may differ by one"; a wider difference is the Rust's and stays.
+            let near = whole.zip(link).is_some_and(|(a, b)| a.abs_diff(b) == 1);
+            if self.switches.link_figure && near {
                 link = whole;
             }
         }
@@ -527,8 +529,10 @@ impl Machine {
         }
         self.acts.drift_sums[0] += 1;
         self.acts.drift_sums[1] += u64::from(ours != theirs);
-        let (mean, deviation) = if self.switches.drift_sums { ours } else { theirs };
-        let unsteady = deviation > 5_000;
+        // Where the sums agree, the Rust decides.
+        let by_sums = self.switches.drift_sums && ours != theirs;
+        let (mean, deviation) = if by_sums { ours } else { theirs };
+        let unsteady = if by_sums { deviation > 5_000 } else { answer.is_none() };
         self.put_base(base, at, (!unsteady).then_some(TimeSpan::from_micros(mean)));
         // receiver/mod.rs counted by the Rust's own deviation.
         self.statistics.rx_clock_adjustments -= u64::from(answer.is_some());
@@ -548,7 +552,13 @@ impl Machine {
         let mut after = base;
         if let Some(drift) = drift {
             after.adjust(at, drift);
-            let ours = base.adjusted_by_01(at, drift);
+            // The Rust's own adjustment with the sign turned, where the sign can be turned.
+            let mut ours = base;
+            if drift == TimeSpan::MIN {
+                ours = base.adjusted_by_01(at, drift);
+            } else {
+                ours.adjust(at, -drift);
+            }
             self.acts.drift_sign[0] += 1;
             self.acts.drift_sign[1] += u64::from(ours.reference() != after.reference());
             if self.switches.drift_sign {

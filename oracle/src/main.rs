@@ -19,6 +19,7 @@ fn usage() -> ! {
     eprintln!("oracle replay [--counters] [--without SWITCH].. FILE     01's lines, by the Rust");
     eprintln!("oracle generate KIND SEED N DIRECTORY                    traces KIND-SEED-0.dlt and on");
     eprintln!("oracle compare PROGRAM N SEED [KIND]                     N traces of each kind through PROGRAM and the Rust");
+    eprintln!("oracle lines PROGRAM N SEED [KIND]                       the same, lines in the domain only");
     eprintln!("oracle mutate PROGRAM N SEED                             N damaged traces through both, and the form of every answer");
     eprintln!("oracle sample DIRECTORY N SEED                           a fixed sample: traces.bin and lines.txt");
     eprintln!("kinds: {}", generate::KINDS.join(" "));
@@ -39,7 +40,8 @@ fn main() {
     match words.first().map(String::as_str) {
         Some("replay") => replay(&words[1..]),
         Some("generate") => generate_files(word(1), number(2), number(3), Path::new(word(4))),
-        Some("compare") => exit(compare::compare(word(1), number(2), number(3), words.get(4).map(|w| kind(w)))),
+        Some("compare") => exit(compare::compare(word(1), number(2), number(3), words.get(4).map(|w| kind(w)), true)),
+        Some("lines") => exit(compare::compare(word(1), number(2), number(3), words.get(4).map(|w| kind(w)), false)),
         Some("mutate") => exit(compare::mutate(word(1), number(2), number(3))),
         Some("sample") => compare::sample(Path::new(word(1)), number(2), number(3)),
         _ => usage(),

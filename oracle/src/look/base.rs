@@ -1,4 +1,5 @@
-// Added to base.rs: the reference point, and 01's rule for adjusting (the switch drift-sign).
+// Added to base.rs: the reference point, and 01's rule for adjusting, for the one drift whose sign the Rust cannot turn (the switch
+// drift-sign).
 
 impl TimeBase {
     pub fn reference(&self) -> (Instant, TimeStamp) {
