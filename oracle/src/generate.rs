@@ -204,7 +204,16 @@ fn profile(kind: usize, dice: &mut Dice) -> Profile {
             p.aim = 13;
             p.header.latency = dice.of(&[0, 1, 5_000, 20_000, 20_001]);
         }
-        "clears" => p.weights = [300, 60, 60, 20, 3, 150, 40, 80, 60, 10, 10, 60, 0],
+        "clears" => {
+            p.weights = [300, 90, 60, 20, 3, 150, 20, 150, 60, 10, 10, 50, 0];
+            p.header.dropping = u8::from(!dice.one_in(3));
+            p.header.latency = dice.of(&[0, 0, 1, 5_000]);
+            p.header.capacity = dice.of(&[8, 16, 32]);
+            p.packets = 1 + dice.below(3);
+            p.jitter = p.jitter.min(1_000);
+            p.twist = 8;
+            p.aim = 5;
+        }
         "tiny" => {
             p.header.capacity = 1 + dice.below(3) as u16;
             p.drain = false;
@@ -415,9 +424,29 @@ impl Maker {
             }
             Act::Clear => {
                 self.put(Record::Clear);
+                if self.dice.one_in(2) {
+                    self.taken_back();
+                }
             }
             Act::Refused => self.refused(),
         }
+    }
+
+    /// After a clear: a packet at the front, the packet that lrsn names, an ACK of it; a late drop of the front alone then takes lrsn
+    /// back before the number acknowledged.
+    fn taken_back(&mut self) {
+        let (front, lrsn) = (self.machine.next_number(), self.machine.lrsn());
+        let now = self.now();
+        let stamp = self.stamp_of(now as i64);
+        let location = self.dice.of(&[2, 2, 0, 3]);
+        self.put(Record::Data { now, number: front, message: 1, location, stamp, payload: vec![1, 2] });
+        let later = now + 5_000 + self.dice.below(3);
+        let stamp = self.stamp_of(later as i64);
+        self.put(Record::Data { now: later, number: lrsn, message: 2, location: 3, stamp, payload: vec![3] });
+        self.put(Record::Ack(later));
+        let due = (later + u64::from(self.profile.header.latency)).min(READING - 1);
+        self.put(Record::Pop(due));
+        self.put(Record::Ack(due));
     }
 
     /// A record that one of refusals 3, 4 and 5 meets, at the edge of its range or far out.
