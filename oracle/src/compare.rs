@@ -26,6 +26,8 @@ type Watched = Arc<Mutex<Option<(Child, Instant, bool)>>>;
 struct Program {
     path: String,
     file: PathBuf,
+    /// Whether it writes counters; if it does not know the word, lines alone are compared, and the last line says so.
+    counters: bool,
     watched: Watched,
 }
 
@@ -43,14 +45,19 @@ impl Program {
                 }
             }
         });
-        Self { path: path.to_string(), file: room.join(format!("oracle-{}.dlt", std::process::id())), watched }
+        let file = room.join(format!("oracle-{}.dlt", std::process::id()));
+        let mut program = Self { path: path.to_string(), file, counters: true, watched };
+        let mut empty = Vec::new();
+        trace::put_header(&trace::Header { start: 0, latency: 0, dropping: 0, first: 0, capacity: 1 }, &mut empty);
+        program.counters = program.run(&empty).is_ok_and(|said| said.contains("\ncounters "));
+        program
     }
 
     /// What the program writes, or how it broke.
     fn run(&self, bytes: &[u8]) -> Result<String, String> {
         fs::write(&self.file, bytes).unwrap();
         let mut child = Command::new(&self.path)
-            .arg("--counters")
+            .args(self.counters.then_some("--counters"))
             .arg(&self.file)
             .stdin(Stdio::null())
             .stdout(Stdio::piped())
@@ -77,6 +84,14 @@ impl Drop for Program {
     fn drop(&mut self) {
         let _ = fs::remove_file(&self.file);
     }
+}
+
+fn expected(program: &Program, bytes: &[u8]) -> Outcome {
+    let mut outcome = machine::run(bytes, Switches::all());
+    if !program.counters {
+        outcome.counters = None;
+    }
+    outcome
 }
 
 /// The first line on which they differ, if any; and how many lines were compared.
@@ -127,12 +142,12 @@ struct Tally {
 
 impl Tally {
     fn take(&mut self, program: &Program, bytes: &[u8], name: &str, formed: bool) {
-        let outcome = machine::run(bytes, Switches::all());
+        let outcome = expected(program, bytes);
         self.acts.add(&outcome.acts);
         let (lines, mut found) = match program.run(bytes) {
             Ok(said) => {
                 let (lines, found) = differ(&outcome, &said);
-                let found = found.or_else(|| if formed { form::wrong(bytes, &said) } else { None });
+                let found = found.or_else(|| if formed { form::wrong(bytes, &said, program.counters) } else { None });
                 (lines, found)
             }
             Err(how) => (0, Some(format!("the port broke: {how}"))),
@@ -172,7 +187,7 @@ impl Tally {
         }
     }
 
-    fn last(&self, what: &str) -> i32 {
+    fn last(&self, what: &str, program: &Program) -> i32 {
         let words: Vec<String> = self.words.iter().map(|(word, n)| format!("{word} {n}")).collect();
         println!("answers compared: {}", words.join(", "));
         for (why, n) in &self.whys {
@@ -180,8 +195,12 @@ impl Tally {
         }
         println!("{}", self.acts.line());
         println!(
-            "{what}: {} agreed, {} left the domain (compared up to there), {} differed; {} lines compared",
-            self.agreed, self.left, self.differed, self.lines
+            "{what}: {} agreed, {} left the domain (compared up to there), {} differed; {} lines compared, {}",
+            self.agreed,
+            self.left,
+            self.differed,
+            self.lines,
+            if program.counters { "counters too" } else { "NO COUNTERS: the program writes none" }
         );
         i32::from(self.differed > 0)
     }
@@ -202,26 +221,39 @@ pub fn compare(path: &str, n: u64, seed: u64, only: Option<usize>, formed: bool)
         );
         all.add(tally);
     }
-    all.last("compare")
+    all.last("compare", &program)
 }
 
-/// Short traces of all kinds, damaged in a few places.
+/// Short stretches of traces of all kinds, damaged in a few places.
 pub fn mutate(path: &str, n: u64, seed: u64) -> i32 {
     let program = Program::new(path);
     let mut tally = Tally::default();
-    let mut base = Vec::new();
+    let mut pool: Vec<Vec<Vec<u8>>> = Vec::new();
     let since = Instant::now();
     for index in 0..n {
         let mut dice = Dice::new(1_000, seed, index);
-        // One base serves several mutations; the long kinds are cut short, since most of a long trace would be the same each time.
-        if index % 8 == 0 {
-            base = generate::trace(dice.below(KINDS.len() as u64) as usize, dice.next(), index);
-            base.truncate(24 + dice.below(1_500) as usize);
+        if index % 20_000 == 0 {
+            pool = (0..6 * KINDS.len()).filter_map(|i| parts(&generate::trace(i % KINDS.len(), dice.next(), index))).collect();
         }
-        let mut bytes = base.clone();
+        // The header and some records in a row, from the start or from further on.
+        let base = &pool[dice.below(pool.len() as u64) as usize];
+        let from = if dice.below(2) == 0 { 1 } else { 1 + dice.below(base.len() as u64) as usize };
+        let length = 1 + dice.below(40) as usize;
+        let mut parts = vec![base[0].clone()];
+        parts.extend(base.iter().skip(from).take(length).cloned());
         let times = 1 + dice.below(6);
+        // Half of them keep each record's kind and length, so that the trace goes on behind the damage.
+        let framed = dice.below(2) == 0;
         for _ in 0..times {
-            generate::damage(&mut dice, &mut bytes);
+            if framed {
+                generate::turn_field(&mut dice, &mut parts);
+            }
+        }
+        let mut bytes = parts.concat();
+        for _ in 0..times {
+            if !framed {
+                generate::damage(&mut dice, &mut bytes);
+            }
         }
         tally.take(&program, &bytes, &format!("mutate-{seed}-{index}"), true);
         if (index + 1) % 50_000 == 0 {
@@ -229,7 +261,7 @@ pub fn mutate(path: &str, n: u64, seed: u64) -> i32 {
             let _ = std::io::stdout().flush();
         }
     }
-    tally.last("mutate")
+    tally.last("mutate", &program)
 }
 
 fn parts(bytes: &[u8]) -> Option<Vec<Vec<u8>>> {
@@ -247,7 +279,7 @@ fn parts(bytes: &[u8]) -> Option<Vec<Vec<u8>>> {
 fn reduce(program: &Program, bytes: &[u8]) -> Vec<u8> {
     let wrong = |bytes: &[u8]| match program.run(bytes) {
         Ok(said) => {
-            differ(&machine::run(bytes, Switches::all()), &said).1.is_some() || form::wrong(bytes, &said).is_some()
+            differ(&expected(program, bytes), &said).1.is_some() || form::wrong(bytes, &said, program.counters).is_some()
         }
         Err(_) => true,
     };
@@ -297,10 +329,10 @@ pub fn notation(bytes: &[u8]) -> String {
 }
 
 /// Traces that stay in the domain, with what the Rust gives: traces.bin (each: length in 4 bytes, big-endian, then the file) and
-/// lines.txt (each: a line `trace NAME`, then the lines). Of the kinds with long traces only a few are taken.
+/// lines.txt (each: a line `trace NAME`, then the lines). Of the kinds with long traces only a few are taken, of `pieces` none.
 pub fn sample(directory: &Path, n: u64, seed: u64) {
     let (mut bin, mut text, mut count) = (Vec::new(), String::new(), 0);
-    for (kind, name) in KINDS.iter().enumerate() {
+    for (kind, name) in KINDS.iter().enumerate().filter(|(_, name)| **name != "pieces") {
         let long = ["steady", "unsteady", "edge", "history", "long"].contains(name);
         let (wanted, most) = if long { (2, 30_000) } else { (n, 2_500) };
         let mut taken = 0;

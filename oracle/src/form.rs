@@ -3,7 +3,7 @@
 use crate::trace::{self, Record};
 
 /// What is wrong, if anything.
-pub fn wrong(bytes: &[u8], said: &str) -> Option<String> {
+pub fn wrong(bytes: &[u8], said: &str, counters: bool) -> Option<String> {
     let lines: Vec<&str> = said.split_terminator('\n').collect();
     let Some(header) = trace::header(bytes) else {
         return (lines != ["bad 0"]).then(|| format!("`bad 0` expected, {} lines", lines.len()));
@@ -12,9 +12,10 @@ pub fn wrong(bytes: &[u8], said: &str) -> Option<String> {
     loop {
         let Some(line) = lines.get(n) else { return Some(format!("no line {}", n + 1)) };
         if at == bytes.len() {
-            let counters = lines.get(n + 1).copied().unwrap_or("");
-            let right = end(line, n as i128, i128::from(header.capacity)) && counted(counters) && lines.len() == n + 2;
-            return (!right).then(|| format!("no end: `{line}` `{counters}`"));
+            let last = lines.get(n + 1).copied().unwrap_or("");
+            let behind = lines.len() - n - 1 == usize::from(counters) && (!counters || counted(last));
+            let right = end(line, n as i128, i128::from(header.capacity)) && behind;
+            return (!right).then(|| format!("no end: `{line}` `{last}`"));
         }
         let Some((record, length)) = trace::record(&bytes[at..]) else {
             let right = *line == format!("bad {at}") && lines.len() == n + 1;

@@ -5,9 +5,10 @@ use crate::{
     trace::{put_header, put_record, Header, Record, PAYLOAD, READING},
 };
 
-pub const KINDS: [&str; 22] = [
+pub const KINDS: [&str; 23] = [
     "mixed", "wrap", "losses", "messages", "late", "drops", "acks", "light", "rates", "pairs", "steady", "unsteady", "edge", "exact",
     "clears", "tiny", "far", "refusals", "history", "reports", "long", "damaged",
+    "pieces",
 ];
 
 /// splitmix64
@@ -92,6 +93,8 @@ struct Profile {
     drain: bool,
     /// One packet in so many is not as planned (message, location, stamp); 0: none.
     twist: u64,
+    /// Payloads of any length, so that the file is long.
+    heavy: bool,
     /// Ties and drop requests whose end is below their start: they leave the domain, so most traces have none.
     wild: bool,
 }
@@ -160,6 +163,7 @@ fn profile(kind: usize, dice: &mut Dice) -> Profile {
         jitter: dice.of(&[0, 10, 1_000, 10_000]),
         drain: dice.one_in(2),
         twist: 40,
+        heavy: name == "pieces" && dice.one_in(2),
         wild: name == "far" || name != "long" && dice.one_in(8),
     };
     match name {
@@ -221,6 +225,14 @@ fn profile(kind: usize, dice: &mut Dice) -> Profile {
         "far" => p.weights = [250, 60, 60, 20, 60, 200, 60, 60, 80, 40, 40, 2, 0],
         "refusals" => p.weights = [200, 60, 60, 20, 20, 120, 60, 60, 60, 40, 20, 4, 250],
         "history" => p.header.latency = dice.of(&[0, 120_000, 20_000_000, 65_535_000, 65_535_000]),
+        // Longer than the pieces that a program reads and writes.
+        "pieces" => {
+            p.records = if p.heavy { 200 + dice.below(200) } else { 5_000 + dice.below(3_000) };
+            p.header.dropping = 1;
+            p.header.latency = dice.of(&[0, 100, 20_000]);
+            p.jitter = p.jitter.min(1_000);
+            p.wild = false;
+        }
         "long" => {
             p.records = 1_000 + dice.below(2_000);
             p.header.dropping = u8::from(!dice.one_in(4));
@@ -293,7 +305,13 @@ impl Maker {
             let stamp = self.stamp_of(time);
             for i in 0..packets {
                 let location = 2 * u8::from(i == 0) + u8::from(i + 1 == packets);
-                let length = if self.dice.one_in(60) { self.dice.of(&[PAYLOAD, PAYLOAD - 1]) } else { self.dice.below(12) as usize };
+                let length = if self.profile.heavy {
+                    self.dice.below(PAYLOAD as u64 + 1) as usize
+                } else if self.dice.one_in(60) {
+                    self.dice.of(&[PAYLOAD, PAYLOAD - 1])
+                } else {
+                    self.dice.below(12) as usize
+                };
                 self.plan.push((self.message, location, stamp, length));
             }
             self.message = (self.message + 1) % (1 << 26);
@@ -628,6 +646,31 @@ pub fn damage(dice: &mut Dice, bytes: &mut Vec<u8>) {
             let again = bytes[at..end].to_vec();
             let to = dice.below(bytes.len() as u64 + 1) as usize;
             bytes.splice(to..to, again);
+        }
+    }
+}
+
+/// Turns a byte of a record, but neither its kind nor a payload's length; or repeats, moves or takes out a record.
+pub fn turn_field(dice: &mut Dice, parts: &mut Vec<Vec<u8>>) {
+    if parts.len() < 2 {
+        return;
+    }
+    let at = 1 + dice.below(parts.len() as u64 - 1) as usize;
+    let to = 1 + dice.below(parts.len() as u64 - 1) as usize;
+    match dice.below(8) {
+        0 => parts.insert(to, parts[at].clone()),
+        1 => parts.swap(at, to),
+        2 if parts.len() > 2 => {
+            parts.remove(at);
+        }
+        _ => {
+            let record = &mut parts[at];
+            let fields = record.len().min(22);
+            if fields > 1 {
+                let byte = &mut record[1 + dice.below(fields as u64 - 1) as usize];
+                let turned = *byte ^ 1 << dice.below(8);
+                *byte = dice.of(&[turned, byte.wrapping_add(1), byte.wrapping_sub(1), 0, 255, 128]);
+            }
         }
     }
 }
