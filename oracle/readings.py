@@ -2,11 +2,11 @@
 """Small traces with the lines that document 01 wants of them: 01's worked example, the readings of docs/DECISIONS.md that a trace can
 show (T and C) and the entries of docs/DIFFERENCES.md. Runs them through a program.
 
-    readings.py PROGRAM [WORD ..]      for instance: readings.py oracle/target/release/oracle replay
-                                                     readings.py target/bin/replay
-    readings.py --write DIRECTORY      writes each trace as NAME.dlt
+    readings.py [--lines] PROGRAM [WORD ..]   for instance: readings.py oracle/target/release/oracle replay
+                                                            readings.py target/bin/replay
+    readings.py --write DIRECTORY             writes each trace as NAME.dlt
 
-The program is called with the words, --counters where counters are asked for, and the file. The oracle says on its error output where a
+The program is called with the words, --counters where counters are asked for, and the file. With --lines no counters are asked for. The oracle says on its error output where a
 trace leaves the Rust's domain; what it answers from there on need not be 01's. Fails if any other answer differed.
 """
 import pathlib
@@ -317,12 +317,15 @@ def main(words):
         for name, given, _, _ in CASES:
             (out / f"{name}.dlt").write_bytes(given)
         return 0
+    cases = CASES
+    if words[:1] == ["--lines"]:
+        words, cases = words[1:], [c for c in CASES if c[2] != "counters"]
     if not words:
         sys.exit(__doc__)
     differed = left = 0
     with tempfile.TemporaryDirectory() as folder:
         path = pathlib.Path(folder) / "trace.dlt"
-        for name, given, mode, wanted in CASES:
+        for name, given, mode, wanted in cases:
             path.write_bytes(given)
             command = words + (["--counters"] if mode == "counters" else []) + [str(path)]
             ran = subprocess.run(command, capture_output=True, text=True)
@@ -335,7 +338,7 @@ def main(words):
             else:
                 differed += 1
                 print(f"{name}: wanted {mode} {wanted[-3:]}, got {lines[-4:]} {ran.stderr.strip()}")
-    print(f"readings: {len(CASES) - differed - left} agreed, {left} left the domain and answered otherwise, {differed} differed")
+    print(f"readings: {len(cases) - differed - left} agreed, {left} left the domain and answered otherwise, {differed} differed")
     return 1 if differed else 0
 
 

@@ -1,5 +1,6 @@
 #!/usr/bin/env python3
-"""Replays the sample beside it: check.py PROGRAM [WORD ..]. Fails if any trace gives other lines. The form is in README.md."""
+"""Replays the sample beside it: check.py [--lines] PROGRAM [WORD ..]. Fails if any trace gives other lines. The form is in README.md.
+With --lines the counters are left out, for a program that writes none."""
 import pathlib
 import subprocess
 import sys
@@ -24,6 +25,9 @@ def answers():
 
 
 def main(words):
+    counters = ["--counters"]
+    if words[:1] == ["--lines"]:
+        words, counters = words[1:], []
     if not words:
         sys.exit(__doc__)
     given, wanted = list(traces()), list(answers())
@@ -33,7 +37,9 @@ def main(words):
         path = pathlib.Path(folder) / "trace.dlt"
         for trace, (name, lines) in zip(given, wanted):
             path.write_bytes(trace)
-            ran = subprocess.run(words + ["--counters", str(path)], capture_output=True, text=True)
+            if not counters:
+                lines = lines.partition("counters ")[0]
+            ran = subprocess.run(words + counters + [str(path)], capture_output=True, text=True)
             if ran.stdout != lines:
                 differed += 1
                 both = zip(lines.splitlines() + ["nothing"], ran.stdout.splitlines() + ["nothing"])
