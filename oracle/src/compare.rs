@@ -278,9 +278,7 @@ fn parts(bytes: &[u8]) -> Option<Vec<Vec<u8>>> {
 /// Takes records out, ever fewer at a time, while the two still differ.
 fn reduce(program: &Program, bytes: &[u8]) -> Vec<u8> {
     let wrong = |bytes: &[u8]| match program.run(bytes) {
-        Ok(said) => {
-            differ(&expected(program, bytes), &said).1.is_some() || form::wrong(bytes, &said, program.counters).is_some()
-        }
+        Ok(said) => differ(&expected(program, bytes), &said).1.is_some() || form::wrong(bytes, &said, program.counters).is_some(),
         Err(_) => true,
     };
     let Some(mut parts) = parts(bytes) else { return bytes.to_vec() };

@@ -6,9 +6,8 @@ use crate::{
 };
 
 pub const KINDS: [&str; 23] = [
-    "mixed", "wrap", "losses", "messages", "late", "drops", "acks", "light", "rates", "pairs", "steady", "unsteady", "edge", "exact",
-    "clears", "tiny", "far", "refusals", "history", "reports", "long", "damaged",
-    "pieces",
+    "mixed", "wrap", "losses", "messages", "late", "drops", "acks", "light", "rates", "pairs", "steady", "unsteady", "edge",
+    "exact", "clears", "tiny", "far", "refusals", "history", "reports", "long", "damaged", "pieces",
 ];
 
 /// splitmix64
@@ -50,7 +49,17 @@ impl Dice {
     /// An index, each by its weight.
     fn weighed(&mut self, weights: &[u64]) -> usize {
         let mut at = self.below(weights.iter().sum());
-        weights.iter().position(|w| if at < *w { true } else { at -= w; false }).unwrap()
+        weights
+            .iter()
+            .position(|w| {
+                if at < *w {
+                    true
+                } else {
+                    at -= w;
+                    false
+                }
+            })
+            .unwrap()
     }
 }
 
@@ -72,7 +81,18 @@ enum Act {
 }
 
 const ACTS: [Act; 13] = [
-    Act::Next, Act::Gap, Act::Recover, Act::Again, Act::Odd, Act::Pop, Act::Report, Act::Ack, Act::Ack2, Act::Drop, Act::Clock, Act::Clear,
+    Act::Next,
+    Act::Gap,
+    Act::Recover,
+    Act::Again,
+    Act::Odd,
+    Act::Pop,
+    Act::Report,
+    Act::Ack,
+    Act::Ack2,
+    Act::Drop,
+    Act::Clock,
+    Act::Clear,
     Act::Refused,
 ];
 
@@ -497,7 +517,8 @@ impl Maker {
 
     /// Probe pairs: 16n - 1 by a gap, 16n and 16n + 1 appended; then a late drop makes room.
     fn pairs(&mut self) {
-        self.profile.header = Header { latency: 0, dropping: 1, capacity: 32, first: self.profile.header.first / 16 * 16, ..self.profile.header };
+        self.profile.header =
+            Header { latency: 0, dropping: 1, capacity: 32, first: self.profile.header.first / 16 * 16, ..self.profile.header };
         self.machine = Machine::new(self.profile.header, Switches::all());
         self.bytes.clear();
         put_header(&self.profile.header, &mut self.bytes);
@@ -615,7 +636,8 @@ impl Maker {
         self.profile.aim = 14;
         self.profile.step = 2;
         for _ in 0..many {
-            let act = if self.dice.one_in(30) { self.dice.of(&[Act::Recover, Act::Gap, Act::Drop, Act::Pop]) } else { Act::Report };
+            let act =
+                if self.dice.one_in(30) { self.dice.of(&[Act::Recover, Act::Gap, Act::Drop, Act::Pop]) } else { Act::Report };
             self.act(act);
         }
     }

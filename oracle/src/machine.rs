@@ -66,11 +66,9 @@ pub struct Acts {
 
 impl Acts {
     pub fn add(&mut self, o: &Acts) {
-        for (mine, other) in [
-            (&mut self.drift_sign, o.drift_sign),
-            (&mut self.drift_sums, o.drift_sums),
-            (&mut self.link_figure, o.link_figure),
-        ] {
+        for (mine, other) in
+            [(&mut self.drift_sign, o.drift_sign), (&mut self.drift_sums, o.drift_sums), (&mut self.link_figure, o.link_figure)]
+        {
             mine[0] += other[0];
             mine[1] += other[1];
         }

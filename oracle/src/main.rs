@@ -20,7 +20,9 @@ fn usage() -> ! {
     eprintln!("oracle generate KIND SEED N DIRECTORY                    traces KIND-SEED-0.dlt and on");
     eprintln!("oracle compare PROGRAM N SEED [KIND]                     N traces of each kind through PROGRAM and the Rust");
     eprintln!("oracle lines PROGRAM N SEED [KIND]                       the same, lines in the domain only");
-    eprintln!("oracle mutate PROGRAM N SEED                             N damaged traces through both, and the form of every answer");
+    eprintln!(
+        "oracle mutate PROGRAM N SEED                             N damaged traces through both, and the form of every answer"
+    );
     eprintln!("oracle sample DIRECTORY N SEED                           a fixed sample: traces.bin and lines.txt");
     eprintln!("kinds: {}", generate::KINDS.join(" "));
     eprintln!("switches: {}", Switches::NAMES.join(" "));

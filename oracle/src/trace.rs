@@ -105,11 +105,8 @@ pub fn header(bytes: &[u8]) -> Option<Header> {
         first: c.u32()?,
         capacity: c.number(2)? as u16,
     };
-    let right = h.start < READING
-        && h.latency <= 65_535_000
-        && h.dropping <= 1
-        && h.first < 1 << 31
-        && (1..=32).contains(&h.capacity);
+    let right =
+        h.start < READING && h.latency <= 65_535_000 && h.dropping <= 1 && h.first < 1 << 31 && (1..=32).contains(&h.capacity);
     right.then_some(h)
 }
 

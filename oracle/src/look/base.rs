@@ -10,11 +10,8 @@ impl TimeBase {
     pub fn adjusted_by_01(mut self, now: Instant, drift: TimeSpan) -> Self {
         let micros = i64::from(drift.as_micros());
         let size = std::time::Duration::from_micros(micros.unsigned_abs());
-        self.reference_time = if micros > 0 {
-            self.reference_time.checked_sub(size).unwrap()
-        } else {
-            self.reference_time + size
-        };
+        self.reference_time =
+            if micros > 0 { self.reference_time.checked_sub(size).unwrap() } else { self.reference_time + size };
         if now > self.reference_time {
             let delta = now - self.reference_time;
             self.reference_time = now;
