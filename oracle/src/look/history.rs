@@ -1,0 +1,16 @@
+// Added to history.rs: its private fields.
+
+impl AckHistoryWindow {
+    /// Number, ACK number and departure of each entry, oldest first.
+    pub fn entries(&self) -> impl DoubleEndedIterator<Item = (SeqNumber, FullAckSeqNumber, Instant)> + '_ {
+        self.buffer.iter().map(|e| (e.data_sequence_number, e.ack_sequence_number, e.departure_time))
+    }
+
+    pub fn held(&self) -> usize {
+        self.buffer.len()
+    }
+
+    pub fn acknowledged(&self) -> SeqNumber {
+        self.largest_ack2_dsn
+    }
+}
