@@ -1,5 +1,6 @@
 #!/usr/bin/env python3
-"""Makes the three recordings beside it: wrap.dlt, recovered.dlt, twice.dlt. Format: document 01, "Trace, mark DLT"."""
+"""Makes the three recordings beside it, wrap.dlt, recovered.dlt and twice.dlt, and the copies that the gate replays, since a program there is run
+outside the repository. Format: document 01, "Trace, mark DLT"."""
 import pathlib
 import struct
 
@@ -70,5 +71,7 @@ twice += data(57002, first + 2, 2000, frame(2))
 twice += data(57003, first + 3, 57003, frame(3)) + data(57004, first + 3, 57003, frame(3))
 twice += pop(107003) + pop(107004)
 
-for name, recording in (("wrap", wrap), ("recovered", recovered), ("twice", twice)):
-    (HERE / f"{name}.dlt").write_bytes(recording)
+CRATES = HERE.parent / "crates"
+for name, recording, case in (("wrap", wrap, "pursethistle"), ("recovered", recovered, "case_replay"), ("twice", twice, "case_replay")):
+    for folder in (HERE, CRATES / case / "data"):
+        (folder / f"{name}.dlt").write_bytes(recording)

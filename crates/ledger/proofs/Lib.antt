@@ -1,4 +1,5 @@
 -- The proofs of the claims.
+pub mod Examples
 pub mod Places
 pub mod Owned
 pub mod Moves
