@@ -1,6 +1,7 @@
 // The operator's program: a subcommand and its words. 01, "Trace, mark DLT", for replay.
 use libc::STDERR_FILENO;
 use libc::STDOUT_FILENO;
+use replaying::same;
 
 // What the first word asks for.
 enum Wish {
@@ -10,64 +11,15 @@ enum Wish {
     Unknown,
 }
 
-fn is_replay(w: &[u8]) -> bool {
-    if w.len() != 6 {
-        return false;
-    }
-    (w[0] == b'r')
-        & (w[1] == b'e')
-        & (w[2] == b'p')
-        & (w[3] == b'l')
-        & (w[4] == b'a')
-        & (w[5] == b'y')
-}
-
-fn is_help(w: &[u8]) -> bool {
-    if w.len() != 4 {
-        return false;
-    }
-    (w[0] == b'h') & (w[1] == b'e') & (w[2] == b'l') & (w[3] == b'p')
-}
-
-fn is_version(w: &[u8]) -> bool {
-    if w.len() != 7 {
-        return false;
-    }
-    (w[0] == b'v')
-        & (w[1] == b'e')
-        & (w[2] == b'r')
-        & (w[3] == b's')
-        & (w[4] == b'i')
-        & (w[5] == b'o')
-        & (w[6] == b'n')
-}
-
 // `--help`, `-h` and `--version` are asked for as often.
-fn is_help_flag(w: &[u8]) -> bool {
-    if w.len() == 2 {
-        return (w[0] == b'-') & (w[1] == b'h');
-    }
-    if w.len() < 2 {
-        return false;
-    }
-    (w[0] == b'-') & (w[1] == b'-') & is_help(&w[2..])
-}
-
-fn is_version_flag(w: &[u8]) -> bool {
-    if w.len() < 2 {
-        return false;
-    }
-    (w[0] == b'-') & (w[1] == b'-') & is_version(&w[2..])
-}
-
 fn asked(w: &[u8]) -> Wish {
-    if is_replay(w) {
+    if same(w, b"replay") {
         return Wish::Replay;
     }
-    if is_help(w) | is_help_flag(w) {
+    if same(w, b"help") | same(w, b"--help") | same(w, b"-h") {
         return Wish::Help;
     }
-    if is_version(w) | is_version_flag(w) {
+    if same(w, b"version") | same(w, b"--version") {
         return Wish::Version;
     }
     Wish::Unknown
@@ -79,12 +31,17 @@ fn say(fd: i32, text: &[u8]) {
 
 fn help(fd: i32) {
     say(fd, b"usage: pursethistle SUBCOMMAND [WORDS]\n\n");
+    say(fd, b"  replay [--counters] [FILE]\n");
     say(
         fd,
-        b"  replay [FILE]   replay a recorded trace (or standard input) and write a line for each record\n",
+        b"            replay a recorded trace (or standard input) and write a line for each record;\n",
     );
-    say(fd, b"  help            this page\n");
-    say(fd, b"  version         the version\n");
+    say(
+        fd,
+        b"            --counters adds a line with the ten counters behind the end line\n",
+    );
+    say(fd, b"  help      this page\n");
+    say(fd, b"  version   the version\n");
 }
 
 fn unknown(w: &[u8]) {

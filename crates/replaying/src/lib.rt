@@ -1,7 +1,7 @@
 // Replaying a file: 01, "Trace, mark DLT". A file of any length is read in pieces into a fixed buffer, and each turn of the trace writes its line
 // behind the lines that are still to be written out. That the turns give together what the whole file gives is the trace's law `loop-whole`; no contract
 // can speak of what is read or written, so here the code only follows that loop.
-ghost use Prim.Native.Nat.{_<_, _≤_};
+ghost use Prim.Native.Nat.{_-_, _≤_};
 ghost use lib.ListN.{length};
 ghost use Rattle.io.specs.Counts.{Counts};
 use libc::STDERR_FILENO;
@@ -173,14 +173,16 @@ fn bad_start(text: &mut [u8], s: State) -> State {
     }
 }
 
-fn opening(hand: &[u8], to: usize) -> Begun {
+fn opening(hand: &[u8], to: usize, counting: bool) -> Begun {
     let end = within(to, hand);
-    trace::begin(&hand[..end])
+    trace::begin(&hand[..end], counting)
 }
 
 // The header, from the bytes at hand.
 fn open(hand: &[u8], text: &mut [u8], s: State) -> State {
-    let b = opening(hand, s.end);
+    let before = s.trace;
+    let tally = before.tally;
+    let b = opening(hand, s.end, tally.asked);
     let trace = b.trace;
     let opened = b.opened;
     match opened {
@@ -298,24 +300,59 @@ fn act(
     }
 }
 
+fn less(turns: u64) -> u64
+    ensures { λ r. ⌜ r ≤ turns - 1 ⌝ }
+{
+    if turns == 0 {
+        return 0;
+    }
+    turns - 1
+}
+
 // The turns that are left: none once nothing is wanted.
 fn left(want: Want, turns: u64) -> u64
-    requires { ⌜ 0 < turns ⌝ }
-    ensures { λ r. ⌜ r < turns ⌝ }
+    ensures { λ r. ⌜ r ≤ turns - 1 ⌝ }
 {
     match want {
         Want::Nothing => 0,
         Want::Unread => 0,
         Want::Unwritten => 0,
-        Want::Turn => turns - 1,
-        Want::Header => turns - 1,
-        Want::HeaderBytes => turns - 1,
-        Want::TurnBytes => turns - 1,
-        Want::Room => turns - 1,
+        Want::Turn => less(turns),
+        Want::Header => less(turns),
+        Want::HeaderBytes => less(turns),
+        Want::TurnBytes => less(turns),
+        Want::Room => less(turns),
     }
 }
 
 // A proved loop has to end, and nothing says that a file does: it counts down from a number that no run uses up.
+struct Going {
+    turns: u64,
+    state: State,
+}
+
+fn once(
+    fd: i32,
+    words: &mut [u64],
+    bytes: &mut [u8],
+    area: &mut [u64],
+    out: &mut [u8],
+    list: &mut [u32],
+    hand: &mut [u8],
+    text: &mut [u8],
+    g: Going,
+) -> Going
+    ensures { λ r. ⌜ r .turns ≤ g .turns - 1 ⌝ }
+{
+    let before = g.state;
+    let state = act(fd, words, bytes, area, out, list, hand, text, before);
+    let want = state.want;
+    Going {
+        turns: left(want, g.turns),
+        state,
+    }
+}
+
 fn replay_all(
     fd: i32,
     words: &mut [u64],
@@ -327,18 +364,18 @@ fn replay_all(
     text: &mut [u8],
     start: State,
 ) -> State {
-    let mut s = start;
-    let mut turns = u64::MAX;
-    while turns > 0 {
-        s = act(fd, words, bytes, area, out, list, hand, text, s);
-        let want = s.want;
-        turns = left(want, turns);
+    let mut g = Going {
+        turns: u64::MAX,
+        state: start,
+    };
+    while g.turns > 0 {
+        g = once(fd, words, bytes, area, out, list, hand, text, g);
     }
-    s
+    g.state
 }
 
-fn fresh() -> State {
-    let b = trace::begin(b"");
+fn fresh(counting: bool) -> State {
+    let b = trace::begin(b"", counting);
     let trace = b.trace;
     State {
         trace,
@@ -374,7 +411,7 @@ fn finish(want: Want, text: &[u8], used: usize, name: &[u8]) {
     }
 }
 
-fn replay_open(fd: i32, name: &[u8]) {
+fn replay_open(fd: i32, name: &[u8], counting: bool) {
     let mut words = slot_area();
     let mut bytes = payload_area();
     let mut area = history_area();
@@ -391,57 +428,136 @@ fn replay_open(fd: i32, name: &[u8]) {
         &mut list,
         &mut hand,
         &mut text,
-        fresh(),
+        fresh(counting),
     );
     let want = s.want;
     finish(want, &text, s.used, name);
 }
 
-fn replay_file(path: &[u8]) {
+fn replay_file(path: &[u8], counting: bool) {
     let fd = os::open_read(path);
     if fd < 0 {
         os::fail(path);
         return;
     }
-    replay_open(fd, path);
+    replay_open(fd, path, counting);
     libc::close(fd);
 }
 
-fn replay_argument(i: usize) {
+fn replay_argument(i: usize, counting: bool) {
     let mut path = io::buffer();
     let length = os::arg(i, &mut path);
     if os::errno() != 0 {
         os::fail(b"argument");
         return;
     }
-    replay_file(&path[..length]);
+    replay_file(&path[..length], counting);
 }
 
-// Replays the file that argument i names, or standard input if there is none.
-fn replay_from(i: usize) {
-    if os::arg_count() <= i {
-        replay_open(STDIN_FILENO, b"standard input");
+// Whether two words are the same.
+pub fn same(a: &[u8], b: &[u8]) -> bool {
+    if a.len() != b.len() {
+        return false;
+    }
+    let mut i = 0;
+    while i < a.len() {
+        if a[i] != b[i] {
+            return false;
+        }
+        i += 1;
+    }
+    true
+}
+
+// What a word of the command line is.
+enum Word {
+    Counters,
+    // `-`, or an option that there is not.
+    Input,
+    Unknown,
+    File,
+}
+
+fn kind(w: &[u8]) -> Word {
+    if w.len() == 0 {
+        return Word::File;
+    }
+    if w[0] != b'-' {
+        return Word::File;
+    }
+    if w.len() == 1 {
+        return Word::Input;
+    }
+    if same(w, b"--counters") {
+        return Word::Counters;
+    }
+    Word::Unknown
+}
+
+fn argument(i: usize) -> Word {
+    let mut w = io::buffer();
+    let length = os::arg(i, &mut w);
+    kind(&w[..length])
+}
+
+// What the words ask for: the file's place among them (0: standard input), how many name one, the counters, and whether all are understood.
+struct Asked {
+    file: usize,
+    named: usize,
+    counting: bool,
+    known: bool,
+}
+
+fn asked_also(a: Asked, i: usize) -> Asked {
+    let mut next = a;
+    match argument(i) {
+        Word::Counters => next.counting = true,
+        Word::Unknown => next.known = false,
+        Word::Input => next.named = std::num::wrapping_add_usize(a.named, 1),
+        Word::File => {
+            next.file = i;
+            next.named = std::num::wrapping_add_usize(a.named, 1);
+        }
+    }
+    next
+}
+
+fn asked_from(first: usize) -> Asked {
+    let n = os::arg_count();
+    let mut a = Asked {
+        file: 0,
+        named: 0,
+        counting: false,
+        known: true,
+    };
+    for i in first..n {
+        a = asked_also(a, i);
+    }
+    a
+}
+
+// Replays what the words from the first on ask for.
+fn replay_from(first: usize, usage: &[u8]) {
+    let a = asked_from(first);
+    if !a.known | (1 < a.named) {
+        io::write_all(STDERR_FILENO, usage);
         return;
     }
-    replay_argument(i);
+    if a.file == 0 {
+        replay_open(STDIN_FILENO, b"standard input", a.counting);
+        return;
+    }
+    replay_argument(a.file, a.counting);
 }
 
-// The program replay: at most one file.
+// The program replay.
 pub fn run() {
-    if os::arg_count() > 2 {
-        io::write_all(STDERR_FILENO, b"usage: replay [FILE]\n");
-        return;
-    }
-    replay_from(1);
+    replay_from(1, b"usage: replay [--counters] [FILE]\n");
 }
 
-// The subcommand replay: the file is the word behind it.
+// The subcommand replay: its words are behind it.
 pub fn run_subcommand() {
-    if os::arg_count() > 3 {
-        io::write_all(STDERR_FILENO, b"usage: pursethistle replay [FILE]\n");
-        return;
-    }
-    replay_from(2);
+    replay_from(2, b"usage: pursethistle replay [--counters] [FILE]\n");
 }
 
 fn write_name(i: usize) {
@@ -451,11 +567,25 @@ fn write_name(i: usize) {
     io::write_all(STDOUT_FILENO, b"\n");
 }
 
+// A file by its name, or the word that asks for counters from there on.
+fn each(i: usize, counting: bool) -> bool {
+    match argument(i) {
+        Word::Counters => true,
+        Word::Unknown => counting,
+        Word::Input => counting,
+        Word::File => {
+            write_name(i);
+            replay_argument(i, counting);
+            counting
+        }
+    }
+}
+
 // Replays each file that an argument names, after a line with the name: for the cases of the gate.
 pub fn run_each() {
     let n = os::arg_count();
+    let mut counting = false;
     for i in 1..n {
-        write_name(i);
-        replay_argument(i);
+        counting = each(i, counting);
     }
 }

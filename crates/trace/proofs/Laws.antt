@@ -104,12 +104,12 @@ lines-enough (suc n) (suc m) t rest h k =
     let some : 0 < sizeOf r = positive (sizeOf r) e in
     let a : length (drop (sizeOf r) rest) ≤ n = rw (length-drop (sizeOf r) rest) (omega arith) in
     let b : length (drop (sizeOf r) rest) ≤ m = rw (length-drop (sizeOf r) rest) (omega arith) in
-    rw e (ap (λ (l : List ℕ). lineOf t (called t rest r) ++ l) (lines-enough n m (replayed t r (called t rest r)) (drop (sizeOf r) rest) a b)))
+    rw e (ap (λ (l : List ℕ). lineOf t (called t rest r) ++ l) (lines-enough n m (replayed t rest r (called t rest r)) (drop (sizeOf r) rest) a b)))
 
 -- one turn of the whole: a record's line, then what the rest gives; or the last line
 pub lines-record : (t : Replay) (rest : List ℕ) → eqb (sizeOf (recordOf rest)) 0 ≡ false
     → let r = recordOf rest in let e = called t rest r in let left = drop (sizeOf r) rest in
-    linesOf (length rest) t rest ≡ lineOf t e ++ linesOf (length left) (replayed t r e) left
+    linesOf (length rest) t rest ≡ lineOf t e ++ linesOf (length left) (replayed t rest r e) left
 unfolding linesOf
 lines-record t [] e = impossible (sym (ap (λ (r : RecordRead). eqb (sizeOf r) 0) none-short) ∙ e)
 lines-record t (x ∷ xs) e =
@@ -119,7 +119,7 @@ lines-record t (x ∷ xs) e =
     let h : length left ≤ length xs = rw (length-drop (sizeOf r) (x ∷ xs)) (omega arith) in
     rw e
     (ap (λ (l : List ℕ). lineOf t (called t (x ∷ xs) r) ++ l)
-    (lines-enough (length xs) (length left) (replayed t r (called t (x ∷ xs) r)) left h (omega arith)))
+    (lines-enough (length xs) (length left) (replayed t (x ∷ xs) r (called t (x ∷ xs) r)) left h (omega arith)))
 
 pub lines-close : (t : Replay) (rest : List ℕ) → eqb (sizeOf (recordOf rest)) 0 ≡ true → linesOf (length rest) t rest ≡ closing t rest
 unfolding linesOf
@@ -217,14 +217,14 @@ mark opened.Ready = 2
 unlike : {P : Type 0} {o u : Opened} → o ≡ u → (mark o ≡ mark u → ⊥) → P
 unlike e h = absurd (h (ap mark e))
 
-module _ (a : Areas) (rest : List ℕ) where
-  bad-by : (h : HeaderRead) → mark (begunBy h .opened) ≤ 1 → badBytes 0 ≡ byHeader a h rest
+module _ (c : Bool) (a : Areas) (rest : List ℕ) where
+  bad-by : (h : HeaderRead) → mark (begunBy h c .opened) ≤ 1 → badBytes 0 ≡ byHeader c a h rest
   bad-by headers.Short e = refl
   bad-by headers.Bad e = refl
   bad-by (headers.Header start latency dropping first capacity) e =
       by-bool (isRefused (madeOf start latency dropping first capacity) capacity) (λ b. rw b) (λ b. absurd (let k = rw b at e in omega arith))
 
-  ready-by : (h : HeaderRead) (out : List ℕ) → begunBy h .opened ≡ opened.Ready → out ≡ linesOf (length rest) (replayIn (begunBy h .trace) a) rest → out ≡ byHeader a h rest
+  ready-by : (h : HeaderRead) (out : List ℕ) → begunBy h c .opened ≡ opened.Ready → out ≡ linesOf (length rest) (replayIn (begunBy h c .trace) a) rest → out ≡ byHeader c a h rest
   ready-by headers.Short out e w = unlike e (λ k. omega arith)
   ready-by headers.Bad out e w = unlike e (λ k. omega arith)
   ready-by (headers.Header start latency dropping first capacity) out e w =
@@ -235,16 +235,16 @@ unfolding headerOf
 header-long xs h = by-order (length xs) 24 (λ l. absurd (h (rw (lt-ltb _ _ l)))) (λ l. l)
 
 -- a program's turns on any pieces of a file write what the whole file gives
-pub loop-whole : (a : Areas) (file out : List ℕ) → Replays a file out → out ≡ outputOf a file
+pub loop-whole : (c : Bool) (a : Areas) (file out : List ℕ) → Replays c a file out → out ≡ outputOf c a file
 unfolding outputOf
-loop-whole _ _ _ (cut a file e) = bad-by a (drop 24 file) (headerOf file) (rw e (omega arith))
-loop-whole _ _ _ (refused a hand more e) =
-    let whole : headerOf hand ≡ headers.Short → ⊥ = λ q. unlike (sym (ap (λ (h : HeaderRead). begunBy h .opened) q) ∙ e) (λ k. omega arith) in
-    rw (header-behind hand more whole) (bad-by a (drop 24 (hand ++ more)) (headerOf hand) (rw e (omega arith)))
-loop-whole _ _ _ (ready a hand more out e w) =
-    let whole : headerOf hand ≡ headers.Short → ⊥ = λ q. unlike (sym (ap (λ (h : HeaderRead). begunBy h .opened) q) ∙ e) (λ k. omega arith) in
+loop-whole _ _ _ _ (cut c a file e) = bad-by c a (drop 24 file) (headerOf file) (rw e (omega arith))
+loop-whole _ _ _ _ (refused c a hand more e) =
+    let whole : headerOf hand ≡ headers.Short → ⊥ = λ q. unlike (sym (ap (λ (h : HeaderRead). begunBy h c .opened) q) ∙ e) (λ k. omega arith) in
+    rw (header-behind hand more whole) (bad-by c a (drop 24 (hand ++ more)) (headerOf hand) (rw e (omega arith)))
+loop-whole _ _ _ _ (ready c a hand more out e w) =
+    let whole : headerOf hand ≡ headers.Short → ⊥ = λ q. unlike (sym (ap (λ (h : HeaderRead). begunBy h c .opened) q) ∙ e) (λ k. omega arith) in
     rw (header-behind hand more whole, drop-append-le 24 hand more (header-long hand whole))
-    (ready-by a (drop 24 hand ++ more) (headerOf hand) out e (loop-writes (beginOf hand .trace) a (drop 24 hand ++ more) out w))
+    (ready-by c a (drop 24 hand ++ more) (headerOf hand) out e (loop-writes (beginOf hand c .trace) a (drop 24 hand ++ more) out w))
 
 -- a turn that gives a record's line moves the cursor, and not past the bytes at hand; so a file of any length comes to its end
 abbrev Moves : List ℕ → Next → Type 0

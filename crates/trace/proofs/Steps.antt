@@ -22,7 +22,11 @@ use Rattle.dlt.specs.declared.header.HeaderRead.{HeaderRead}
 use Rattle.dlt.specs.declared.header.HeaderRead.the-variants as headers
 use Rattle.dlt.specs.declared.record.RecordRead.{RecordRead}
 use Rattle.dlt.specs.declared.record.RecordRead.the-variants as records
+use Rattle.shapes.specs.Shapes.{Piece}
+use Rattle.tally.specs.Tally.{freshTally, tallied, tallyBytes}
+use Rattle.tally.specs.declared.Tally.{Tally}
 use Rattle.text.specs.Put.{Put, putEnded, putOf}
+use Rattle.text.proofs.Puts.{put-cursor, put-then}
 use Rattle.lines.specs.Lines.{lineBytes, endBytes, badBytes}
 use Rattle.step.specs.Step as steps
 use Rattle.step.specs.Step.{Ended, ended, stateOf, lentFor, stepOf}
@@ -58,21 +62,25 @@ judge-refused refusal capacity h = rw (ne-eqb _ _ h)
 pub no-head-made : {m : Made} → m ≡ madeOf (pos 0) 0 false 0 1 → m .head ≡ noHead
 no-head-made e = rw e
 
-pub begun-made : (start : ℤ) (latency : ℕ) (dropping : Bool) (first capacity : ℕ) {n : ℤ} {m : Made} {o : Opened} {b : Begun} → m ≡ madeOf n latency dropping first capacity
-    → n ≡ start → Judged (m .refusal) capacity o → b ≡ begunAs o (m .head) → b ≡ begunBy (headers.Header start latency dropping first capacity)
-begun-made start latency dropping first capacity e q f g = rw (← q, ← e, ← f) g
+pub begun-as : (o : Opened) (h : Head) (counting : Bool) {c : Tally} → c ≡ freshTally counting
+    → record { trace = record { head = h; tally = c; count = 0; offset = 24 }; opened = o } ≡ begunAs o h counting
+begun-as o h counting e = rw e
 
-pub begun-none : (xs : List ℕ) {h : Head} {r : HeaderRead} {b : Begun} → r ≡ headerOf xs → r ≡ headers.Short → h ≡ noHead → b ≡ begunAs opened.Short h
-    → b ≡ beginOf xs
-begun-none xs e f g k = rw (← e, f, ← g) k
+pub begun-made : (start : ℤ) (latency : ℕ) (dropping : Bool) (first capacity : ℕ) (counting : Bool) {n : ℤ} {m : Made} {o : Opened} {b : Begun} → m ≡ madeOf n latency dropping first capacity
+    → n ≡ start → Judged (m .refusal) capacity o → b ≡ begunAs o (m .head) counting → b ≡ begunBy (headers.Header start latency dropping first capacity) counting
+begun-made start latency dropping first capacity counting e q f g = rw (← q, ← e, ← f) g
 
-pub begun-bad : (xs : List ℕ) {h : Head} {r : HeaderRead} {b : Begun} → r ≡ headerOf xs → r ≡ headers.Bad → h ≡ noHead → b ≡ begunAs opened.Bad h
-    → b ≡ beginOf xs
-begun-bad xs e f g k = rw (← e, f, ← g) k
+pub begun-none : (xs : List ℕ) (counting : Bool) {h : Head} {r : HeaderRead} {b : Begun} → r ≡ headerOf xs → r ≡ headers.Short → h ≡ noHead → b ≡ begunAs opened.Short h counting
+    → b ≡ beginOf xs counting
+begun-none xs counting e f g k = rw (← e, f, ← g) k
 
-pub begun-header : (xs : List ℕ) {r : HeaderRead} {start n : ℤ} {latency : ℕ} {dropping : Bool} {first capacity : ℕ} {b : Begun}
-    → r ≡ headerOf xs → r ≡ headers.Header start latency dropping first capacity → n ≡ start → b ≡ begunBy (headers.Header n latency dropping first capacity) → b ≡ beginOf xs
-begun-header xs e f q k = rw (← e, f, ← q) k
+pub begun-bad : (xs : List ℕ) (counting : Bool) {h : Head} {r : HeaderRead} {b : Begun} → r ≡ headerOf xs → r ≡ headers.Bad → h ≡ noHead → b ≡ begunAs opened.Bad h counting
+    → b ≡ beginOf xs counting
+begun-bad xs counting e f g k = rw (← e, f, ← g) k
+
+pub begun-header : (xs : List ℕ) (counting : Bool) {r : HeaderRead} {start n : ℤ} {latency : ℕ} {dropping : Bool} {first capacity : ℕ} {b : Begun}
+    → r ≡ headerOf xs → r ≡ headers.Header start latency dropping first capacity → n ≡ start → b ≡ begunBy (headers.Header n latency dropping first capacity) counting → b ≡ beginOf xs counting
+begun-header xs counting e f q k = rw (← e, f, ← q) k
 
 -- length_of
 pub length-data : (r : RecordRead) {time : ℤ} {number message location stamp n : ℕ} → r ≡ records.Data time number message location stamp n → n ≡ lengthIn r
@@ -104,17 +112,17 @@ module _ (r : RecordRead) where
 
 -- has_room
 module _ (line list : List ℕ) where
-  pub room-none : length line < 256 → false ≡ leb (lineNeed list) (length line)
+  pub room-none : length line < 700 → false ≡ leb (lineNeed list) (length line)
   room-none h = sym (lt-leb (lineNeed list) (length line) (omega arith))
 
-  pub room-by-words : {b : Bool} → 256 ≤ length line → b ≡ leb (length list) ((length line - 256) / 21) → b ≡ leb (lineNeed list) (length line)
+  pub room-by-words : {b : Bool} → 700 ≤ length line → b ≡ leb (length list) ((length line - 700) / 21) → b ≡ leb (lineNeed list) (length line)
   room-by-words {b} h e = e ∙ same (length list) (length line) h
     where
-      same : (n m : ℕ) → 256 ≤ m → leb n ((m - 256) / 21) ≡ leb (256 + 21 * n) m
+      same : (n m : ℕ) → 700 ≤ m → leb n ((m - 700) / 21) ≡ leb (700 + 21 * n) m
       same n m h =
-          by-order ((m - 256) / 21) n
-          (λ l. rw (lt-leb _ _ l) (sym (lt-leb (256 + 21 * n) m (omega arith))))
-          (λ l. rw (le-leb _ _ l) (sym (le-leb (256 + 21 * n) m (omega arith))))
+          by-order ((m - 700) / 21) n
+          (λ l. rw (lt-leb _ _ l) (sym (lt-leb (700 + 21 * n) m (omega arith))))
+          (λ l. rw (le-leb _ _ l) (sym (le-leb (700 + 21 * n) m (omega arith))))
 
 -- answer_line: an answer by its case
 module _ (line : List ℕ) (nth : ℕ) (list : List ℕ) where
@@ -125,29 +133,36 @@ module _ (line : List ℕ) (nth : ℕ) (list : List ℕ) where
 pub room-after : (line list list₁ : List ℕ) → length list₁ ≡ length list → lineNeed list ≤ length line → lineNeed list₁ ≤ length line
 room-after line list list₁ e h = rw e h
 
-module _ (h : Head) (ws bs a out list line : List ℕ) (nth : ℕ) (call : Call) (payload : List ℕ) where
-  pub done : {n : ℕ} {s : Stepped} {ws₁ bs₁ a₁ out₁ list₁ line₁ : List ℕ}
+module _ (h : Head) (c : Tally) (ws bs a out list line : List ℕ) (nth : ℕ) (call : Call) (payload : List ℕ) where
+  pub done : {n : ℕ} {s : Stepped} {c₁ : Tally} {ws₁ bs₁ a₁ out₁ list₁ line₁ : List ℕ}
       → ended s ws₁ bs₁ a₁ out₁ list₁ ≡ stepOf (stateOf h ws bs a) (lentFor payload out list) call
       → putEnded n line₁ ≡ putOf line 0 (lineBytes nth (steps.lineOf (s .answer) list₁))
-      → ran (s .head) (putEnded n line₁) (areasOf ws₁ bs₁ a₁ out₁ list₁) ≡ ranOf (stepIn h (areasOf ws bs a out list) call payload) line nth
-  done {n} {s} {ws₁} {bs₁} {a₁} {out₁} {list₁} {line₁} g e =
-      ap (λ (p : Put). ran (s .head) p (areasOf ws₁ bs₁ a₁ out₁ list₁)) e ∙ ap (λ (x : Ended). ranOf x line nth) g
+      → c₁ ≡ tallied c (length payload) (s .answer)
+      → ran (s .head) c₁ (putEnded n line₁) (areasOf ws₁ bs₁ a₁ out₁ list₁) ≡ ranOf (stepIn h (areasOf ws bs a out list) call payload) c (length payload) line nth
+  done {n} {s} {c₁} {ws₁} {bs₁} {a₁} {out₁} {list₁} {line₁} g e f =
+      ap (λ (p : Put). ran (s .head) c₁ p (areasOf ws₁ bs₁ a₁ out₁ list₁)) e
+      ∙ ap (λ (k : Tally). ran (s .head) k (putOf line 0 (lineBytes nth (steps.lineOf (s .answer) list₁))) (areasOf ws₁ bs₁ a₁ out₁ list₁)) f
+      ∙ ap (λ (x : Ended). ranOf x c (length payload) line nth) g
 
 -- advance
 module _ (t : Trace) (ws bs a out list line : List ℕ) (call : Call) (payload : List ℕ) (size : ℕ) where
-  pub advanced : {count offset n : ℕ} {h : Head} {ws₁ bs₁ a₁ out₁ list₁ line₁ : List ℕ}
+  pub advanced : {count offset n : ℕ} {h : Head} {c : Tally} {ws₁ bs₁ a₁ out₁ list₁ line₁ : List ℕ}
       → count ≡ (t .count + 1) % 2 ^ 64 → offset ≡ (t .offset + size) % 2 ^ 64
-      → ran h (putEnded n line₁) (areasOf ws₁ bs₁ a₁ out₁ list₁) ≡ ranOf (stepIn (t .head) (areasOf ws bs a out list) call payload) line count
-      → next (outcome (record { head = h; count = count; offset = offset }) size (putEnded n line₁) status.Line) (areasOf ws₁ bs₁ a₁ out₁ list₁)
+      → ran h c (putEnded n line₁) (areasOf ws₁ bs₁ a₁ out₁ list₁) ≡ ranOf (stepIn (t .head) (areasOf ws bs a out list) call payload) (t .tally) (length payload) line count
+      → next (outcome (record { head = h; tally = c; count = count; offset = offset }) size (putEnded n line₁) status.Line) (areasOf ws₁ bs₁ a₁ out₁ list₁)
       ≡ advances t (areasOf ws bs a out list) line call payload size
   advanced {count} {offset} e f g =
-      ap (λ (r : Ran). next (outcome (record { head = r .head; count = count; offset = offset }) size (r .written) status.Line) (r .areas)) g ∙ rw (e, f)
+      ap (λ (r : Ran). next (outcome (record { head = r .head; tally = r .tally; count = count; offset = offset }) size (r .written) status.Line) (r .areas)) g ∙ rw (e, f)
 
 -- end, bad, close
 module _ (t : Trace) (line : List ℕ) {line₁ : List ℕ} where
-  pub ended-with : {n : ℕ} → putEnded n line₁ ≡ putOf line 0 (endBytes (t .count) (t .head .window .lrsn) (t .head .window .seqno0) (t .head .window .held))
-      → outcome t 0 (putEnded n line₁) status.End ≡ endsWith t line true
-  ended-with e = ap (λ (p : Put). outcome t 0 p status.End) e
+  pub ended-with : {p n : ℕ} {line₂ : List ℕ} → 700 ≤ length line → Piece line 0 (endBytes (t .count) (t .head .window .lrsn) (t .head .window .seqno0) (t .head .window .held)) 256 p line₂
+      → Piece line₂ p (tallyBytes (t .tally)) 429 n line₁ → outcome t 0 (putEnded n line₁) status.End ≡ endsWith t line true
+  ended-with room e f =
+      let k = put-cursor line 0 _ (e .bytes) in
+      let l = e .within in
+      ap (λ (p : Put). outcome t 0 p status.End)
+      (put-then line 0 (endBytes (t .count) (t .head .window .lrsn) (t .head .window .seqno0) (t .head .window .held)) (tallyBytes (t .tally)) (e .bytes) (f .bytes) (omega arith))
 
   pub ended-bad : {n : ℕ} → putEnded n line₁ ≡ putOf line 0 (badBytes (t .offset)) → outcome t 0 (putEnded n line₁) status.Bad ≡ endsWith t line false
   ended-bad e = ap (λ (p : Put). outcome t 0 p status.Bad) e
@@ -249,7 +264,7 @@ module _ (t : Trace) (a : Areas) (rest : List ℕ) (last : Bool) (line : List �
   unfolding nextOf
   next-turn e f g = rw (← e, f) g
 
-pub ruleset begins = (judge-ready, judge-wide, judge-refused, no-head-made, begun-made, begun-none, begun-bad, begun-header, needs)
+pub ruleset begins = (judge-ready, judge-wide, judge-refused, no-head-made, begun-as, begun-made, begun-none, begun-bad, begun-header, needs)
 
 pub ruleset reads = (
   call-data,

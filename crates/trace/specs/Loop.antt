@@ -26,8 +26,8 @@ pub data Writes : Trace → Areas → List ℕ → List ℕ → Type 0 where
   bad-line : (t : Trace) (a : Areas) (hand more : List ℕ) (last : Bool) (line : List ℕ) (x : Next) → (last ≡ true → more ≡ []) → x ≡ nextOf t a hand last line
       → x .outcome .status ≡ status.Bad → Writes t a (hand ++ more) (wroteIn x)
 
--- From the start of a file on. A header that is still short when nothing is left is bad.
-pub data Replays : Areas → List ℕ → List ℕ → Type 0 where
-  cut : (a : Areas) (file : List ℕ) → beginOf file .opened ≡ opened.Short → Replays a file (badBytes 0)
-  refused : (a : Areas) (hand more : List ℕ) → beginOf hand .opened ≡ opened.Bad → Replays a (hand ++ more) (badBytes 0)
-  ready : (a : Areas) (hand more out : List ℕ) → beginOf hand .opened ≡ opened.Ready → Writes (beginOf hand .trace) a (drop 24 hand ++ more) out → Replays a (hand ++ more) out
+-- From the start of a file on, with the counters asked for or not. A header that is still short when nothing is left is bad.
+pub data Replays : Bool → Areas → List ℕ → List ℕ → Type 0 where
+  cut : (c : Bool) (a : Areas) (file : List ℕ) → beginOf file c .opened ≡ opened.Short → Replays c a file (badBytes 0)
+  refused : (c : Bool) (a : Areas) (hand more : List ℕ) → beginOf hand c .opened ≡ opened.Bad → Replays c a (hand ++ more) (badBytes 0)
+  ready : (c : Bool) (a : Areas) (hand more out : List ℕ) → beginOf hand c .opened ≡ opened.Ready → Writes (beginOf hand c .trace) a (drop 24 hand ++ more) out → Replays c a (hand ++ more) out

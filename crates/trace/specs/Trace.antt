@@ -15,6 +15,8 @@ use Rattle.dlt.specs.declared.record.RecordRead.{RecordRead}
 use Rattle.dlt.specs.declared.record.RecordRead.the-variants as records
 use Rattle.lines.specs.Lines.{lineBytes, endBytes, badBytes}
 use Rattle.step.specs.Step.{State, stateOf, lentFor, Ended, stepOf}
+use Rattle.tally.specs.Tally.{freshTally, tallied, tallyBytes}
+use Rattle.tally.specs.declared.Tally.{Tally}
 use Rattle.step.specs.declared.Call.{Call}
 use Rattle.step.specs.declared.Call.the-variants as calls
 
@@ -26,11 +28,12 @@ pub record Areas : Type 0 where
   pub output : List ℕ
   pub list : List ℕ
 
--- a replay between two records: how many were read, where the next begins in the file, the receiver's head and the areas as they are
+-- a replay between two records: how many were read, where the next begins in the file, the receiver's head, the counters, and the areas as they are
 pub record Replay : Type 0 where
   pub count : ℕ
   pub offset : ℕ
   pub head : Head
+  pub tally : Tally
   pub areas : Areas
 
 -- the record as a call; one that is cut or bad is none, and is never made
@@ -74,12 +77,13 @@ called t rest r =
 abbrev pub counted : ℕ → ℕ → ℕ
 counted n m = (n + m) % 2 ^ 64
 
-abbrev pub replayed : Replay → RecordRead → Ended → Replay
-replayed t r e =
+abbrev pub replayed : Replay → List ℕ → RecordRead → Ended → Replay
+replayed t rest r e =
     record {
       count = counted (t .count) 1;
       offset = counted (t .offset) (sizeOf r);
       head = e .state .head;
+      tally = tallied (t .tally) (length (payloadIn rest r)) (e .answer);
       areas =
           record { slots = e .state .slots; payloads = e .state .payloads; history = e .state .history; output = e .output; list = e .list };
     }
@@ -88,9 +92,9 @@ replayed t r e =
 abbrev pub lineOf : Replay → Ended → List ℕ
 lineOf t e = lineBytes (counted (t .count) 1) (e .line)
 
--- end: records, lrsn, seqno0, held; bad: the record's offset
+-- end: records, lrsn, seqno0, held, and behind it the counters if they are asked for; bad: the record's offset
 abbrev pub endOf : Replay → List ℕ
-endOf t = endBytes (t .count) (t .head .window .lrsn) (t .head .window .seqno0) (t .head .window .held)
+endOf t = endBytes (t .count) (t .head .window .lrsn) (t .head .window .seqno0) (t .head .window .held) ++ tallyBytes (t .tally)
 
 abbrev pub badOf : Replay → List ℕ
 badOf t = badBytes (t .offset)
@@ -110,24 +114,24 @@ linesOf zero t rest = closing t rest
 linesOf (suc n) t rest =
     let r = recordOf rest in
     orElse (eqb (sizeOf r) 0) (closing t rest)
-    (λ u. let e = called t rest r in lineOf t e ++ linesOf n (replayed t r e) (drop (sizeOf r) rest))
+    (λ u. let e = called t rest r in lineOf t e ++ linesOf n (replayed t rest r e) (drop (sizeOf r) rest))
 
--- a fresh replay
-abbrev pub begun : Areas → Head → Replay
-begun a h = record { count = 0; offset = 24; head = h; areas = a }
+-- a fresh replay; counting asks for the counters
+abbrev pub begun : Bool → Areas → Head → Replay
+begun counting a h = record { count = 0; offset = 24; head = h; tally = freshTally counting; areas = a }
 
 -- a refused setting or a capacity over 32 is bad
 abbrev pub isRefused : Made → ℕ → Bool
 isRefused m capacity = not (eqb (m .refusal) 0 && leb capacity 32)
 
 -- by its header; every record has a byte at least, so there are no more records than bytes
-abbrev pub byHeader : Areas → HeaderRead → List ℕ → List ℕ
-byHeader a headers.Short rest = badBytes 0
-byHeader a headers.Bad rest = badBytes 0
-byHeader a (headers.Header start latency dropping first capacity) rest =
+abbrev pub byHeader : Bool → Areas → HeaderRead → List ℕ → List ℕ
+byHeader counting a headers.Short rest = badBytes 0
+byHeader counting a headers.Bad rest = badBytes 0
+byHeader counting a (headers.Header start latency dropping first capacity) rest =
     let m = madeOf start latency dropping first capacity in
-    orElse (isRefused m capacity) (badBytes 0) (λ u. linesOf (length rest) (begun a (m .head)) rest)
+    orElse (isRefused m capacity) (badBytes 0) (λ u. linesOf (length rest) (begun counting a (m .head)) rest)
 
--- the whole output for a whole file
-unfoldable pub outputOf : Areas → List ℕ → List ℕ
-outputOf a file = byHeader a (headerOf file) (drop 24 file)
+-- the whole output for a whole file: 01's lines, with the counters behind the end line if they are asked for
+unfoldable pub outputOf : Bool → Areas → List ℕ → List ℕ
+outputOf counting a file = byHeader counting a (headerOf file) (drop 24 file)

@@ -1,6 +1,6 @@
 -- One turn of a replay, on the bytes of the file that are at hand: 01, "Trace, mark DLT". `Trace.antt` says what the whole file gives.
 use mathlib.Core.Bool.{Bool, true, false, _&&_, not, cond}
-use mathlib.Core.List.{List}
+use mathlib.Core.List.{List, _++_}
 use Prim.Native.Nat.{ℕ, _+_, _*_}
 use lib.Dec.{eqb, leb}
 use lib.IntN.{pos}
@@ -16,6 +16,8 @@ use Rattle.dlt.specs.declared.record.RecordRead.the-variants as records
 use Rattle.lines.specs.Lines.{lineBytes, endBytes, badBytes}
 use Rattle.step.specs.Step.{Ended, stateOf, lentFor, stepOf}
 use Rattle.step.specs.declared.Call.{Call}
+use Rattle.tally.specs.Tally.{freshTally, tallied, tallyBytes}
+use Rattle.tally.specs.declared.Tally.{Tally}
 use Rattle.text.specs.Put.{Put, putEnded, putOf}
 use Rattle.trace.specs.Trace.{Areas, Replay, callIn, payloadIn, counted, isRefused}
 use Rattle.trace.specs.declared.Begun.{Begun}
@@ -30,24 +32,25 @@ use Rattle.trace.specs.declared.Turned.{Turned}
 abbrev pub noHead : Head
 noHead = madeOf (pos 0) 0 false 0 1 .head
 
-abbrev pub begunAs : Opened → Head → Begun
-begunAs o h = record { trace = record { head = h; count = 0; offset = 24 }; opened = o }
+-- counting says that the counters are asked for
+abbrev pub begunAs : Opened → Head → Bool → Begun
+begunAs o h counting = record { trace = record { head = h; tally = freshTally counting; count = 0; offset = 24 }; opened = o }
 
-abbrev pub begunBy : HeaderRead → Begun
-begunBy headers.Short = begunAs opened.Short noHead
-begunBy headers.Bad = begunAs opened.Bad noHead
-begunBy (headers.Header start latency dropping first capacity) =
-    let m = madeOf start latency dropping first capacity in begunAs (cond (isRefused m capacity) opened.Bad opened.Ready) (m .head)
+abbrev pub begunBy : HeaderRead → Bool → Begun
+begunBy headers.Short counting = begunAs opened.Short noHead counting
+begunBy headers.Bad counting = begunAs opened.Bad noHead counting
+begunBy (headers.Header start latency dropping first capacity) counting =
+    let m = madeOf start latency dropping first capacity in begunAs (cond (isRefused m capacity) opened.Bad opened.Ready) (m .head) counting
 
 -- the header at the start of the bytes at hand
-abbrev pub beginOf : List ℕ → Begun
-beginOf piece = begunBy (headerOf piece)
+abbrev pub beginOf : List ℕ → Bool → Begun
+beginOf piece counting = begunBy (headerOf piece) counting
 
 abbrev pub areasOf : List ℕ → List ℕ → List ℕ → List ℕ → List ℕ → Areas
 areasOf ws bs a out list = record { slots = ws; payloads = bs; history = a; output = out; list = list }
 
 abbrev pub replayIn : Trace → Areas → Replay
-replayIn t a = record { count = t .count; offset = t .offset; head = t .head; areas = a }
+replayIn t a = record { count = t .count; offset = t .offset; head = t .head; tally = t .tally; areas = a }
 
 -- what came of a turn: the trace, how many bytes of the file it used, and what it wrote at the start of the lent line
 pub record Outcome : Type 0 where
@@ -82,9 +85,9 @@ isShort (records.Drop first last) = false
 isShort (records.Clock time stamp) = false
 isShort records.Clear = false
 
--- room for the longest line: a number and a word, and 21 bytes for each word of a loss report
+-- room for the longest line: the end line and the counters behind it, and 21 bytes for each word of a loss report
 abbrev pub lineNeed : List ℕ → ℕ
-lineNeed list = 256 + 21 * length list
+lineNeed list = 700 + 21 * length list
 
 -- nothing is done, and nothing changes
 abbrev pub stays : Trace → List ℕ → Status → Outcome
@@ -95,7 +98,7 @@ abbrev pub endsWith : Trace → List ℕ → Bool → Outcome
 endsWith t line empty =
     outcome t 0
     (putOf line 0
-    (cond empty (endBytes (t .count) (t .head .window .lrsn) (t .head .window .seqno0) (t .head .window .held)) (badBytes (t .offset))))
+    (cond empty (endBytes (t .count) (t .head .window .lrsn) (t .head .window .seqno0) (t .head .window .held) ++ tallyBytes (t .tally)) (badBytes (t .offset))))
     (cond empty status.End status.Bad)
 
 abbrev pub endsBy : Trace → List ℕ → Bool → Bool → Outcome
@@ -105,24 +108,26 @@ endsBy t line more empty = cond more (stays t line status.More) (endsWith t line
 abbrev pub stepIn : Head → Areas → Call → List ℕ → Ended
 stepIn h a call payload = stepOf (stateOf h (a .slots) (a .payloads) (a .history)) (lentFor payload (a .output) (a .list)) call
 
--- a call and its line: the head, what was written, and the areas
+-- a call and its line: the head, the counters, what was written, and the areas
 pub record Ran : Type 0 where
   pub head : Head
+  pub tally : Tally
   pub written : Put
   pub areas : Areas
 
-abbrev pub ran : Head → Put → Areas → Ran
-ran h w a = record { head = h; written = w; areas = a }
+abbrev pub ran : Head → Tally → Put → Areas → Ran
+ran h c w a = record { head = h; tally = c; written = w; areas = a }
 
-abbrev pub ranOf : Ended → List ℕ → ℕ → Ran
-ranOf e line nth =
-    ran (e .state .head) (putOf line 0 (lineBytes nth (e .line))) (areasOf (e .state .slots) (e .state .payloads) (e .state .history) (e .output) (e .list))
+-- size is the length of the payload
+abbrev pub ranOf : Ended → Tally → ℕ → List ℕ → ℕ → Ran
+ranOf e c size line nth =
+    ran (e .state .head) (tallied c size (e .answer)) (putOf line 0 (lineBytes nth (e .line))) (areasOf (e .state .slots) (e .state .payloads) (e .state .history) (e .output) (e .list))
 
 -- the record's call, counted, with the size of its record
 abbrev pub advances : Trace → Areas → List ℕ → Call → List ℕ → ℕ → Next
 advances t a line call payload size =
-    let r = ranOf (stepIn (t .head) a call payload) line (counted (t .count) 1) in
-    next (outcome (record { head = r .head; count = counted (t .count) 1; offset = counted (t .offset) size }) size (r .written) status.Line) (r .areas)
+    let r = ranOf (stepIn (t .head) a call payload) (t .tally) (length payload) line (counted (t .count) 1) in
+    next (outcome (record { head = r .head; tally = r .tally; count = counted (t .count) 1; offset = counted (t .offset) size }) size (r .written) status.Line) (r .areas)
 
 -- by the record that the bytes at hand start with; `last` says that none come behind them
 abbrev pub nextBy : Trace → Areas → List ℕ → Bool → List ℕ → RecordRead → Next

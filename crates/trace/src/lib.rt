@@ -19,10 +19,12 @@ use dlt::record::RecordRead;
 use head::state::Head;
 use step::Answer;
 use step::Call;
+use tally::Tally;
 
-// A replay between two records: the receiver's head, how many records were read, and where the next begins in the file.
+// A replay between two records: the receiver's head, the counters, how many records were read, and where the next begins in the file.
 pub struct Trace {
     pub head: Head,
+    pub tally: Tally,
     pub count: u64,
     pub offset: u64,
 }
@@ -73,11 +75,12 @@ fn judge(refusal: u32, capacity: usize) -> Opened
     Opened::Bad
 }
 
-fn begun_as(opened: Opened, head: Head) -> Begun
-    ensures { λ r. ⌜ r ≡ begunAs opened head ⌝ }
+fn begun_as(opened: Opened, head: Head, counting: bool) -> Begun
+    ensures { λ r. ⌜ r ≡ begunAs opened head counting ⌝ }
 {
     let trace = Trace {
         head,
+        tally: tally::fresh(counting),
         count: 0,
         offset: 24,
     };
@@ -91,28 +94,35 @@ fn no_head() -> Head
     made.head
 }
 
-fn begun_by(start: i64, latency: u32, dropping: bool, first: u32, capacity: usize) -> Begun
-    ensures { λ r. ⌜ r ≡ begunBy (headers.Header start latency dropping first capacity) ⌝ }
+fn begun_by(
+    start: i64,
+    latency: u32,
+    dropping: bool,
+    first: u32,
+    capacity: usize,
+    counting: bool,
+) -> Begun
+    ensures { λ r. ⌜ r ≡ begunBy (headers.Header start latency dropping first capacity) counting ⌝ }
 {
     let made = Head::new(start, latency, dropping, first, capacity);
     let head = made.head;
-    begun_as(judge(made.refusal, capacity), head)
+    begun_as(judge(made.refusal, capacity), head, counting)
 }
 
-// The header, from the bytes that the file starts with, and the receiver by its settings.
-pub fn begin(piece: &[u8]) -> Begun
-    ensures { λ r. ⌜ r ≡ beginOf (now (piece .entry)) ⌝ }
+// The header, from the bytes that the file starts with, and the receiver by its settings; `counting` asks for the counters' line behind the end line.
+pub fn begin(piece: &[u8], counting: bool) -> Begun
+    ensures { λ r. ⌜ r ≡ beginOf (now (piece .entry)) counting ⌝ }
 {
     match dlt::header::header(piece) {
-        HeaderRead::Short => begun_as(Opened::Short, no_head()),
-        HeaderRead::Bad => begun_as(Opened::Bad, no_head()),
+        HeaderRead::Short => begun_as(Opened::Short, no_head(), counting),
+        HeaderRead::Bad => begun_as(Opened::Bad, no_head(), counting),
         HeaderRead::Header {
             start,
             latency,
             dropping,
             first,
             capacity,
-        } => begun_by(start, latency, dropping, first, capacity),
+        } => begun_by(start, latency, dropping, first, capacity, counting),
     }
 }
 
@@ -195,14 +205,14 @@ fn is_short(r: RecordRead) -> bool
     }
 }
 
-// 21 bytes a word, without a product that might be too large.
+// 700 bytes and 21 a word, without a product that might be too large.
 fn has_room(line: &[u8], list: &[u32]) -> bool
     ensures { λ b. ⌜ b ≡ leb (lineNeed (now (list .entry))) (length (now (line .entry))) ⌝ }
 {
-    if line.len() < 256 {
+    if line.len() < 700 {
         return false;
     }
-    list.len() <= (line.len() - 256) / 21
+    list.len() <= (line.len() - 700) / 21
 }
 
 // The line of an answer, at the start of the lent line.
@@ -224,12 +234,14 @@ fn answer_line(line: &mut [u8], nth: u64, answer: Answer, list: &[u32]) -> usize
 
 struct Done {
     head: Head,
+    tally: Tally,
     length: usize,
 }
 
-// A call, and its line.
+// A call, its line and what it counts.
 fn run(
     h: Head,
+    before: Tally,
     words: &mut [u64],
     bytes: &mut [u8],
     area: &mut [u64],
@@ -241,13 +253,18 @@ fn run(
     payload: &[u8],
 ) -> Done
     requires { ⌜ lineNeed (now list) ≤ length (now line) ⌝ }
-    ensures { λ r. ⌜ ran (r .head) (putEnded (r .length) (now (line .exit))) (areasOf (now (words .exit)) (now (bytes .exit)) (now (area .exit)) (now (out .exit)) (now (list .exit))) ≡ ranOf (stepIn h (areasOf (now (words .entry)) (now (bytes .entry)) (now (area .entry)) (now (out .entry)) (now (list .entry))) call (now (payload .entry))) (now (line .entry)) nth ⌝ }
+    ensures { λ r. ⌜ ran (r .head) (r .tally) (putEnded (r .length) (now (line .exit))) (areasOf (now (words .exit)) (now (bytes .exit)) (now (area .exit)) (now (out .exit)) (now (list .exit))) ≡ ranOf (stepIn h (areasOf (now (words .entry)) (now (bytes .entry)) (now (area .entry)) (now (out .entry)) (now (list .entry))) call (now (payload .entry))) before (length (now (payload .entry))) (now (line .entry)) nth ⌝ }
 {
     let r = step::step(h, words, bytes, area, out, list, call, payload);
     let answer = r.answer;
     let length = answer_line(line, nth, answer, list);
+    let tally = tally::after(before, payload.len(), answer);
     let head = r.head;
-    Done { head, length }
+    Done {
+        head,
+        tally,
+        length,
+    }
 }
 
 // A record's call, counted.
@@ -268,9 +285,11 @@ fn advance(
 {
     let count = std::num::wrapping_add_u64(t.count, 1);
     let offset = std::num::wrapping_add_u64(t.offset, size as u64);
-    let before = t.head;
+    let head = t.head;
+    let tally = t.tally;
     let r = run(
-        before,
+        head,
+        tally,
         words,
         bytes,
         area,
@@ -283,8 +302,10 @@ fn advance(
     );
     let length = r.length;
     let head = r.head;
+    let tally = r.tally;
     let trace = Trace {
         head,
+        tally,
         count,
         offset,
     };
@@ -308,12 +329,14 @@ fn stay(t: Trace, status: Status) -> Turned
 }
 
 fn end(t: Trace, line: &mut [u8]) -> Turned
-    requires { ⌜ 256 ≤ length (now line) ⌝ }
+    requires { ⌜ 700 ≤ length (now line) ⌝ }
     ensures { λ r. ⌜ turned r (now (line .exit)) ≡ endsWith t (now (line .entry)) true ⌝ }
 {
     let h = t.head;
     let w = h.window;
-    let length = lines::end_line(line, 0, t.count, w.lrsn, w.seqno0, w.held);
+    let tally = t.tally;
+    let behind = lines::end_line(line, 0, t.count, w.lrsn, w.seqno0, w.held);
+    let length = tally::line(line, behind, tally);
     Turned {
         trace: t,
         size: 0,
@@ -323,7 +346,7 @@ fn end(t: Trace, line: &mut [u8]) -> Turned
 }
 
 fn bad(t: Trace, line: &mut [u8]) -> Turned
-    requires { ⌜ 256 ≤ length (now line) ⌝ }
+    requires { ⌜ 700 ≤ length (now line) ⌝ }
     ensures { λ r. ⌜ turned r (now (line .exit)) ≡ endsWith t (now (line .entry)) false ⌝ }
 {
     let length = lines::bad_line(line, 0, t.offset);
@@ -337,7 +360,7 @@ fn bad(t: Trace, line: &mut [u8]) -> Turned
 
 // No record is at hand: more may come, or it is the end, or it is bad.
 fn close(t: Trace, line: &mut [u8], more: bool, empty: bool) -> Turned
-    requires { ⌜ 256 ≤ length (now line) ⌝ }
+    requires { ⌜ 700 ≤ length (now line) ⌝ }
     ensures { λ r. ⌜ turned r (now (line .exit)) ≡ endsBy t (now (line .entry)) more empty ⌝ }
 {
     if more {
@@ -426,7 +449,7 @@ fn turn(
 }
 
 // One turn, on the bytes from `at` on; `last` says that the file ends with them. Lent are the slots, payloads, history, output and loss
-// words of `step::step`, and a line of 256 bytes and 21 a loss word, at whose start the turn's line is written.
+// words of `step::step`, and a line of 700 bytes and 21 a loss word, at whose start the turn's line is written.
 pub fn next(
     t: Trace,
     words: &mut [u64],

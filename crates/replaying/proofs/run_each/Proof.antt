@@ -4,10 +4,10 @@ use Rattle.replaying.proofs.run_each.Statement.{statement}
 use Rattle.replaying.proofs.run_each.Tie as tie
 
 abbrev Inv-loop : tie.InvT-loop
-Inv-loop n i₀ i = Unit {0}
+Inv-loop n counting₀ i₀ counting i = Unit {0}
 
 abbrev μ-loop : tie.MeasureT-loop
-μ-loop n i₀ i = n - i
+μ-loop n counting₀ i₀ counting i = n - i
 
 pub run-each-spec : {M : Type 1} → statement M
 run-each-spec =
@@ -15,7 +15,6 @@ run-each-spec =
     (tie.spec Inv-loop μ-loop
     (λ c κs. search needs)
     (λ c. search needs)
-    (λ c κs. search needs)
     (λ c κs. search needs)
     (λ c. search needs)
     (λ c. search needs)

@@ -7,5 +7,6 @@ end-spec =
     tie.close
     (tie.spec
     (λ c κs. search runs)
+    (λ c κs. search runs)
     (λ c. search runs)
     (λ c. search runs))

@@ -8,6 +8,7 @@ run-spec =
     (tie.spec
     (λ c κs. search runs)
     (λ c κs. search runs)
+    (λ c κs. search runs)
     (λ c. search runs)
     (λ c. search runs)
     (λ c. search runs)

@@ -1,0 +1,3 @@
+-- The laws of tally: `Laws` is for the code of this crate.
+pub mod Laws
+pub mod Examples

@@ -1,0 +1,2 @@
+-- The counters of a replay and their line.
+pub mod Tally
