@@ -89,6 +89,8 @@ static void tell(int record, uint32_t refusal) {
     for (int i = 0; answer[0] == PT_WORD_REPORT && i < answer[1]; i++)
         printf(" %" PRIu32, words[i]);
     putchar('\n');
+    if (answer[0] == PT_WORD_UNSTEADY)
+        printf("  variance %.3f\n", pt_variance(answer));
     if (answer[0] == PT_WORD_MESSAGE) {
         printf("  ");
         for (int i = 0; i < answer[2]; i++)

@@ -178,7 +178,10 @@ fn step(
             .map(|answer| match answer {
                 ClockAnswer::Nothing => String::new(),
                 ClockAnswer::Adjusted { mean, deviation } => format!("adjusted {mean} {deviation}"),
-                ClockAnswer::Unsteady { deviation, .. } => format!("unsteady {deviation}"),
+                ClockAnswer::Unsteady {
+                    deviation,
+                    variance,
+                } => format!("unsteady {deviation}\n  variance {variance:.3}"),
             }),
         8 => receiver.clear().map(|()| "clear".into()),
         _ => return None,

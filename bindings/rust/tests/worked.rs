@@ -127,6 +127,25 @@ fn a_message_across_the_wrap() {
     assert_eq!(&output, b"one two three...");
 }
 
+/// The largest window, full, from below the wrap: each message comes out of its own place.
+#[test]
+fn the_largest_window() {
+    let first = (1 << 31) - 4_000;
+    let mut r = receiver(0, false, first, 8192);
+    let number = |i: u32| (first + i) % (1 << 31);
+    for i in 0..8192 {
+        assert!(r.handle_data_packet(0, whole(number(i), 0, &i.to_be_bytes())).is_ok());
+    }
+    assert_eq!(r.handle_data_packet(0, whole(number(8192), 0, b"")), Err(Refusal::BufferFull));
+    assert_eq!(r.show(number(8191)), Ok(Some(&8191u32.to_be_bytes()[..])));
+    let mut output = [0; 4];
+    for i in 0..8192u32 {
+        let message = MessageAnswer::Message { time: 0, payload: &i.to_be_bytes(), packets: 1 };
+        assert_eq!(r.pop_next_message(0, &mut output), Ok(message));
+    }
+    assert_eq!(r.room(), Ok(8192));
+}
+
 /// A drop request gives up what is lost only, and what it gave up is a repeat when it comes.
 #[test]
 fn a_drop_request_over_the_wrap() {
