@@ -20,11 +20,7 @@ impl<'a> Reader<'a> {
 
     /// The next number of so many bytes, big-endian.
     fn number(&mut self, n: usize) -> Option<u64> {
-        Some(
-            self.take(n)?
-                .iter()
-                .fold(0, |value, &byte| value << 8 | u64::from(byte)),
-        )
+        Some(self.take(n)?.iter().fold(0, |value, &byte| value << 8 | u64::from(byte)))
     }
 
     fn time(&mut self) -> Option<i64> {
@@ -47,32 +43,15 @@ impl<'a> Reader<'a> {
             _ => return None,
         };
         let (first, capacity) = (self.u32()?, self.number(2)? as usize);
-        Receiver::new(Settings {
-            start,
-            latency,
-            late_drop,
-            first,
-            capacity,
-        })
-        .ok()
+        Receiver::new(Settings { start, latency, late_drop, first, capacity }).ok()
     }
 
     fn packet(&mut self) -> Option<DataPacket<'a>> {
         let (number, message) = (self.u32()?, self.u32()?);
         let (location, stamp) = (self.number(1)? as u32, self.u32()?);
         let length = self.number(2)? as usize;
-        let payload = if length > raw::PAYLOAD_BYTES {
-            None
-        } else {
-            self.take(length)
-        }?;
-        Some(DataPacket {
-            number,
-            message,
-            location,
-            stamp,
-            payload,
-        })
+        let payload = if length > raw::PAYLOAD_BYTES { None } else { self.take(length) }?;
+        Some(DataPacket { number, message, location, stamp, payload })
     }
 }
 
@@ -82,107 +61,51 @@ fn rate(rate: Option<u32>) -> String {
 }
 
 /// One record: the call, and what came of it as a line; empty for `got` and `none`. None for a bad record.
-fn step(
-    file: &mut Reader,
-    receiver: &mut Receiver,
-    output: &mut [u8],
-    words: &mut [u32],
-) -> Option<Result<String, Refusal>> {
+fn step(file: &mut Reader, receiver: &mut Receiver, output: &mut [u8], words: &mut [u32]) -> Option<Result<String, Refusal>> {
     Some(match file.number(1)? {
         1 => {
             let (now, packet) = (file.time()?, file.packet()?);
             match receiver.handle_data_packet(now, packet) {
                 Ok(DataPacketAction::Received { .. }) => Ok(String::new()),
-                Ok(DataPacketAction::ReceivedWithLightAck { lrsn, recovered }) => {
-                    Ok(format!("light {lrsn} {}", recovered as u8))
-                }
-                Ok(DataPacketAction::ReceivedWithLoss { first, last }) => {
-                    Ok(format!("loss {first} {last}"))
-                }
+                Ok(DataPacketAction::ReceivedWithLightAck { lrsn, recovered }) => Ok(format!("light {lrsn} {}", recovered as u8)),
+                Ok(DataPacketAction::ReceivedWithLoss { first, last }) => Ok(format!("loss {first} {last}")),
                 // A repeat: are the bytes that came the ones that are held?
                 Err(Refusal::DiscardedDuplicate) => Ok(match receiver.show(packet.number) {
-                    Ok(Some(held)) if held == packet.payload => {
-                        "refused 10\n  the same bytes are held".into()
-                    }
+                    Ok(Some(held)) if held == packet.payload => "refused 10\n  the same bytes are held".into(),
                     Ok(Some(_)) => "refused 10\n  other bytes are held".into(),
                     _ => "refused 10\n  it was given up".into(),
                 }),
                 Err(refusal) => Err(refusal),
             }
         }
-        2 => receiver
-            .pop_next_message(file.time()?, output)
-            .map(|popped| match popped {
-                MessageAnswer::Nothing => String::new(),
-                MessageAnswer::Message {
-                    time,
-                    payload,
-                    packets,
-                } => {
-                    let text: String = payload
-                        .iter()
-                        .map(|&b| {
-                            if (b' '..=b'~').contains(&b) {
-                                b as char
-                            } else {
-                                '.'
-                            }
-                        })
-                        .collect();
-                    format!("message {time} {} {packets}\n  {text}", payload.len())
-                }
-                MessageAnswer::Late { first, end, delay } => format!("late {first} {end} {delay}"),
-            }),
-        3 => receiver
-            .on_nak_event(file.time()?, words)
-            .map(|report| match report {
-                Some(words) => words
-                    .iter()
-                    .fold("report".into(), |line, word| format!("{line} {word}")),
-                None => String::new(),
-            }),
-        4 => receiver
-            .on_full_ack_event(file.time()?)
-            .map(|ack| match ack {
-                Some(FullAck {
-                    number,
-                    lrsn,
-                    rtt: Rtt { mean, variance },
-                    room,
-                    packets,
-                    bytes,
-                    link,
-                }) => {
-                    format!(
-                        "ack {number} {lrsn} {mean} {variance} {room} {} {} {}",
-                        rate(packets),
-                        rate(bytes),
-                        rate(link)
-                    )
-                }
-                None => String::new(),
-            }),
+        2 => receiver.pop_next_message(file.time()?, output).map(|popped| match popped {
+            MessageAnswer::Nothing => String::new(),
+            MessageAnswer::Message { time, payload, packets } => {
+                let text: String = payload.iter().map(|&b| if (b' '..=b'~').contains(&b) { b as char } else { '.' }).collect();
+                format!("message {time} {} {packets}\n  {text}", payload.len())
+            }
+            MessageAnswer::Late { first, end, delay } => format!("late {first} {end} {delay}"),
+        }),
+        3 => receiver.on_nak_event(file.time()?, words).map(|report| match report {
+            Some(words) => words.iter().fold("report".into(), |line, word| format!("{line} {word}")),
+            None => String::new(),
+        }),
+        4 => receiver.on_full_ack_event(file.time()?).map(|ack| match ack {
+            Some(FullAck { number, lrsn, rtt: Rtt { mean, variance }, room, packets, bytes, link }) => {
+                format!("ack {number} {lrsn} {mean} {variance} {room} {} {} {}", rate(packets), rate(bytes), rate(link))
+            }
+            None => String::new(),
+        }),
         5 => {
             let rtt = receiver.handle_ack2_packet(file.time()?, file.u32()?);
-            rtt.map(|rtt| {
-                rtt.map_or(String::new(), |Rtt { mean, variance }| {
-                    format!("rtt {mean} {variance}")
-                })
-            })
+            rtt.map(|rtt| rtt.map_or(String::new(), |Rtt { mean, variance }| format!("rtt {mean} {variance}")))
         }
-        6 => receiver
-            .handle_drop_request(file.u32()?, file.u32()?)
-            .map(|count| format!("gone {count}")),
-        7 => receiver
-            .synchronize_clock(file.time()?, file.u32()?)
-            .map(|answer| match answer {
-                ClockAnswer::Nothing => String::new(),
-                ClockAnswer::Adjusted { mean, deviation } => format!("adjusted {mean} {deviation}"),
-                ClockAnswer::Unsteady {
-                    deviation,
-                    variance,
-                } => format!("unsteady {deviation}\n  variance {variance:.3}"),
-            }),
+        6 => receiver.handle_drop_request(file.u32()?, file.u32()?).map(|count| format!("gone {count}")),
+        7 => receiver.synchronize_clock(file.time()?, file.u32()?).map(|answer| match answer {
+            ClockAnswer::Nothing => String::new(),
+            ClockAnswer::Adjusted { mean, deviation } => format!("adjusted {mean} {deviation}"),
+            ClockAnswer::Unsteady { deviation, variance } => format!("unsteady {deviation}\n  variance {variance:.3}"),
+        }),
         8 => receiver.clear().map(|()| "clear".into()),
         _ => return None,
     })
@@ -199,9 +122,7 @@ fn main() {
         process::exit(2)
     };
     let mut file = Reader(&bytes);
-    let Some(mut receiver) = file.receiver() else {
-        bad(0)
-    };
+    let Some(mut receiver) = file.receiver() else { bad(0) };
     // Enough for any message, and any loss report, of the largest window.
     let mut output = vec![0; raw::CAPACITY_MAX * raw::PAYLOAD_BYTES];
     let mut words = vec![0; raw::CAPACITY_MAX];
@@ -219,10 +140,7 @@ fn main() {
         }
         record += 1;
     }
-    println!(
-        "room {}",
-        receiver.room().expect("only a damaged head is refused")
-    );
+    println!("room {}", receiver.room().expect("only a damaged head is refused"));
     for (name, count) in receiver.counters().named() {
         println!("{name} {count}");
     }
