@@ -9,12 +9,13 @@
 #include <string.h>
 #include "pursethistle.h"
 
-/* All the memory of one receiver, made for the largest window. A smaller one may have shorter areas. */
-#define SLOTS PT_SLOTS_LEN(PT_CAPACITY_MAX)
-#define PAYLOADS PT_PAYLOADS_LEN(PT_CAPACITY_MAX)
+/* All the memory of one receiver. A recording has at most 32 slots; the library takes up to PT_CAPACITY_MAX. */
+#define CAPACITY 32
+#define SLOTS PT_SLOTS_LEN(CAPACITY)
+#define PAYLOADS PT_PAYLOADS_LEN(CAPACITY)
 static uint64_t head[PT_HEAD_WORDS], counters[PT_COUNTERS], slots[SLOTS], history[PT_HISTORY_WORDS];
 static uint8_t payloads[PAYLOADS], output[PAYLOADS], payload[PT_PAYLOAD_BYTES];
-static uint32_t words[PT_CAPACITY_MAX];
+static uint32_t words[CAPACITY];
 static int64_t answer[PT_ANSWER_CELLS];
 
 /* The recording. */
@@ -42,7 +43,7 @@ static uint32_t call(int kind, const uint64_t f[6]) {
     case 2:
         return pt_pop_next_message(head, answer, slots, SLOTS, payloads, PAYLOADS, output, PAYLOADS, now);
     case 3:
-        return pt_on_nak_event(head, answer, slots, SLOTS, words, PT_CAPACITY_MAX, now);
+        return pt_on_nak_event(head, answer, slots, SLOTS, words, CAPACITY, now);
     case 4:
         return pt_on_full_ack_event(head, answer, history, PT_HISTORY_WORDS, now);
     case 5:
@@ -115,7 +116,8 @@ int main(int argc, char **argv) {
     uint64_t late_drop = number(1);
     uint32_t first = (uint32_t)number(4);
     size_t capacity = number(2);
-    if (cut || mark != 0x444c540001 || late_drop > 1 || pt_new(head, answer, start, latency, late_drop, first, capacity) != 0) {
+    if (cut || mark != 0x444c540001 || late_drop > 1 || capacity > CAPACITY ||
+        pt_new(head, answer, start, latency, late_drop, first, capacity) != 0) {
         puts("bad 0");
         return 1;
     }

@@ -7,6 +7,9 @@
 use pursethistle::*;
 use std::{env, fs, process};
 
+/// A recording has at most 32 slots; the library takes up to `raw::CAPACITY_MAX`.
+const CAPACITY: usize = 32;
+
 /// What is left of the recording.
 struct Reader<'a>(&'a [u8]);
 
@@ -33,9 +36,7 @@ impl<'a> Reader<'a> {
 
     /// The receiver that the header asks for; none for a bad header or a refused setting.
     fn receiver(&mut self) -> Option<Receiver> {
-        if self.take(5)? != b"DLT\x00\x01" {
-            return None;
-        }
+        let mark = self.take(5)?;
         let (start, latency) = (self.time()?, self.u32()?);
         let late_drop = match self.number(1)? {
             0 => false,
@@ -43,6 +44,9 @@ impl<'a> Reader<'a> {
             _ => return None,
         };
         let (first, capacity) = (self.u32()?, self.number(2)? as usize);
+        if mark != b"DLT\x00\x01" || capacity > CAPACITY {
+            return None;
+        }
         Receiver::new(Settings { start, latency, late_drop, first, capacity }).ok()
     }
 
@@ -123,9 +127,8 @@ fn main() {
     };
     let mut file = Reader(&bytes);
     let Some(mut receiver) = file.receiver() else { bad(0) };
-    // Enough for any message, and any loss report, of the largest window.
-    let mut output = vec![0; raw::CAPACITY_MAX * raw::PAYLOAD_BYTES];
-    let mut words = vec![0; raw::CAPACITY_MAX];
+    // Enough for any message and any loss report.
+    let (mut output, mut words) = ([0; CAPACITY * raw::PAYLOAD_BYTES], [0; CAPACITY]);
     let mut record = 1;
     while !file.0.is_empty() {
         let at = bytes.len() - file.0.len();
@@ -133,9 +136,7 @@ fn main() {
             None => bad(at),
             Some(Ok(line)) if line.is_empty() => (),
             Some(Ok(line)) => println!("{record} {line}"),
-            Some(Err(Refusal::PacketTooEarly { room, need })) => {
-                println!("{record} refused 8 {room} {need}")
-            }
+            Some(Err(Refusal::PacketTooEarly { room, need })) => println!("{record} refused 8 {room} {need}"),
             Some(Err(refusal)) => println!("{record} refused {}", refusal.number()),
         }
         record += 1;

@@ -4,8 +4,8 @@ use std::fmt;
 
 /// Why a call was refused, in the rules' order of test: the first that holds is given.
 ///
-/// `HeadBad`, `AreaShort` and `DriftRange` are here because the library has them. The head and the areas of a
-/// [`Receiver`](crate::Receiver) are its own, so it never meets the first two, and the third not within 2^30 adjustments.
+/// A [`Receiver`](crate::Receiver) never meets 1 and 2, since its head and its areas are its own. It meets 13 only after 2^32 full ACKs,
+/// and 14 only after 2^29 adjustments of its clock.
 #[non_exhaustive]
 #[derive(Debug, Clone, Copy, PartialEq, Eq, Hash)]
 pub enum Refusal {

@@ -1,5 +1,5 @@
 //! Every refusal that a `Receiver` can meet, on both sides of its edge, and that it changes nothing. 1, 2, 13 and 14 are in raw.rs: its own head
-//! and areas are never damaged or short, 13 comes after 2^32 ACKs, 14 after 2^30 adjustments.
+//! and areas are never damaged or short, 13 comes after 2^32 ACKs, 14 after 2^29 adjustments.
 use pursethistle::*;
 
 const SETTINGS: Settings = Settings { start: 10, latency: 0, late_drop: true, first: 0, capacity: 4 };
