@@ -1,8 +1,9 @@
 #!/usr/bin/env python3
 """Writes data/*.dlt, args and stdout of case_replay, and data/worked.dlt of replay, beside it.
 
-A trace is written as in docs/DECISIONS.md, "Notation". The lines were worked out by hand from docs/01-scope.md, "Trace, mark DLT", and stand here
-beside the records; none is copied from a run.
+A trace is written as in docs/DECISIONS.md, "Notation". The lines and the counters were worked out by hand from docs/01-scope.md, "Trace, mark DLT" and
+"Counters follow 003", and stand here beside the records; none is copied from a run. The two passes that the program pursethistle does not replay in
+the gate come last, with the lines of their .txt files.
 """
 import os
 import struct
@@ -87,18 +88,33 @@ def forms():
     return s
 
 
-def case(name, head, steps, last, tail=b""):
-    lines = [f"{i + 1} {line}" for i, (_, line) in enumerate(steps)] + [last]
+NAMES = "data bytes unique_data unique_bytes retransmit_data dropped_data dropped_bytes ack2 ack2_errors clock_adjustments".split()
+
+
+def counters(*counts):
+    return "counters " + " ".join(f"rx_{name}={count}" for name, count in zip(NAMES, counts, strict=True))
+
+
+def case(name, head, steps, last, counted=None, tail=b""):
+    """A bad file has no counters."""
+    lines = [f"{i + 1} {line}" for i, (_, line) in enumerate(steps)] + [last] + ([counters(*counted)] if counted else [])
     return name, head + b"".join(r for r, _ in steps) + tail, lines
+
+
+def recorded(name, counted):
+    there = f"{HERE}/../../passes/{name}"
+    with open(there + ".dlt", "rb") as file, open(there + ".txt") as lines:
+        return name, file.read(), lines.read().splitlines() + [counters(*counted)]
 
 
 H = header(0, 0, 0, 5, 4)
 FORMS = forms()
 CASES = [
-    case("worked", WORKED, WORKED_STEPS, "end 5 1 2147483647 2"),
-    case("forms", header(0, 0, 1, 0, 32), FORMS, f"end {len(FORMS)} 117 117 0"),
-    case("before_zero", header(0, 0, 1, 0, 4), [(data(0, 0, 0, 3, 2 ** 32 - 1, 0), "got 1 0"), (pop(0), "message -1 0 1")], "end 2 1 1 0"),
-    case("header_alone", H, [], "end 0 5 5 0"),
+    case("worked", WORKED, WORKED_STEPS, "end 5 1 2147483647 2", (4, 104, 2, 52, 1, 0, 0, 0, 0, 0)),
+    # unique: 26, 20, 81 of 26 and 32 of 1,472 bytes; one recovered; dropped: one given up, and 9, 8 and 7 of 20 bytes; 10 counts as data alone
+    case("forms", header(0, 0, 1, 0, 32), FORMS, f"end {len(FORMS)} 117 117 0", (120, 49356, 115, 49256, 1, 4, 60, 2, 1, 1)),
+    case("before_zero", header(0, 0, 1, 0, 4), [(data(0, 0, 0, 3, 2 ** 32 - 1, 0), "got 1 0"), (pop(0), "message -1 0 1")], "end 2 1 1 0", (1, 16, 1, 16, 0, 0, 0, 0, 0, 0)),
+    case("header_alone", H, [], "end 0 5 5 0", (0,) * 10),
     case("empty", b"", [], "bad 0"),
     case("header_cut", H[:23], [], "bad 0"),
     case("wrong_mark", header(0, 0, 0, 5, 4, mark=b"DLX"), [], "bad 0"),
@@ -109,12 +125,14 @@ CASES = [
     case("first_over", header(0, 0, 0, 2 ** 31, 4), [], "bad 0"),
     case("capacity_0", header(0, 0, 0, 5, 0), [], "bad 0"),
     case("capacity_33", header(0, 0, 0, 5, 33), [], "bad 0"),
-    case("record_cut", H, [(pop(0), "none")], "bad 33", b"\x02"),
-    case("payload_cut", H, [], "bad 24", data(0, 5, 0, 3, 0, 10, 9)),
-    case("kind_0", H, [], "bad 24", b"\x00"),
-    case("kind_9", H, [(CLEAR, "clear")], "bad 25", b"\x09"),
-    case("length_1457", H, [], "bad 24", data(0, 5, 0, 3, 0, 1457)),
-    case("length_1457_cut", H, [], "bad 24", data(2 ** 60, 5, 0, 3, 0, 1457, 0)),
+    case("record_cut", H, [(pop(0), "none")], "bad 33", tail=b"\x02"),
+    case("payload_cut", H, [], "bad 24", tail=data(0, 5, 0, 3, 0, 10, 9)),
+    case("kind_0", H, [], "bad 24", tail=b"\x00"),
+    case("kind_9", H, [(CLEAR, "clear")], "bad 25", tail=b"\x09"),
+    case("length_1457", H, [], "bad 24", tail=data(0, 5, 0, 3, 0, 1457)),
+    case("length_1457_cut", H, [], "bad 24", tail=data(2 ** 60, 5, 0, 3, 0, 1457, 0)),
+    recorded("recovered", (6, 144, 4, 96, 2, 0, 0, 0, 0, 0)),   # a frame has 8 bytes, so it counts 24
+    recorded("twice", (9, 216, 3, 72, 0, 3, 72, 0, 0, 0)),
 ]
 
 
@@ -127,7 +145,7 @@ def main():
             f.write(content)
         out += [f"{name}.dlt"] + lines
     with open(f"{HERE}/args", "w") as f:
-        f.write("".join(f"{name}.dlt\n" for name, _, _ in CASES))
+        f.write("--counters\n" + "".join(f"{name}.dlt\n" for name, _, _ in CASES))
     with open(f"{HERE}/stdout", "w") as f:
         f.write("\n".join(out) + "\n")
     name, content, lines = CASES[0]
@@ -136,7 +154,7 @@ def main():
     with open(f"{HERE}/../replay/args", "w") as f:
         f.write(f"{name}.dlt\n")
     with open(f"{HERE}/../replay/stdout", "w") as f:
-        f.write("\n".join(lines) + "\n")
+        f.write("\n".join(lines[:-1]) + "\n")
 
 
 if __name__ == "__main__":

@@ -21,20 +21,15 @@ def answers():
 
 
 def main(words):
-    counted = {}
+    options = ["--counters"]
     if words[:1] == ["--lines"]:
-        words = words[1:]
-        options = []
-    else:
-        options = ["--counters"]
-        for line in (HERE / "counters.txt").read_text().splitlines():
-            name, _, counters = line.partition(" ")
-            counted[name + ".dlt"] = [counters]
+        words, options = words[1:], []
     if not words:
         sys.exit(__doc__)
     wanted, differed = answers(), 0
     for file, lines in wanted:
-        lines = lines + counted.get(file, [])
+        if not options:
+            lines = [line for line in lines if not line.startswith("counters ")]
         ran = subprocess.run(words + options + [str(CASE / "data" / file)], capture_output=True, text=True)
         given = ran.stdout.splitlines()
         if given != lines:

@@ -1,6 +1,6 @@
 #!/usr/bin/env python3
 """take.py DIRECTORY: puts what `oracle sample DIRECTORY N SEED` wrote there (traces.bin, lines.txt) where the gate has it: crates/case_sample (a file
-a trace, their names in args, the names and lines in stdout) and counters.txt beside this."""
+a trace, their names in args, the names and lines in stdout, the counters' lines too)."""
 import pathlib
 import sys
 
@@ -28,16 +28,14 @@ def main(directory):
     assert len(given) == len(wanted)
     for old in (CASE / "data").glob("*.dlt"):
         old.unlink()
-    names, out, counters = [], [], []
+    names, out = ["--counters"], []
     for trace, (name, lines) in zip(given, wanted):
         file = name + ".dlt"
         (CASE / "data" / file).write_bytes(trace)
         names.append(file)
-        out += [file] + [line for line in lines if not line.startswith("counters ")]
-        counters += [f"{name} {line}" for line in lines if line.startswith("counters ")]
+        out += [file] + lines
     (CASE / "args").write_text("\n".join(names) + "\n")
     (CASE / "stdout").write_text("\n".join(out) + "\n")
-    (HERE / "counters.txt").write_text("\n".join(counters) + "\n")
 
 
 if __name__ == "__main__":
