@@ -5,7 +5,7 @@
 #     python3 docs/gate.py               # the line counts alone; no log is needed
 #     python3 docs/gate.py --into log    # the same, put into docs/GATE.md between its two marks (the log may be left out here too)
 #
-# Run it from the root of the repository. It fails, and says so, if a crate or a wrong program has no seconds in the log, or the log tells of a failure.
+# Run it from the root of the repository. If a crate or a wrong program has no seconds in the log, or the log tells of a failure, it says so, fails and leaves the page.
 import glob
 import re
 import sys
@@ -147,16 +147,17 @@ def main(words):
     crates = [Crate(name) for name in crates_listed()]
     log = Log(words[0], crates) if words else None
     text = summary(crates, log) + "\n" + table(crates, log) + "\n" + edit_table(crates)
-    if into:
+    good = not log or not log.wrong
+    if into and good:
         page = open(PAGE).read()
         before, begin, rest = page.partition(BEGIN)
         _, end, after = rest.partition(END)
         if not begin or not end:
             sys.exit(f"{PAGE} has not the two marks")
         open(PAGE, "w").write(before + begin + "\n" + text + "\n" + end + after)
-    else:
+    elif not into:
         print(text, end="")
-    if log and log.wrong:
+    if not good:
         sys.exit("\n".join(log.wrong))
 
 
