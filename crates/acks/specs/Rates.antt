@@ -127,6 +127,11 @@ unfoldable pub allUnder : ℕ → List ℕ → Bool
 allUnder b [] = true
 allUnder b (x ∷ l) = ltb x b && allUnder b l
 
+-- each of the first n places under a bound, in the window or not: a quick test that suffices
+unfoldable pub firstUnder : ℕ → List ℕ → ℕ → Bool
+firstUnder b l zero = true
+firstUnder b l (suc n) = ltb (getD l n 0) b && firstUnder b l n
+
 abbrev pub timeOk : Moment → Bool
 timeOk Unset = true
 timeOk (At t) = isReading t
