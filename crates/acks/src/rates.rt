@@ -112,8 +112,8 @@ fn link_rate(median: u32) -> u32
 }
 
 // Whether all sixteen values are under a bound. No place is reckoned, so that a few vector instructions do it.
-fn every(values: [u32; 16], bound: u32) -> bool
-    ensures { λ r. ⌜ r ≡ firstUnder bound values 16 ⌝ }
+fn every(values: &[u32; 16], bound: u32) -> bool
+    ensures { λ r. ⌜ r ≡ firstUnder bound (now (values .entry)) 16 ⌝ }
 {
     let mut ok = true;
     let mut i = 0;
@@ -125,9 +125,9 @@ fn every(values: [u32; 16], bound: u32) -> bool
 }
 
 // Whether every value of a window is under a bound, place by place.
-fn window_under(values: [u32; 16], at: usize, count: usize, bound: u32) -> bool
+fn window_under(values: &[u32; 16], at: usize, count: usize, bound: u32) -> bool
     requires { ⌜ (at < 16) × (count ≤ 16) ⌝ }
-    ensures { λ r. ⌜ r ≡ allUnder bound (windowOf values at count) ⌝ }
+    ensures { λ r. ⌜ r ≡ allUnder bound (windowOf (now (values .entry)) at count) ⌝ }
 {
     let mut ok = true;
     let mut n = 0;
@@ -143,10 +143,10 @@ fn all_under(values: [u32; 16], at: usize, count: usize, bound: u32) -> bool
     requires { ⌜ (at < 16) × (count ≤ 16) ⌝ }
     ensures { λ r. ⌜ r ≡ allUnder bound (windowOf values at count) ⌝ }
 {
-    if every(values, bound) {
+    if every(&values, bound) {
         return true;
     }
-    window_under(values, at, count, bound)
+    window_under(&values, at, count, bound)
 }
 
 fn time_ok(time: Moment) -> bool

@@ -6,10 +6,10 @@ use Rattle.acks.proofs.rates.every.Statement.{statement}
 use Rattle.acks.proofs.rates.every.Tie as tie
 
 abbrev Inv-loop : tie.InvT-loop
-Inv-loop bound values ok₀ i₀ ok i = (i ≤ 16) × (ok ≡ firstUnder bound values i)
+Inv-loop values bound ok₀ i₀ ok i = (i ≤ 16) × (ok ≡ firstUnder bound values i)
 
 abbrev μ-loop : tie.MeasureT-loop
-μ-loop bound values ok₀ i₀ ok i = 16 - i
+μ-loop values bound ok₀ i₀ ok i = 16 - i
 
 pub every-spec : {M : Type 1} → statement M
 every-spec =

@@ -6,10 +6,10 @@ use Rattle.acks.proofs.rates.window_under.Statement.{statement}
 use Rattle.acks.proofs.rates.window_under.Tie as tie
 
 abbrev Inv-loop : tie.InvT-loop
-Inv-loop at count bound values ok₀ n₀ ok n = (n ≤ count) × (ok ≡ allUnder bound (windowOf values at n))
+Inv-loop values at count bound ok₀ n₀ ok n = (n ≤ count) × (ok ≡ allUnder bound (windowOf values at n))
 
 abbrev μ-loop : tie.MeasureT-loop
-μ-loop at count bound values ok₀ n₀ ok n = count - n
+μ-loop values at count bound ok₀ n₀ ok n = count - n
 
 pub window-under-spec : {M : Type 1} → statement M
 window-under-spec =
