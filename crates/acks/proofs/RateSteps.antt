@@ -22,13 +22,13 @@ use Rattle.numbers.proofs.Flags.{by-test, by-order}
 use Rattle.numbers.proofs.Halves.{above, below, same, size, not-negative, above--, below--, lt-false}
 use Rattle.numbers.proofs.Signs.{clamp-in, clamp-high}
 use Rattle.acks.specs.Median.{medianOf}
-use Rattle.acks.specs.Rates.{sinceTime, nextPlace, oneMore, freshArrivals, freshLinks, arrivedFirst, arrivalOf, keeps, takeIn, keptOf, rateOf, speedKept, speedOf, withProbe, pairOf, linkOf, linkRate, capacityOf, placeBefore, windowOf, arrivalGaps, arrivalSizes, linkGaps, allUnder, timeOk, arrivalsOk, linksOk}
+use Rattle.acks.specs.Rates.{sinceTime, nextPlace, oneMore, freshArrivals, freshLinks, arrivedFirst, arrivalOf, keeps, takeIn, keptOf, rateOf, speedKept, speedOf, withProbe, pairOf, linkOf, linkRate, capacityOf, placeBefore, windowOf, arrivalGaps, arrivalSizes, linkGaps, firstUnder, allUnder, timeOk, arrivalsOk, linksOk}
 use Rattle.acks.specs.declared.rates.Arrivals.{Arrivals}
 use Rattle.acks.specs.declared.rates.Links.{Links}
 use Rattle.acks.specs.declared.rates.Kept.{Kept}
 use Rattle.acks.specs.declared.rates.Speed.the-variants as speeds
 use Rattle.acks.specs.declared.rates.Link.the-variants as links
-use Rattle.acks.proofs.Windows.{under-place, arrival-ranges, kept-count, kept-sum, kept-bytes}
+use Rattle.acks.proofs.Windows.{under-place, under-sixteen, arrival-ranges, kept-count, kept-sum, kept-bytes}
 
 -- since
 clamp-above : (z : ℤ) → below z ≡ 0 → (below (clamp z) ≡ 0) × (natAbs (clamp z) < 2 ^ 31)
@@ -161,7 +161,23 @@ pub link-some : (m : ℕ) → (m ≡ 0 → ⊥) → 1000000 / m ≡ linkRate m
 unfolding linkRate
 link-some m e = rw (ne-eqb _ _ e)
 
--- the loop of all_under: its start, a turn, its end
+-- the loop of every: its start, a turn, its end
+pub every-start : (b : ℕ) (l : List ℕ) → true ≡ firstUnder b l 0
+unfolding firstUnder
+every-start b l = refl
+
+pub every-again : (b : ℕ) (l : List ℕ) (n : ℕ) {ok : Bool} → ok ≡ firstUnder b l n → (ltb (getD l n 0) b && ok) ≡ firstUnder b l (n + 1)
+unfolding firstUnder
+every-again b l n e = rw (add-one n, e)
+
+pub every-done : (b : ℕ) (l : List ℕ) (n : ℕ) {ok : Bool} → ok ≡ firstUnder b l n → n ≤ 16 → 16 ≤ n → ok ≡ firstUnder b l 16
+every-done b l n e h k = let z : n ≡ 16 = omega arith in rw z at e
+
+-- all_under
+pub under-all : (b : ℕ) (l : List ℕ) (at count : ℕ) {ok : Bool} → ok ≡ firstUnder b l 16 → ok ≡ true → true ≡ allUnder b (windowOf l at count)
+under-all b l at count e t = sym (under-sixteen b l at count (sym e ∙ t))
+
+-- the loop of window_under: its start, a turn, its end
 pub under-start : (b : ℕ) (l : List ℕ) (at : ℕ) → true ≡ allUnder b (windowOf l at 0)
 unfolding allUnder windowOf
 under-start b l at = refl
@@ -285,6 +301,10 @@ pub ruleset rateSteps = (
   rate-is,
   link-none,
   link-some,
+  every-start,
+  every-again,
+  every-done,
+  under-all,
   under-start,
   under-again,
   under-done,

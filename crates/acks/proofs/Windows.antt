@@ -1,5 +1,5 @@
 -- The windows of intervals: as lists, oldest first, in which an interval enters at the end; their ranges; what is kept of one. Assumes nothing.
-use mathlib.Core.Path.{_≡_}
+use mathlib.Core.Path.{_≡_, refl}
 use mathlib.Core.Bool.{true, _&&_}
 use mathlib.Core.List.{List, [], _∷_, _++_}
 use Prim.Native.Nat.{ℕ, zero, suc, _+_, _-_, _*_, _/_, _%_, _^_, _<_, _≤_}
@@ -9,7 +9,7 @@ use lib.Dec.{ltb, leb}
 use lib.ListN.{length, getD, set, drop, List·getD-eq-default}
 use lib.Seq.{getD-set-same, getD-set-other, set-out}
 use Rattle.numbers.proofs.Flags.{and-left, and-right, by-test, by-order}
-use Rattle.acks.specs.Rates.{nextPlace, oneMore, placeBefore, windowOf, arrivalGaps, arrivalSizes, linkGaps, keeps, takeIn, keptOf, allUnder, timeOk, arrivalsOk, linksOk}
+use Rattle.acks.specs.Rates.{nextPlace, oneMore, placeBefore, windowOf, arrivalGaps, arrivalSizes, linkGaps, keeps, takeIn, keptOf, firstUnder, allUnder, timeOk, arrivalsOk, linksOk}
 use Rattle.acks.specs.declared.rates.Arrivals.{Arrivals}
 use Rattle.acks.specs.declared.rates.Links.{Links}
 use Rattle.acks.specs.declared.rates.Kept.{Kept}
@@ -87,6 +87,20 @@ under-place b l at i h k e =
     let n = (at + 15 - i) % 16 in
     let p : placeBefore at (n + 1) ≡ i = omega arith in
     rw p at (under-before b l at 16 n e (omega arith))
+
+-- a window has no other places than the sixteen
+under-first : (b : ℕ) (l : List ℕ) (n i : ℕ) → firstUnder b l n ≡ true → i < n → ltb (getD l i 0) b ≡ true
+unfolding firstUnder
+under-first b l zero i e h = absurd (omega arith)
+under-first b l (suc n) i e h =
+    by-order i n
+    (λ u. under-first b l n i (and-right (ltb (getD l n 0) b) _ e) u)
+    (λ u. let p : i ≡ n = omega arith in rw p (and-left (ltb (getD l n 0) b) _ e))
+
+pub under-sixteen : (b : ℕ) (l : List ℕ) (at count : ℕ) → firstUnder b l 16 ≡ true → allUnder b (windowOf l at count) ≡ true
+unfolding windowOf allUnder
+under-sixteen b l at zero e = refl
+under-sixteen b l at (suc n) e = rw (under-first b l 16 (placeBefore at (suc n)) e (omega arith)) (under-sixteen b l at n e)
 
 -- the tests of the two windows, taken apart and put together
 pub record ArrivalRanges (a : Arrivals) : Type 0 where

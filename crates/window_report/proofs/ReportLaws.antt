@@ -5,7 +5,7 @@ use mathlib.Core.List.{List}
 use Prim.Native.Nat.{ℕ, zero, suc, _+_, _*_, _^_, _<_, _≤_}
 use native.Mathlib.Numerals.{add-one}
 use native.Mathlib.Omega.{arith}
-use borrow.Author.Tests.{ne-eqb}
+use borrow.Author.Tests.{eq-eqb, ne-eqb}
 use lib.Dec.{ltb, eqb}
 use lib.ListN.{length, drop, length-set}
 use lib.Seq.{drop-set-lt}
@@ -52,6 +52,17 @@ words-grow r i true h =
     rw (t, ne-eqb _ _ n) (omega (arith, rw t at m)))
     (λ t. rw t (omega arith))
 words-grow r i false h = omega arith
+
+-- and an entry takes at most one word more
+words-few : (r : Runs) (i : ℕ) (d : Bool) → Within r i → r .words + runWords r i ≤ i → runsAfter r i d .words + runWords (runsAfter r i d) (suc i) ≤ suc i
+words-few r i true h k =
+    by-bool (r .going)
+    (λ t.
+    by-bool (eqb (r .first + 1) i)
+    (λ u. let m = words-most (runsAfter r i true) (suc i) in rw t (omega (arith, rw (t, u) at k, rw t at m)))
+    (λ u. let m = words-most (runsAfter r i true) (suc i) in rw t (omega (arith, rw (t, u) at k, rw t at m))))
+    (λ t. let e : i + 1 ≡ suc i = omega arith in rw (t, eq-eqb _ _ e) (omega (arith, rw t at k)))
+words-few r i false h k = omega arith
 
 length-put : (w : Window) (list : List ℕ) (r : Runs) (i : ℕ) → length (runPut w list r i) ≡ length list
 unfolding runPut
@@ -122,6 +133,15 @@ module _ (w : Window) (ws : List ℕ) (time mean : ℕ) where
       by-order j i
       (λ l. let e : i ≡ suc j = omega arith in rw e (omega arith))
       (λ l. let a = words-rise i j l in let b = words-on j in omega arith)
+
+  -- the report needs no more words than there are entries
+  words-held : (i : ℕ) → words-to i ≤ i
+  unfolding runsTo
+  words-held zero = omega arith
+  words-held (suc i) = words-few (runsTo w ws time mean i) i (dueAt w ws time mean i) (runs-within i) (words-held i)
+
+  pub needed-held : needed w ws time mean ≤ w .held
+  needed-held = words-held (w .held)
 
   -- the areas keep their lengths
   pub length-slots : (i : ℕ) → length (slotsTo w ws time mean i) ≡ length ws
@@ -227,6 +247,32 @@ module _ (w : Window) (ws : List ℕ) (time mean : ℕ) where
   some-due j h t =
       let g : runsTo w ws time mean (suc j) .going ≡ true = rw t in
       omega (arith, words-rise (suc j) (w .held) (omega arith), run-some (runsTo w ws time mean (suc j)) (suc j) g)
+
+  -- where nothing is needed, the walk leaves the areas as they are
+  module _ (z : needed w ws time mean ≡ 0) where
+    not-due : (j : ℕ) → j < w .held → dueAt w ws time mean j ≡ false
+    not-due j h =
+        by-bool (dueAt w ws time mean j)
+        (λ t. absurd (omega (arith, some-due j h t)))
+        (λ t. t)
+
+    slots-none : (i : ℕ) → i ≤ w .held → slotsTo w ws time mean i ≡ ws
+    unfolding slotsTo
+    slots-none zero h = refl
+    slots-none (suc i) h = rw (not-due i (omega arith)) (slots-none i (omega arith))
+
+    list-none : (list : List ℕ) (i : ℕ) → i ≤ w .held → listTo w ws time mean list i ≡ list
+    unfolding listTo runPut
+    list-none list zero h = refl
+    list-none list (suc i) h =
+        rw (not-due i (omega arith), runs-none i (λ j l. not-due j (omega arith))) (list-none list i (omega arith))
+
+    pub slots-same : slotsTo w ws time mean (w .held) ≡ ws
+    slots-same = slots-none (w .held) (omega arith)
+
+    pub list-same : (list : List ℕ) → listAll w ws time mean list ≡ list
+    unfolding runPut
+    list-same list = rw (runs-none (w .held) not-due) (list-none list (w .held) (omega arith))
 
   -- refusal 12, and no report, change nothing; a report leaves what the definitions above say
   module _ (list : List ℕ) where

@@ -24,7 +24,7 @@ use Rattle.window.specs.declared.Window.{Window}
 use Rattle.window_report.specs.declared.report.Runs.{Runs}
 use Rattle.window_report.specs.declared.report.ReportAnswer.the-variants as answers
 use Rattle.window.proofs.Walks.{walk-start, walk-words, walk-words-kept, walk-slot, walk-most, held-most, walk-on}
-use Rattle.window_report.proofs.ReportLaws.{words-most, runs-within, runs-more, words-rise, length-slots, length-list, report-more}
+use Rattle.window_report.proofs.ReportLaws.{words-most, runs-within, runs-more, words-rise, needed-held, slots-same, list-same, length-slots, length-list, report-more}
 
 -- is_due: feedback and k round trips are under 2^60 + 2^47
 module _ {e : Entry} {k f : ℕ} (p : e ≡ Lost k f) where
@@ -143,18 +143,27 @@ put-second r i list j v at e z o h f = rw length-set (omega (arith, z, o))
 pub put-fits : (w : Window) (i : ℕ) {n : ℕ} → n ≡ numberIn w i → Fits w32 (2 ^ 31 + n)
 put-fits w i e = omega (arith, sum-below 31 (w .seqno0) i)
 
+-- run_end: where no run is going
+module _ (r : Runs) (i : ℕ) (t : r .going ≡ false) where
+  pub end-list : (w : Window) (list : List ℕ) → list ≡ runPut w list r i
+  unfolding runPut
+  end-list w list = rw t
+
+  pub end-runs : _≡_ {A = Runs} (record { words = r .words; going = false; first = 0 }) (closed r i)
+  end-runs = let z : r .words + runWords r i ≡ r .words = rw t (omega arith) in rw z
+
 -- report_one
 module _ (w : Window) (time mean s i : ℕ) (ws list : List ℕ) (r : Runs) {e : Entry} {d : Bool} {q : Runs}
-    (a : e ≡ entryAt ws s) (b : d ≡ isDue time mean e) (c : q ≡ runsAfter r i d) where
-  pub one-due : {k : ℕ} {ws₁ : List ℕ} → d ≡ true → k ≡ kAfter e → ws₁ ≡ writeReport ws s k time
+    (a : e ≡ entryAt ws s) (b : d ≡ isDue time mean e) where
+  pub one-due : {k : ℕ} {ws₁ : List ℕ} → d ≡ true → k ≡ kAfter e → ws₁ ≡ writeReport ws s k time → q ≡ runsAfter r i true
       → reporting ws₁ list q ≡ reportOne w time mean s i (reporting ws list r)
   unfolding reportOne
-  one-due t f g = rw (← a, ← b, t, g, f, c, t)
+  one-due t f g c = rw (← a, ← b, t, g, f, c)
 
-  pub one-not : {list₁ : List ℕ} → d ≡ false → list₁ ≡ runPut w list r i
+  pub one-not : {list₁ : List ℕ} → d ≡ false → list₁ ≡ runPut w list r i → q ≡ closed r i
       → reporting ws list₁ q ≡ reportOne w time mean s i (reporting ws list r)
   unfolding reportOne
-  one-not t g = rw (← a, ← b, t, g, c, t)
+  one-not t g c = rw (← a, ← b, t, g, c)
 
 -- report_entries: the start, what a turn needs, a turn and the end
 module _ (w : Window) (ws : List ℕ) (time mean : ℕ) (list : List ℕ) where
@@ -192,15 +201,7 @@ module _ (w : Window) (ws : List ℕ) (time mean : ℕ) (list : List ℕ) where
     pub report-done : i ≤ w .held → w .held ≤ i → reporting words l r ≡ reportedTo w ws time mean list (w .held)
     report-done h k = let e : i ≡ w .held = omega arith in a ∙ ap (reportedTo w ws time mean list) e
 
--- report_all
-module _ (w : Window) (ws : List ℕ) (time mean : ℕ) (list : List ℕ) {ws₁ l : List ℕ} {r : Runs} (a : reporting ws₁ l r ≡ reportedTo w ws time mean list (w .held)) where
-  pub all-slots : ws₁ ≡ slotsTo w ws time mean (w .held)
-  all-slots = ap (λ (x : Reporting). x .slots) a
-
-  pub all-list : {list₁ : List ℕ} → list₁ ≡ runPut w l r (w .held) → list₁ ≡ listAll w ws time mean list
-  all-list b = b ∙ ap (λ (x : Reporting). runPut w (x .list) (x .runs) (w .held)) a
-
--- words_needed, loss_report
+-- words_needed, report_counted
 module _ (w : Window) (ws : List ℕ) (time mean : ℕ) where
   pub needs-words : {r q : Runs} → r ≡ runsTo w ws time mean (w .held) → q ≡ closed r (w .held) → q .words ≡ needed w ws time mean
   needs-words e f = rw (f, e)
@@ -215,13 +216,38 @@ module _ (w : Window) (ws : List ℕ) (time mean : ℕ) where
       unfolding reportOf
       report-short h = rw (← a, ne-eqb _ _ z, lt-ltb _ _ h)
 
-      pub report-long : {ws₁ list₁ : List ℕ} → n ≤ length list → ws₁ ≡ slotsTo w ws time mean (w .held) → list₁ ≡ listAll w ws time mean list
+      report-long : {ws₁ list₁ : List ℕ} → n ≤ length list → ws₁ ≡ slotsTo w ws time mean (w .held) → list₁ ≡ listAll w ws time mean list
           → reportEnded (answers.Report n) ws₁ list₁ ≡ reportOf w ws time mean list
       unfolding reportOf
       report-long h b c = rw (← a, ne-eqb _ _ z, le-ltb _ _ h, b, c)
 
     pub report-fits : n ≤ length list → needed w ws time mean ≤ length list
     report-fits h = rw (← a) h
+
+  -- loss_report
+  pub held-fits : (list : List ℕ) → w .held ≤ length list → needed w ws time mean ≤ length list
+  held-fits list h = omega (arith, needed-held w ws time mean)
+
+-- report_in: the run at the end is written, and the words are those of the runs that came out
+module _ (w : Window) (ws : List ℕ) (time mean : ℕ) (list : List ℕ) {ws₁ l list₁ : List ℕ} {r q : Runs}
+    (a : reporting ws₁ l r ≡ reportedTo w ws time mean list (w .held)) (b : list₁ ≡ runPut w l r (w .held)) (c : q ≡ closed r (w .held)) where
+  all-slots : ws₁ ≡ slotsTo w ws time mean (w .held)
+  all-slots = ap (λ (x : Reporting). x .slots) a
+
+  all-list : list₁ ≡ listAll w ws time mean list
+  all-list = b ∙ ap (λ (x : Reporting). runPut w (x .list) (x .runs) (w .held)) a
+
+  all-words : q .words ≡ needed w ws time mean
+  all-words = needs-words w ws time mean (ap (λ (x : Reporting). x .runs) a) c
+
+  pub all-none : q .words ≡ 0 → reportEnded answers.Nothing ws₁ list₁ ≡ reportOf w ws time mean list
+  all-none z =
+      let e : needed w ws time mean ≡ 0 = sym all-words ∙ z in
+      rw (all-slots ∙ slots-same w ws time mean e, all-list ∙ list-same w ws time mean e list) (report-none w ws time mean list all-words z)
+
+  pub all-some : (q .words ≡ 0 → ⊥) → needed w ws time mean ≤ length list
+      → reportEnded (answers.Report (q .words)) ws₁ list₁ ≡ reportOf w ws time mean list
+  all-some z h = report-long w ws time mean list all-words z (rw all-words h) all-slots all-list
 
 pub ruleset reports = (
   due-product,
@@ -247,6 +273,8 @@ pub ruleset reports = (
   put-run,
   put-second,
   put-fits,
+  end-list,
+  end-runs,
   one-due,
   one-not,
   report-start,
@@ -258,13 +286,13 @@ pub ruleset reports = (
   report-last,
   report-again,
   report-done,
-  all-slots,
-  all-list,
+  all-none,
+  all-some,
   needs-words,
   report-none,
   report-short,
-  report-long,
   report-fits,
+  held-fits,
   walk-start,
   walk-words,
   walk-slot,

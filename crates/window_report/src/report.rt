@@ -4,7 +4,7 @@ ghost use Prim.Native.Nat.{_+_, _*_, _<_, _≤_, _^_};
 ghost use lib.ListN.{length};
 ghost use Rattle.slots.specs.Words.{Fit};
 ghost use Rattle.window.specs.Window.{Good};
-ghost use Rattle.window_report.specs.Report.{isDue, kAfter, reportEnded, slotsTo, runWords, closed, runsAfter, Within, runsTo, runPut, needed, reporting, reportOne, reportedTo, listAll, reportOf};
+ghost use Rattle.window_report.specs.Report.{isDue, kAfter, reportEnded, runWords, closed, runsAfter, Within, runsTo, runPut, needed, reporting, reportOne, reportedTo, reportOf};
 use slots::entry::Entry;
 
 // Words so far, and whether a run of reported entries is going on, with its first entry.
@@ -141,6 +141,22 @@ fn run_put(w: window::Window, list: &mut [u32], r: Runs, i: usize)
     list[at + 1] = last;
 }
 
+// An entry that is not due ends the run before it; most often none is going.
+fn run_end(w: window::Window, list: &mut [u32], r: Runs, i: usize) -> Runs
+    requires { ⌜ Within r i × (i ≤ 8192) × (r .words + runWords r i ≤ length (now list)) ⌝ }
+    ensures { λ q. ⌜ (now (list .exit) ≡ runPut w (now (list .entry)) r i) × (q ≡ closed r i) ⌝ }
+{
+    if r.going {} else {
+        return Runs {
+            words: r.words,
+            going: false,
+            first: 0,
+        };
+    }
+    run_put(w, list, r, i);
+    runs_closed(r, i)
+}
+
 // Entry i, which lies in slot s: reported if it is due; if not, the run before it is written.
 fn report_one(
     w: window::Window,
@@ -156,15 +172,11 @@ fn report_one(
     ensures { λ q. ⌜ reporting (now (words .exit)) (now (list .exit)) q ≡ reportOne w time mean s i (reporting (now (words .entry)) (now (list .entry)) r) ⌝ }
 {
     let e = slots::entry::read_at(words, s);
-    let due = is_due(e, time, mean);
-    let k = k_after(e);
-    let q = runs_after(r, i, due);
-    if due {
-        slots::entry::write_report(words, s, k, time);
-        return q;
+    if is_due(e, time, mean) {
+        slots::entry::write_report(words, s, k_after(e), time);
+        return runs_after(r, i, true);
     }
-    run_put(w, list, r, i);
-    q
+    run_end(w, list, r, i)
 }
 
 // All entries. What is left to do is to write the run that is going on at the end.
@@ -194,17 +206,27 @@ fn report_entries(
     r
 }
 
-// The whole report, in a list that has room for it.
-fn report_all(w: window::Window, words: &mut [u64], list: &mut [u32], time: u64, mean: u32)
+// The whole report, in a list that has room for it. Where nothing is due, the areas stay.
+fn report_in(
+    w: window::Window,
+    words: &mut [u64],
+    list: &mut [u32],
+    time: u64,
+    mean: u32,
+) -> ReportAnswer
     requires { ⌜ Good w (now words) × (mean < 2 ^ 31) × (needed w (now words) time mean ≤ length (now list)) ⌝ }
-    ensures { λ _. ⌜ (now (words .exit) ≡ slotsTo w (now (words .entry)) time mean (w .held)) × (now (list .exit) ≡ listAll w (now (words .entry)) time mean (now (list .entry))) ⌝ }
+    ensures { λ r. ⌜ reportEnded r (now (words .exit)) (now (list .exit)) ≡ reportOf w (now (words .entry)) time mean (now (list .entry)) ⌝ }
 {
     let r = report_entries(w, words, list, time, mean);
-    run_put(w, list, r, w.held);
+    let q = run_end(w, list, r, w.held);
+    if q.words == 0 {
+        return ReportAnswer::Nothing;
+    }
+    ReportAnswer::Report { words: q.words }
 }
 
-// The loss report. On ListShort, and where nothing is due, the areas stay.
-pub fn loss_report(
+// The report in a list that may be too short for it: its words are counted first.
+fn report_counted(
     w: window::Window,
     words: &mut [u64],
     list: &mut [u32],
@@ -221,6 +243,22 @@ pub fn loss_report(
     if list.len() < n {
         return ReportAnswer::ListShort;
     }
-    report_all(w, words, list, time, mean);
-    ReportAnswer::Report { words: n }
+    report_in(w, words, list, time, mean)
+}
+
+// The loss report. On ListShort, and where nothing is due, the areas stay. It never needs more words than there are entries.
+pub fn loss_report(
+    w: window::Window,
+    words: &mut [u64],
+    list: &mut [u32],
+    time: u64,
+    mean: u32,
+) -> ReportAnswer
+    requires { ⌜ Good w (now words) × (mean < 2 ^ 31) ⌝ }
+    ensures { λ r. ⌜ reportEnded r (now (words .exit)) (now (list .exit)) ≡ reportOf w (now (words .entry)) time mean (now (list .entry)) ⌝ }
+{
+    if w.held <= list.len() {
+        return report_in(w, words, list, time, mean);
+    }
+    report_counted(w, words, list, time, mean)
 }

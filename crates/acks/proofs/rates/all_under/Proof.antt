@@ -1,28 +1,12 @@
-use mathlib.Core.Path.{_≡_}
-use Prim.Native.Nat.{_-_, _≤_}
-use Rattle.acks.specs.Rates.{windowOf, allUnder}
 use Rattle.acks.proofs.RateSteps.{rateSteps}
 use Rattle.acks.proofs.rates.all_under.Statement.{statement}
 use Rattle.acks.proofs.rates.all_under.Tie as tie
-
-abbrev Inv-loop : tie.InvT-loop
-Inv-loop at count bound values ok₀ n₀ ok n = (n ≤ count) × (ok ≡ allUnder bound (windowOf values at n))
-
-abbrev μ-loop : tie.MeasureT-loop
-μ-loop at count bound values ok₀ n₀ ok n = count - n
 
 pub all-under-spec : {M : Type 1} → statement M
 all-under-spec =
     tie.close
     (tie.spec
-    Inv-loop
-    μ-loop
+    (λ c κs. search rateSteps)
     (λ c. search rateSteps)
-    (λ c. search rateSteps)
-    (λ c. search rateSteps)
-    (λ c. search rateSteps)
-    (λ c. search rateSteps)
-    (λ c. search rateSteps)
-    (λ c. search rateSteps)
-    (λ c. search rateSteps)
+    (λ c κs. search rateSteps)
     (λ c. search rateSteps))

@@ -10,7 +10,6 @@ loss-report-spec =
     (λ c. search reports)
     (λ c. search reports)
     (λ c. search reports)
-    (λ c. search reports)
     (λ c κs. search reports)
     (λ c. search reports)
     (λ c. search reports)
