@@ -1,0 +1,1 @@
+-- The definitions of a head as words.
