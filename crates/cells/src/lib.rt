@@ -1,7 +1,7 @@
 // An answer as ten numbers, for a caller in another language: the word's code, the values of 01's line ("Trace, mark DLT") in order, 0 where
 // there is none, and the bits of an f64. For each answer its cells, and the number of its refusal, 0 for none.
 ghost use mathlib.Core.Path.{_≡_};
-ghost use mathlib.Core.Bool.{cond};
+ghost use mathlib.Core.List.{[], _∷_};
 ghost use lib.IntN.{pos};
 ghost use lib.Ieee.{binary64, toBits};
 ghost use Rattle.receiver.specs.Paper.{whole, plain, flag, packetsOf, bytesOf, linkOf, dataLine, messageLine, fullAckLine, rttLine, dropLine, clearLine, roomLine, shownLine, clockLine};
@@ -104,27 +104,39 @@ fn link_of(l: Link) -> i64
 }
 
 // Cells by the count of their values.
-fn none(code: i64) -> [i64; 10] {
+fn none(code: i64) -> [i64; 10]
+    ensures { λ r. ⌜ r ≡ code ∷ pos 0 ∷ pos 0 ∷ pos 0 ∷ pos 0 ∷ pos 0 ∷ pos 0 ∷ pos 0 ∷ pos 0 ∷ pos 0 ∷ [] ⌝ }
+{
     [code, 0, 0, 0, 0, 0, 0, 0, 0, 0]
 }
 
-fn one(code: i64, a: i64) -> [i64; 10] {
+fn one(code: i64, a: i64) -> [i64; 10]
+    ensures { λ r. ⌜ r ≡ code ∷ a ∷ pos 0 ∷ pos 0 ∷ pos 0 ∷ pos 0 ∷ pos 0 ∷ pos 0 ∷ pos 0 ∷ pos 0 ∷ [] ⌝ }
+{
     [code, a, 0, 0, 0, 0, 0, 0, 0, 0]
 }
 
-fn two(code: i64, a: i64, b: i64) -> [i64; 10] {
+fn two(code: i64, a: i64, b: i64) -> [i64; 10]
+    ensures { λ r. ⌜ r ≡ code ∷ a ∷ b ∷ pos 0 ∷ pos 0 ∷ pos 0 ∷ pos 0 ∷ pos 0 ∷ pos 0 ∷ pos 0 ∷ [] ⌝ }
+{
     [code, a, b, 0, 0, 0, 0, 0, 0, 0]
 }
 
-fn three(code: i64, a: i64, b: i64, c: i64) -> [i64; 10] {
+fn three(code: i64, a: i64, b: i64, c: i64) -> [i64; 10]
+    ensures { λ r. ⌜ r ≡ code ∷ a ∷ b ∷ c ∷ pos 0 ∷ pos 0 ∷ pos 0 ∷ pos 0 ∷ pos 0 ∷ pos 0 ∷ [] ⌝ }
+{
     [code, a, b, c, 0, 0, 0, 0, 0, 0]
 }
 
-fn eight(code: i64, a: i64, b: i64, c: i64, d: i64, e: i64, f: i64, g: i64, h: i64) -> [i64; 10] {
+fn eight(code: i64, a: i64, b: i64, c: i64, d: i64, e: i64, f: i64, g: i64, h: i64) -> [i64; 10]
+    ensures { λ r. ⌜ r ≡ code ∷ a ∷ b ∷ c ∷ d ∷ e ∷ f ∷ g ∷ h ∷ pos 0 ∷ [] ⌝ }
+{
     [code, a, b, c, d, e, f, g, h, 0]
 }
 
-fn one_exact(code: i64, a: i64, x: i64) -> [i64; 10] {
+fn one_exact(code: i64, a: i64, x: i64) -> [i64; 10]
+    ensures { λ r. ⌜ r ≡ code ∷ a ∷ pos 0 ∷ pos 0 ∷ pos 0 ∷ pos 0 ∷ pos 0 ∷ pos 0 ∷ pos 0 ∷ x ∷ [] ⌝ }
+{
     [code, a, 0, 0, 0, 0, 0, 0, 0, x]
 }
 
