@@ -1,5 +1,11 @@
 // An answer as ten numbers, for a caller in another language: the word's code, the values of 01's line ("Trace, mark DLT") in order, 0 where
 // there is none, and the bits of an f64. For each answer its cells, and the number of its refusal, 0 for none.
+ghost use mathlib.Core.Path.{_≡_};
+ghost use mathlib.Core.List.{[], _∷_};
+ghost use lib.IntN.{pos};
+ghost use lib.Ieee.{binary64, toBits};
+ghost use Rattle.receiver.specs.Paper.{whole, plain, flag, packetsOf, bytesOf, linkOf, dataLine, messageLine, fullAckLine, rttLine, dropLine, clearLine, roomLine, shownLine, clockLine};
+ghost use Rattle.cells.specs.Cells.{cell, valueCell, cellsOf, countLine, lossCells, shownCells, madeCells};
 use acks::rates::Link;
 use acks::rates::Speed;
 use receiver::acking::FullAckAnswer;
@@ -14,61 +20,83 @@ use receiver::show::ShowAnswer;
 use receiver::sync::ClockAnswer;
 
 // A u64 as an i64: two's complement, so what lies over an i64's end is below 0.
-fn big(n: u64) -> i64 {
+fn big(n: u64) -> i64
+    ensures { λ r. ⌜ r ≡ cell (pos n) ⌝ }
+{
     if n < 0x8000_0000_0000_0000 {
         return n as i64;
     }
     -((0xffff_ffff_ffff_ffff - n) as i64) - 1
 }
 
-fn small(n: u32) -> i64 {
+fn small(n: u32) -> i64
+    ensures { λ r. ⌜ r ≡ cell (pos n) ⌝ }
+{
     n as i64
 }
 
-fn size(n: usize) -> i64 {
+fn size(n: usize) -> i64
+    ensures { λ r. ⌜ r ≡ cell (pos n) ⌝ }
+{
     big(n as u64)
 }
 
-fn wider(z: i32) -> i64 {
+fn wider(z: i32) -> i64
+    ensures { λ r. ⌜ r ≡ cell z ⌝ }
+{
     z as i64
 }
 
-fn same(z: i64) -> i64 {
+fn same(z: i64) -> i64
+    ensures { λ r. ⌜ r ≡ cell z ⌝ }
+{
     z
 }
 
-fn flag(b: bool) -> i64 {
+fn flag(b: bool) -> i64
+    ensures { λ r. ⌜ r ≡ valueCell (flag b) ⌝ }
+{
     if b { 1 } else { 0 }
 }
 
 // The bits of an f64. Every NaN has the same, since a NaN's own are not to be had.
-fn bits(v: f64) -> u64 {
+fn bits(v: f64) -> u64
+    ensures { λ r. ⌜ r ≡ toBits binary64 v ⌝ }
+{
     if v != v {
         return 0x7ff8_0000_0000_0000;
     }
     f64::to_bits(v)
 }
 
-fn exact(v: f64) -> i64 {
+fn exact(v: f64) -> i64
+    ensures { λ r. ⌜ r ≡ cell (pos (toBits binary64 v)) ⌝ }
+{
     big(bits(v))
 }
 
 // The rates of an ack; -1 for none.
-fn packets_of(s: Speed) -> i64 {
+fn packets_of(s: Speed) -> i64
+    ensures { λ r. ⌜ r ≡ valueCell (packetsOf s) ⌝ }
+{
     match s {
         Speed::Unknown => -1,
         Speed::Known { packets, bytes: _ } => small(packets),
     }
 }
 
-fn bytes_of(s: Speed) -> i64 {
+fn bytes_of(s: Speed) -> i64
+    ensures { λ r. ⌜ r ≡ valueCell (bytesOf s) ⌝ }
+{
     match s {
         Speed::Unknown => -1,
         Speed::Known { packets: _, bytes } => small(bytes),
     }
 }
 
-fn link_of(l: Link) -> i64 {
+fn link_of(l: Link) -> i64
+    ensures { λ r. ⌜ r ≡ valueCell (linkOf l) ⌝ }
+{
     match l {
         Link::Unknown => -1,
         Link::Known(n) => small(n),
@@ -76,27 +104,39 @@ fn link_of(l: Link) -> i64 {
 }
 
 // Cells by the count of their values.
-fn none(code: i64) -> [i64; 10] {
+fn none(code: i64) -> [i64; 10]
+    ensures { λ r. ⌜ r ≡ code ∷ pos 0 ∷ pos 0 ∷ pos 0 ∷ pos 0 ∷ pos 0 ∷ pos 0 ∷ pos 0 ∷ pos 0 ∷ pos 0 ∷ [] ⌝ }
+{
     [code, 0, 0, 0, 0, 0, 0, 0, 0, 0]
 }
 
-fn one(code: i64, a: i64) -> [i64; 10] {
+fn one(code: i64, a: i64) -> [i64; 10]
+    ensures { λ r. ⌜ r ≡ code ∷ a ∷ pos 0 ∷ pos 0 ∷ pos 0 ∷ pos 0 ∷ pos 0 ∷ pos 0 ∷ pos 0 ∷ pos 0 ∷ [] ⌝ }
+{
     [code, a, 0, 0, 0, 0, 0, 0, 0, 0]
 }
 
-fn two(code: i64, a: i64, b: i64) -> [i64; 10] {
+fn two(code: i64, a: i64, b: i64) -> [i64; 10]
+    ensures { λ r. ⌜ r ≡ code ∷ a ∷ b ∷ pos 0 ∷ pos 0 ∷ pos 0 ∷ pos 0 ∷ pos 0 ∷ pos 0 ∷ pos 0 ∷ [] ⌝ }
+{
     [code, a, b, 0, 0, 0, 0, 0, 0, 0]
 }
 
-fn three(code: i64, a: i64, b: i64, c: i64) -> [i64; 10] {
+fn three(code: i64, a: i64, b: i64, c: i64) -> [i64; 10]
+    ensures { λ r. ⌜ r ≡ code ∷ a ∷ b ∷ c ∷ pos 0 ∷ pos 0 ∷ pos 0 ∷ pos 0 ∷ pos 0 ∷ pos 0 ∷ [] ⌝ }
+{
     [code, a, b, c, 0, 0, 0, 0, 0, 0]
 }
 
-fn eight(code: i64, a: i64, b: i64, c: i64, d: i64, e: i64, f: i64, g: i64, h: i64) -> [i64; 10] {
+fn eight(code: i64, a: i64, b: i64, c: i64, d: i64, e: i64, f: i64, g: i64, h: i64) -> [i64; 10]
+    ensures { λ r. ⌜ r ≡ code ∷ a ∷ b ∷ c ∷ d ∷ e ∷ f ∷ g ∷ h ∷ pos 0 ∷ [] ⌝ }
+{
     [code, a, b, c, d, e, f, g, h, 0]
 }
 
-fn one_exact(code: i64, a: i64, x: i64) -> [i64; 10] {
+fn one_exact(code: i64, a: i64, x: i64) -> [i64; 10]
+    ensures { λ r. ⌜ r ≡ code ∷ a ∷ pos 0 ∷ pos 0 ∷ pos 0 ∷ pos 0 ∷ pos 0 ∷ pos 0 ∷ pos 0 ∷ x ∷ [] ⌝ }
+{
     [code, a, 0, 0, 0, 0, 0, 0, 0, x]
 }
 

@@ -1,0 +1,2 @@
+-- The laws of cells: `Numbers` and `Answers` are for the code of this crate.
+pub mod Numbers
