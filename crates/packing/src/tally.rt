@@ -1,7 +1,11 @@
 // The ten counters as ten words, in their order: 01, "Counters follow 003".
+ghost use mathlib.Core.Path.{_≡_};
+ghost use Rattle.packing.specs.Tally.{countersWords, countersOf};
 use counts::Counters;
 
-pub fn of_counters(c: Counters) -> [u64; 10] {
+pub fn of_counters(c: Counters) -> [u64; 10]
+    ensures { λ r. ⌜ r ≡ countersWords c ⌝ }
+{
     [
         c.rx_data,
         c.rx_bytes,
@@ -16,7 +20,9 @@ pub fn of_counters(c: Counters) -> [u64; 10] {
     ]
 }
 
-pub fn counters(words: &[u64; 10]) -> Counters {
+pub fn counters(words: &[u64; 10]) -> Counters
+    ensures { λ r. ⌜ r ≡ countersOf (now (words .entry)) ⌝ }
+{
     Counters {
         rx_data: words[0],
         rx_bytes: words[1],
