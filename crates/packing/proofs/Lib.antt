@@ -1,3 +1,4 @@
 -- The laws of a head as words.
 pub mod Floats
+pub mod Says
 pub mod Steps

@@ -60,7 +60,7 @@ at ws i = getD ws i 0
 abbrev pub sixteen : List ℕ
 sixteen = 0 ∷ 1 ∷ 2 ∷ 3 ∷ 4 ∷ 5 ∷ 6 ∷ 7 ∷ 8 ∷ 9 ∷ 10 ∷ 11 ∷ 12 ∷ 13 ∷ 14 ∷ 15 ∷ []
 
-abbrev pub sixteenOf : List ℕ → ℕ → List ℕ
+unfoldable pub sixteenOf : List ℕ → ℕ → List ℕ
 sixteenOf ws i = map (λ k. numberOf (at ws (i + k))) sixteen
 
 -- each part that the words say
@@ -103,7 +103,7 @@ headOf ws =
     }
 
 -- n words from word i on are numbers
-abbrev pub numbersFormed : List ℕ → ℕ → ℕ → Bool
+unfoldable pub numbersFormed : List ℕ → ℕ → ℕ → Bool
 numbersFormed ws i zero = true
 numbersFormed ws i (suc n) = numbersFormed ws i n && numberFormed (at ws (i + n))
 
