@@ -17,6 +17,16 @@ use Rattle.head.specs.Head.{freshHead}
 use Rattle.head.specs.declared.state.Head.{Head}
 use Rattle.packing.specs.Words.{wordOf, wholeOf, bitsOf, floatOf, flagWord, flagOf, numberOf, setWord, timeWord, momentOf, numberFormed, flagFormed, floatFormed, momentFormed}
 
+-- element i, and sixteen elements
+abbrev pub at : List ℕ → ℕ → ℕ
+at ws i = getD ws i 0
+
+abbrev pub sixteen : List ℕ
+sixteen = 0 ∷ 1 ∷ 2 ∷ 3 ∷ 4 ∷ 5 ∷ 6 ∷ 7 ∷ 8 ∷ 9 ∷ 10 ∷ 11 ∷ 12 ∷ 13 ∷ 14 ∷ 15 ∷ []
+
+unfoldable pub numbersWords : List ℕ → List ℕ
+numbersWords ns = map (at ns) sixteen
+
 -- the words of each part
 abbrev pub windowWords : Window → List ℕ
 windowWords w = w .capacity ∷ w .start ∷ w .held ∷ w .seqno0 ∷ w .lrsn ∷ []
@@ -37,10 +47,10 @@ abbrev pub rttWords : Rtt → List ℕ
 rttWords t = t .mean ∷ t .variance ∷ []
 
 abbrev pub arrivalsWords : Arrivals → List ℕ
-arrivalsWords a = a .gaps ++ a .sizes ++ a .at ∷ a .count ∷ setWord (a .last) ∷ timeWord (a .last) ∷ []
+arrivalsWords a = numbersWords (a .gaps) ++ numbersWords (a .sizes) ++ a .at ∷ a .count ∷ setWord (a .last) ∷ timeWord (a .last) ∷ []
 
 abbrev pub linksWords : Links → List ℕ
-linksWords l = l .gaps ++ l .at ∷ l .count ∷ setWord (l .probe) ∷ timeWord (l .probe) ∷ []
+linksWords l = numbersWords (l .gaps) ++ l .at ∷ l .count ∷ setWord (l .probe) ∷ timeWord (l .probe) ∷ []
 
 abbrev pub historyWords : History → List ℕ
 historyWords y = y .start ∷ y .count ∷ y .first ∷ y .largest ∷ y .lastack ∷ []
@@ -52,14 +62,7 @@ packOf h =
     ++ linksWords (h .links)
     ++ historyWords (h .history)
 
--- word i
-abbrev pub at : List ℕ → ℕ → ℕ
-at ws i = getD ws i 0
-
 -- sixteen numbers, from word i on
-abbrev pub sixteen : List ℕ
-sixteen = 0 ∷ 1 ∷ 2 ∷ 3 ∷ 4 ∷ 5 ∷ 6 ∷ 7 ∷ 8 ∷ 9 ∷ 10 ∷ 11 ∷ 12 ∷ 13 ∷ 14 ∷ 15 ∷ []
-
 unfoldable pub sixteenOf : List ℕ → ℕ → List ℕ
 sixteenOf ws i = map (λ k. numberOf (at ws (i + k))) sixteen
 
