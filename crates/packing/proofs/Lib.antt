@@ -3,3 +3,4 @@ pub mod Floats
 pub mod Puts
 pub mod Says
 pub mod Steps
+pub mod Undo
