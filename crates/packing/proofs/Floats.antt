@@ -1,10 +1,9 @@
 -- A float's bits: the tests of the code say which floats and which words are no NaN. Assumes nothing.
-use mathlib.Core.Path.{_≡_, refl, sym, _∙_, ap, subst}
+use mathlib.Core.Path.{_≡_, refl, sym, _∙_}
 use mathlib.Core.Bool.{Bool, true, false, not, _||_}
 use Prim.Native.Nat.{ℕ, _*_, _%_, _^_, _<_, _≤_}
-use native.Mathlib.Omega.{arith}
 use borrow.Author.Tests.{eq-eqb, le-ltb, lt-ltb, le-leb, lt-leb}
-use lib.Dec.{T, eqb, leb, ltb}
+use lib.Dec.{T, eqb, leb}
 use lib.Ieee.{Float, nan, inf, fin, up, down, level, div, eq, isNan, nanBits, ofBits, toBits, binary64}
 use lib.Ieee.Bits.{nanBits-above, nanBits-is}
 use Rattle.numbers.proofs.Flags.{impossible, by-order}

@@ -1,6 +1,6 @@
 -- What the code of pack.rt does at each return and each turn, and that the words so written are the head's; the proof files hand these laws to `search`.
 -- Assumes nothing.
-use mathlib.Core.Path.{_≡_, refl, sym, _∙_, ap}
+use mathlib.Core.Path.{_≡_, refl, _∙_, ap}
 use mathlib.Core.Bool.{Bool}
 use mathlib.Core.List.{List}
 use Prim.Native.Nat.{ℕ, _+_, _≤_}
@@ -9,7 +9,6 @@ use native.Mathlib.Omega.{arith}
 use borrow.Author.Needs.{needs}
 use lib.IntN.{ℤ}
 use lib.ListN.{getD, set, replicate}
-use Rattle.numbers.specs.declared.instant.Moment.{Moment}
 use Rattle.clock.specs.declared.time.SynchronizedRemoteClock.{SynchronizedRemoteClock}
 use Rattle.acks.specs.declared.history.History.{History}
 use Rattle.acks.specs.declared.rates.Arrivals.{Arrivals}

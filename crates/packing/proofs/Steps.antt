@@ -2,7 +2,7 @@
 -- Assumes nothing.
 use mathlib.Core.Path.{_≡_, refl, sym, _∙_, ap}
 use mathlib.Core.Bool.{Bool, true, false}
-use Prim.Native.Nat.{ℕ, _-_, _%_, _^_, _<_, _≤_}
+use Prim.Native.Nat.{ℕ, _-_, _^_, _<_, _≤_}
 use native.Mathlib.Nat.{mod-eq-of-lt}
 use native.Mathlib.Omega.{arith}
 use borrow.Author.Needs.{needs}
@@ -13,11 +13,11 @@ use lib.Signed.{mag, leZ}
 use mir.Syntax.{w64}
 use mir.Val.{Fits, SFits, toZ, ofZ, boolByte}
 use mir.Facts.{toZ-pos, toZ-ofZ}
-use Rattle.numbers.specs.Circular.{wrap, signed}
+use Rattle.numbers.specs.Circular.{wrap}
 use Rattle.numbers.specs.declared.instant.Moment.{Moment}
 use Rattle.numbers.specs.declared.instant.Moment.the-variants.{Unset, At}
 use Rattle.numbers.proofs.Flags.{impossible}
-use Rattle.numbers.proofs.Halves.{same, in-range, above--, below--}
+use Rattle.numbers.proofs.Halves.{same, in-range}
 use Rattle.numbers.proofs.Signs.{signed-low, signed-high}
 use Rattle.packing.specs.Words.{wordOf, wholeOf, flagWord, timeWord, momentOf}
 use Rattle.packing.proofs.Floats.{itself, nan-bits, no-nan-bits, quotient-nan, float-tests}
