@@ -17,7 +17,7 @@ use Rattle.numbers.specs.Circular.{wrap}
 use Rattle.numbers.specs.declared.instant.Moment.{Moment}
 use Rattle.numbers.specs.declared.instant.Moment.the-variants.{Unset, At}
 use Rattle.numbers.proofs.Flags.{impossible}
-use Rattle.numbers.proofs.Halves.{same, in-range}
+use Rattle.numbers.proofs.Halves.{same, in-range, above--, below--}
 use Rattle.numbers.proofs.Signs.{signed-low, signed-high}
 use Rattle.packing.specs.Words.{wordOf, wholeOf, flagWord, timeWord, momentOf}
 use Rattle.packing.proofs.Floats.{itself, nan-bits, no-nan-bits, quotient-nan, float-tests}
