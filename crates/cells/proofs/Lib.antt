@@ -1,2 +1,3 @@
 -- The laws of cells: `Numbers` and `Answers` are for the code of this crate.
 pub mod Numbers
+pub mod Answers
