@@ -4,7 +4,6 @@ use mathlib.Core.Path.{_≡_, refl, sym, _∙_, ap}
 use mathlib.Core.Bool.{Bool, true, false, cond}
 use mathlib.Core.List.{List, [], _∷_}
 use Prim.Native.Nat.{ℕ, zero, suc, _^_, _<_}
-use native.Mathlib.Nat.{mod-lt}
 use native.Mathlib.Omega.{arith}
 use borrow.Author.Tests.{ne-eqb}
 use lib.Dec.{T, eqb}
@@ -13,7 +12,7 @@ use lib.Ieee.{Float, binary64, fits, toBits, ofBits}
 use lib.Ieee.Bits.{ofBits-toBits, toBits-lt}
 use mir.Syntax.{w64}
 use mir.Val.{SFits}
-use Rattle.numbers.specs.Circular.{signed, wrap}
+use Rattle.numbers.specs.Circular.{wrap}
 use Rattle.numbers.proofs.Signs.{signed-congruent}
 use Rattle.acks.specs.declared.rates.Speed.{Speed}
 use Rattle.acks.specs.declared.rates.Speed.the-variants as speeds

@@ -4,7 +4,7 @@ ghost use mathlib.Core.Path.{_≡_};
 ghost use mathlib.Core.List.{[], _∷_};
 ghost use lib.IntN.{pos};
 ghost use lib.Ieee.{binary64, toBits};
-ghost use Rattle.receiver.specs.Paper.{whole, plain, flag, packetsOf, bytesOf, linkOf, dataLine, messageLine, fullAckLine, rttLine, dropLine, clearLine, roomLine, shownLine, clockLine};
+ghost use Rattle.receiver.specs.Paper.{flag, packetsOf, bytesOf, linkOf, dataLine, messageLine, fullAckLine, rttLine, dropLine, clearLine, roomLine, shownLine, clockLine};
 ghost use Rattle.cells.specs.Cells.{cell, valueCell, cellsOf, countLine, lossCells, shownCells, madeCells};
 use acks::rates::Link;
 use acks::rates::Speed;
