@@ -1,5 +1,5 @@
 -- What the code of lib.rt does at each return, as laws over plain values: a law for each count of values, and each answer by its case. Assumes nothing.
-use mathlib.Core.Path.{_≡_, _∙_}
+use mathlib.Core.Path.{_≡_, refl, _∙_}
 use mathlib.Core.List.{List, [], _∷_}
 use Prim.Native.Nat.{ℕ}
 use borrow.Author.Needs.{needs}
@@ -8,15 +8,17 @@ use lib.IntN.{ℤ, pos}
 use Rattle.receiver.specs.declared.data.DataAnswer.{DataAnswer}
 use Rattle.receiver.specs.declared.message.MessageAnswer.{MessageAnswer}
 use Rattle.receiver.specs.declared.loss.LossAnswer.{LossAnswer}
+use Rattle.receiver.specs.declared.loss.LossAnswer.the-variants as losses
 use Rattle.receiver.specs.declared.request.DropAnswer.{DropAnswer}
 use Rattle.receiver.specs.declared.request.ClearAnswer.{ClearAnswer}
 use Rattle.receiver.specs.declared.request.RoomAnswer.{RoomAnswer}
 use Rattle.receiver.specs.declared.show.ShowAnswer.{ShowAnswer}
+use Rattle.receiver.specs.declared.show.ShowAnswer.the-variants as shows
 use Rattle.receiver.specs.declared.sync.ClockAnswer.{ClockAnswer}
 use Rattle.receiver.specs.declared.acking.FullAckAnswer.{FullAckAnswer}
 use Rattle.receiver.specs.declared.acking.RttAnswer.{RttAnswer}
-use Rattle.receiver.specs.Paper.{dataLine, messageLine, fullAckLine, rttLine, dropLine, clockLine, clearLine, roomLine}
-use Rattle.cells.specs.Cells.{cellsOf, lossCells, shownCells, madeCells}
+use Rattle.receiver.specs.Paper.{dataLine, messageLine, lossLine, shownLine, fullAckLine, rttLine, dropLine, clockLine, clearLine, roomLine}
+use Rattle.cells.specs.Cells.{cellsOf, countLine, placeLine, lossCells, shownCells, madeCells}
 use Rattle.cells.proofs.Numbers.{read-back}
 
 -- cells whose values are told one by one
@@ -81,6 +83,27 @@ module _ {r : List ℤ} where
 
   pub made-none : (n : ℕ) → (n ≡ 0 → ⊥) → r ≡ madeCells 15 → r ≡ madeCells n
   made-none n h e = rw (ne-eqb n 0 h) e
+
+-- a report's count, and a payload's place, stand for 01's line: the word and the refusal are the line's
+pub count-word : (a : LossAnswer) (list : List ℕ) → countLine a .word ≡ lossLine a list .word
+count-word losses.Nothing list = refl
+count-word (losses.Report words) list = refl
+count-word (losses.Refused n) list = refl
+
+pub count-refusal : (a : LossAnswer) (list : List ℕ) → countLine a .refusal ≡ lossLine a list .refusal
+count-refusal losses.Nothing list = refl
+count-refusal (losses.Report words) list = refl
+count-refusal (losses.Refused n) list = refl
+
+pub place-word : (a : ShowAnswer) (at len : ℕ) → placeLine a at len .word ≡ shownLine a .word
+place-word shows.Received at len = refl
+place-word shows.Other at len = refl
+place-word (shows.Refused n) at len = refl
+
+pub place-refusal : (a : ShowAnswer) (at len : ℕ) → placeLine a at len .refusal ≡ shownLine a .refusal
+place-refusal shows.Received at len = refl
+place-refusal shows.Other at len = refl
+place-refusal (shows.Refused n) at len = refl
 
 pub ruleset answers = (
   one-value,
