@@ -4,7 +4,7 @@ ghost use mathlib.Core.Path.{_≡_};
 ghost use mathlib.Core.List.{[], _∷_};
 ghost use lib.IntN.{pos};
 ghost use lib.Ieee.{binary64, toBits};
-ghost use Rattle.receiver.specs.Paper.{whole, plain, flag, packetsOf, bytesOf, linkOf, dataLine, messageLine, fullAckLine, rttLine, dropLine, clearLine, roomLine, shownLine, clockLine};
+ghost use Rattle.receiver.specs.Paper.{flag, packetsOf, bytesOf, linkOf, dataLine, messageLine, fullAckLine, rttLine, dropLine, clearLine, roomLine, shownLine, clockLine};
 ghost use Rattle.cells.specs.Cells.{cell, valueCell, cellsOf, countLine, lossCells, shownCells, madeCells};
 use acks::rates::Link;
 use acks::rates::Speed;
@@ -140,7 +140,9 @@ fn one_exact(code: i64, a: i64, x: i64) -> [i64; 10]
     [code, a, 0, 0, 0, 0, 0, 0, 0, x]
 }
 
-pub fn data_cells(a: DataAnswer) -> [i64; 10] {
+pub fn data_cells(a: DataAnswer) -> [i64; 10]
+    ensures { λ r. ⌜ r ≡ cellsOf (dataLine a) ⌝ }
+{
     match a {
         DataAnswer::Got { lrsn, recovered } => two(0, small(lrsn), flag(recovered)),
         DataAnswer::Light { lrsn, recovered } => two(1, small(lrsn), flag(recovered)),
@@ -150,7 +152,9 @@ pub fn data_cells(a: DataAnswer) -> [i64; 10] {
     }
 }
 
-pub fn data_refusal(a: DataAnswer) -> u32 {
+pub fn data_refusal(a: DataAnswer) -> u32
+    ensures { λ r. ⌜ r ≡ dataLine a .refusal ⌝ }
+{
     match a {
         DataAnswer::Got {
             lrsn: _,
@@ -166,7 +170,9 @@ pub fn data_refusal(a: DataAnswer) -> u32 {
     }
 }
 
-pub fn message_cells(a: MessageAnswer) -> [i64; 10] {
+pub fn message_cells(a: MessageAnswer) -> [i64; 10]
+    ensures { λ r. ⌜ r ≡ cellsOf (messageLine a) ⌝ }
+{
     match a {
         MessageAnswer::Nothing => none(13),
         MessageAnswer::Message {
@@ -181,7 +187,9 @@ pub fn message_cells(a: MessageAnswer) -> [i64; 10] {
     }
 }
 
-pub fn message_refusal(a: MessageAnswer) -> u32 {
+pub fn message_refusal(a: MessageAnswer) -> u32
+    ensures { λ r. ⌜ r ≡ messageLine a .refusal ⌝ }
+{
     match a {
         MessageAnswer::Nothing => 0,
         MessageAnswer::Message {
@@ -199,7 +207,9 @@ pub fn message_refusal(a: MessageAnswer) -> u32 {
 }
 
 // A report has the count of its words, which are the first of the lent list.
-pub fn loss_cells(a: LossAnswer) -> [i64; 10] {
+pub fn loss_cells(a: LossAnswer) -> [i64; 10]
+    ensures { λ r. ⌜ r ≡ lossCells a ⌝ }
+{
     match a {
         LossAnswer::Nothing => none(13),
         LossAnswer::Report { words } => one(6, size(words)),
@@ -207,7 +217,9 @@ pub fn loss_cells(a: LossAnswer) -> [i64; 10] {
     }
 }
 
-pub fn loss_refusal(a: LossAnswer) -> u32 {
+pub fn loss_refusal(a: LossAnswer) -> u32
+    ensures { λ r. ⌜ r ≡ countLine a .refusal ⌝ }
+{
     match a {
         LossAnswer::Nothing => 0,
         LossAnswer::Report { words: _ } => 0,
@@ -215,7 +227,9 @@ pub fn loss_refusal(a: LossAnswer) -> u32 {
     }
 }
 
-pub fn full_ack_cells(a: FullAckAnswer) -> [i64; 10] {
+pub fn full_ack_cells(a: FullAckAnswer) -> [i64; 10]
+    ensures { λ r. ⌜ r ≡ cellsOf (fullAckLine a) ⌝ }
+{
     match a {
         FullAckAnswer::Nothing => none(13),
         FullAckAnswer::Ack {
@@ -241,7 +255,9 @@ pub fn full_ack_cells(a: FullAckAnswer) -> [i64; 10] {
     }
 }
 
-pub fn full_ack_refusal(a: FullAckAnswer) -> u32 {
+pub fn full_ack_refusal(a: FullAckAnswer) -> u32
+    ensures { λ r. ⌜ r ≡ fullAckLine a .refusal ⌝ }
+{
     match a {
         FullAckAnswer::Nothing => 0,
         FullAckAnswer::Ack {
@@ -257,7 +273,9 @@ pub fn full_ack_refusal(a: FullAckAnswer) -> u32 {
     }
 }
 
-pub fn rtt_cells(a: RttAnswer) -> [i64; 10] {
+pub fn rtt_cells(a: RttAnswer) -> [i64; 10]
+    ensures { λ r. ⌜ r ≡ cellsOf (rttLine a) ⌝ }
+{
     match a {
         RttAnswer::Nothing => none(13),
         RttAnswer::Rtt { mean, variance } => two(8, small(mean), small(variance)),
@@ -265,7 +283,9 @@ pub fn rtt_cells(a: RttAnswer) -> [i64; 10] {
     }
 }
 
-pub fn rtt_refusal(a: RttAnswer) -> u32 {
+pub fn rtt_refusal(a: RttAnswer) -> u32
+    ensures { λ r. ⌜ r ≡ rttLine a .refusal ⌝ }
+{
     match a {
         RttAnswer::Nothing => 0,
         RttAnswer::Rtt {
@@ -276,49 +296,63 @@ pub fn rtt_refusal(a: RttAnswer) -> u32 {
     }
 }
 
-pub fn drop_cells(a: DropAnswer) -> [i64; 10] {
+pub fn drop_cells(a: DropAnswer) -> [i64; 10]
+    ensures { λ r. ⌜ r ≡ cellsOf (dropLine a) ⌝ }
+{
     match a {
         DropAnswer::Gone(count) => one(9, size(count)),
         DropAnswer::Refused(_) => none(3),
     }
 }
 
-pub fn drop_refusal(a: DropAnswer) -> u32 {
+pub fn drop_refusal(a: DropAnswer) -> u32
+    ensures { λ r. ⌜ r ≡ dropLine a .refusal ⌝ }
+{
     match a {
         DropAnswer::Gone(_) => 0,
         DropAnswer::Refused(n) => n,
     }
 }
 
-pub fn clear_cells(a: ClearAnswer) -> [i64; 10] {
+pub fn clear_cells(a: ClearAnswer) -> [i64; 10]
+    ensures { λ r. ⌜ r ≡ cellsOf (clearLine a) ⌝ }
+{
     match a {
         ClearAnswer::Cleared => none(12),
         ClearAnswer::Refused(_) => none(3),
     }
 }
 
-pub fn clear_refusal(a: ClearAnswer) -> u32 {
+pub fn clear_refusal(a: ClearAnswer) -> u32
+    ensures { λ r. ⌜ r ≡ clearLine a .refusal ⌝ }
+{
     match a {
         ClearAnswer::Cleared => 0,
         ClearAnswer::Refused(n) => n,
     }
 }
 
-pub fn room_cells(a: RoomAnswer) -> [i64; 10] {
+pub fn room_cells(a: RoomAnswer) -> [i64; 10]
+    ensures { λ r. ⌜ r ≡ cellsOf (roomLine a) ⌝ }
+{
     match a {
         RoomAnswer::Room(n) => one(15, size(n)),
         RoomAnswer::Refused(_) => none(3),
     }
 }
 
-pub fn room_refusal(a: RoomAnswer) -> u32 {
+pub fn room_refusal(a: RoomAnswer) -> u32
+    ensures { λ r. ⌜ r ≡ roomLine a .refusal ⌝ }
+{
     match a {
         RoomAnswer::Room(_) => 0,
         RoomAnswer::Refused(n) => n,
     }
 }
 
-pub fn clock_cells(a: ClockAnswer) -> [i64; 10] {
+pub fn clock_cells(a: ClockAnswer) -> [i64; 10]
+    ensures { λ r. ⌜ r ≡ cellsOf (clockLine a) ⌝ }
+{
     match a {
         ClockAnswer::Nothing => none(13),
         ClockAnswer::Adjusted { mean, deviation } => two(10, wider(mean), small(deviation)),
@@ -330,7 +364,9 @@ pub fn clock_cells(a: ClockAnswer) -> [i64; 10] {
     }
 }
 
-pub fn clock_refusal(a: ClockAnswer) -> u32 {
+pub fn clock_refusal(a: ClockAnswer) -> u32
+    ensures { λ r. ⌜ r ≡ clockLine a .refusal ⌝ }
+{
     match a {
         ClockAnswer::Nothing => 0,
         ClockAnswer::Adjusted {
@@ -346,7 +382,9 @@ pub fn clock_refusal(a: ClockAnswer) -> u32 {
 }
 
 // A payload that is there has its place in the payload area: where it begins, and its length.
-pub fn shown_cells(a: ShowAnswer, at: usize, len: usize) -> [i64; 10] {
+pub fn shown_cells(a: ShowAnswer, at: usize, len: usize) -> [i64; 10]
+    ensures { λ r. ⌜ r ≡ shownCells a at len ⌝ }
+{
     match a {
         ShowAnswer::Received => two(16, size(at), size(len)),
         ShowAnswer::Other => none(17),
@@ -354,7 +392,9 @@ pub fn shown_cells(a: ShowAnswer, at: usize, len: usize) -> [i64; 10] {
     }
 }
 
-pub fn shown_refusal(a: ShowAnswer) -> u32 {
+pub fn shown_refusal(a: ShowAnswer) -> u32
+    ensures { λ r. ⌜ r ≡ shownLine a .refusal ⌝ }
+{
     match a {
         ShowAnswer::Received => 0,
         ShowAnswer::Other => 0,
@@ -363,7 +403,9 @@ pub fn shown_refusal(a: ShowAnswer) -> u32 {
 }
 
 // Making answers a head, or its refusal.
-pub fn made_cells(refusal: u32) -> [i64; 10] {
+pub fn made_cells(refusal: u32) -> [i64; 10]
+    ensures { λ r. ⌜ r ≡ madeCells refusal ⌝ }
+{
     if refusal == 0 {
         return none(14);
     }
