@@ -1,0 +1,18 @@
+// The loss report: 01, "Window", with refusals 1 to 4 and 12.
+#[no_mangle]
+pub extern "C" fn pt_on_nak_event(
+    words: &mut [u64; 79],
+    answer: &mut [i64; 10],
+    slots: &mut [u64],
+    list: &mut [u32],
+    time: i64,
+) -> u32 {
+    let h = packing::unpack::unpack(words);
+    let r = receiver::loss::on_nak_event(h, slots, list, time);
+    let next = r.head;
+    let a = r.answer;
+    let n = cells::loss_refusal(a);
+    crate::keep::keep(words, n, next);
+    *answer = cells::loss_cells(a);
+    n
+}
