@@ -2,4 +2,4 @@
 pub mod pack;
 pub mod tally;
 pub mod unpack;
-mod words;
+pub mod words;

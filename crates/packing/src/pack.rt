@@ -24,7 +24,7 @@ fn put_sixteen(ws: &mut [u64; 79], at: usize, numbers: [u32; 16])
     }
 }
 
-fn put_window(ws: &mut [u64; 79], w: Window)
+pub fn put_window(ws: &mut [u64; 79], w: Window)
     ensures { λ _. ⌜ now (ws .exit) ≡ putWindow (now (ws .entry)) w ⌝ }
 {
     ws[1] = words::of_size(w.capacity);
@@ -34,7 +34,7 @@ fn put_window(ws: &mut [u64; 79], w: Window)
     ws[5] = words::of_number(w.lrsn);
 }
 
-fn put_base(ws: &mut [u64; 79], k: SynchronizedRemoteClock)
+pub fn put_base(ws: &mut [u64; 79], k: SynchronizedRemoteClock)
     ensures { λ _. ⌜ now (ws .exit) ≡ putBase (now (ws .entry)) k ⌝ }
 {
     let last = k.last;
@@ -44,7 +44,7 @@ fn put_base(ws: &mut [u64; 79], k: SynchronizedRemoteClock)
     ws[11] = words::of_time(last);
 }
 
-fn put_stats(ws: &mut [u64; 79], k: SynchronizedRemoteClock)
+pub fn put_stats(ws: &mut [u64; 79], k: SynchronizedRemoteClock)
     ensures { λ _. ⌜ now (ws .exit) ≡ putStats (now (ws .entry)) k ⌝ }
 {
     ws[12] = words::of_flag(k.seen);
@@ -86,7 +86,7 @@ fn put_links(ws: &mut [u64; 79], l: Links)
     ws[73] = words::of_time(probe);
 }
 
-fn put_history(ws: &mut [u64; 79], y: History)
+pub fn put_history(ws: &mut [u64; 79], y: History)
     ensures { λ _. ⌜ now (ws .exit) ≡ putHistory (now (ws .entry)) y ⌝ }
 {
     ws[74] = words::of_size(y.start);

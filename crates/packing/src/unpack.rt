@@ -42,7 +42,7 @@ fn are_numbers(ws: &[u64; 79], at: usize) -> bool
     ok
 }
 
-fn window(ws: &[u64; 79]) -> Window
+pub fn window(ws: &[u64; 79]) -> Window
     ensures { λ r. ⌜ r ≡ windowOf (now (ws .entry)) ⌝ }
 {
     Window {
@@ -73,7 +73,7 @@ fn stats(ws: &[u64; 79]) -> OnlineStats
     }
 }
 
-fn clock(ws: &[u64; 79]) -> SynchronizedRemoteClock
+pub fn clock(ws: &[u64; 79]) -> SynchronizedRemoteClock
     ensures { λ r. ⌜ r ≡ clockOf (now (ws .entry)) ⌝ }
 {
     SynchronizedRemoteClock {
@@ -84,7 +84,7 @@ fn clock(ws: &[u64; 79]) -> SynchronizedRemoteClock
     }
 }
 
-fn rtt(ws: &[u64; 79]) -> Rtt
+pub fn rtt(ws: &[u64; 79]) -> Rtt
     ensures { λ r. ⌜ r ≡ rttOf (now (ws .entry)) ⌝ }
 {
     Rtt {
@@ -93,7 +93,7 @@ fn rtt(ws: &[u64; 79]) -> Rtt
     }
 }
 
-fn arrivals(ws: &[u64; 79]) -> Arrivals
+pub fn arrivals(ws: &[u64; 79]) -> Arrivals
     ensures { λ r. ⌜ r ≡ arrivalsOf (now (ws .entry)) ⌝ }
 {
     Arrivals {
@@ -105,7 +105,7 @@ fn arrivals(ws: &[u64; 79]) -> Arrivals
     }
 }
 
-fn links(ws: &[u64; 79]) -> Links
+pub fn links(ws: &[u64; 79]) -> Links
     ensures { λ r. ⌜ r ≡ linksOf (now (ws .entry)) ⌝ }
 {
     Links {
@@ -116,7 +116,7 @@ fn links(ws: &[u64; 79]) -> Links
     }
 }
 
-fn history(ws: &[u64; 79]) -> History
+pub fn history(ws: &[u64; 79]) -> History
     ensures { λ r. ⌜ r ≡ historyOf (now (ws .entry)) ⌝ }
 {
     History {
@@ -146,7 +146,7 @@ fn head(ws: &[u64; 79]) -> Head
 }
 
 // The words of the window, the settings and the clock.
-fn first_formed(ws: &[u64; 79]) -> bool
+pub fn first_formed(ws: &[u64; 79]) -> bool
     ensures { λ r. ⌜ r ≡ firstFormed (now (ws .entry)) ⌝ }
 {
     (ws[4] < 0x1_0000_0000)
@@ -162,7 +162,7 @@ fn first_formed(ws: &[u64; 79]) -> bool
 }
 
 // The words of the round trip, the rates and the history.
-fn last_formed(ws: &[u64; 79]) -> bool
+pub fn last_formed(ws: &[u64; 79]) -> bool
     ensures { λ r. ⌜ r ≡ lastFormed (now (ws .entry)) ⌝ }
 {
     (ws[16] < 0x1_0000_0000)
@@ -174,7 +174,7 @@ fn last_formed(ws: &[u64; 79]) -> bool
         & (ws[78] < 0x1_0000_0000)
 }
 
-fn rates_formed(ws: &[u64; 79]) -> bool
+pub fn rates_formed(ws: &[u64; 79]) -> bool
     ensures { λ r. ⌜ r ≡ ratesFormed (now (ws .entry)) ⌝ }
 {
     are_numbers(ws, 18) & are_numbers(ws, 34) & are_numbers(ws, 54)

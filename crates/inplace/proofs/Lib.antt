@@ -1,0 +1,2 @@
+-- The laws of calls on words: `Sounds` is for sound.rt.
+pub mod Sounds
