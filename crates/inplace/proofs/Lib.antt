@@ -1,2 +1,3 @@
 -- The laws of calls on words: `Sounds` is for sound.rt.
 pub mod Sounds
+pub mod Messages

@@ -218,7 +218,7 @@ shuffle true true true false k true true true true y z = refl
 shuffle true true true true false true true true true y z = refl
 shuffle true true true true true true true true true y z = refl
 
-no-range : headOk nowhere ≡ false
+pub no-range : headOk nowhere ≡ false
 unfolding headOk freshHead
 no-range = refl
 

@@ -1,22 +1,24 @@
 -- How the code of message.rt pops on words. `Calls` says what comes of it.
+use mathlib.Core.Path.{_≡_}
+use mathlib.Core.Bool.{true}
 use mathlib.Core.List.{List}
 use Prim.Native.Nat.{ℕ}
 use lib.IntN.{ℤ}
 use lib.ListN.{set}
 use Rattle.clock.specs.declared.time.SynchronizedRemoteClock.{SynchronizedRemoteClock}
 use Rattle.window.specs.declared.Window.{Window}
-use Rattle.window_pop.specs.Pop.{PopOutcome, popOf}
+use Rattle.window_pop.specs.Pop.{PopReady, PopOutcome, popOf}
 use Rattle.window_pop.specs.declared.pop.PopAnswer.{PopAnswer}
 use Rattle.window_pop.specs.declared.pop.PopAnswer.the-variants as pops
 use Rattle.head.specs.Rules.{firstRefusal, popRules}
 use Rattle.head.specs.Head.{headOk}
-use Rattle.receiver.specs.Message.{answerOf}
+use Rattle.receiver.specs.Message.{answerOf, takenOf}
 use Rattle.receiver.specs.declared.message.MessageAnswer.{MessageAnswer}
 use Rattle.receiver.specs.declared.message.MessageAnswer.the-variants as answers
 use Rattle.packing.specs.Words.{wordOf, wholeOf, numberOf, flagOf}
-use Rattle.packing.specs.Packed.{at, windowOf, clockOf, unpackOf}
+use Rattle.packing.specs.Packed.{at, windowOf, clockOf, headOf, formed, packOf, unpackOf}
 use Rattle.packing.specs.Puts.{putWindow, putBase, putStats}
-use Rattle.inplace.specs.Calls.{PopIn, popIn}
+use Rattle.inplace.specs.Calls.{keptOr, PopIn, popIn}
 
 -- the window and clock after a pop, and the reading as the latest
 unfoldable pub putPopped : List ℕ → Window → SynchronizedRemoteClock → ℤ → List ℕ
@@ -46,3 +48,13 @@ releasedOf ws slots bs out now = settledBy ws now (popOf (clockOf ws) (numberOf 
 
 unfoldable pub popRefusal : List ℕ → ℕ → ℕ → ℤ → ℕ
 popRefusal ws slots bytes now = firstRefusal (popRules (headOk (unpackOf ws)) (at ws 1) slots bytes now (wholeOf (at ws 0)))
+
+-- once nothing refuses it: the words say a head, and the window asks for this
+pub record Popping (ws slots bs : List ℕ) (now : ℤ) : Type 0 where
+  pub says : formed ws ≡ true
+  pub ready : PopReady (clockOf ws) (numberOf (at ws 6)) (windowOf ws) slots bs now
+
+-- the call on that head
+abbrev pub messageTaken : List ℕ → List ℕ → List ℕ → List ℕ → ℤ → PopIn
+messageTaken ws slots bs out now =
+    let o = takenOf (headOf ws) slots bs out now in popIn (o .given .answer) (keptOr (o .line .refusal) (packOf (o .given .head)) ws) (o .output)

@@ -1,7 +1,9 @@
 -- How the words of a head are found in range without making the head. What is found is `headOk` of the head that the words say.
 use mathlib.Core.Bool.{Bool, _&&_}
 use mathlib.Core.List.{List}
-use Prim.Native.Nat.{ℕ, zero, suc, _+_, _%_, _^_}
+use mathlib.Core.Path.{_≡_}
+use Prim.Native.Nat.{ℕ, zero, suc, _+_, _%_, _^_, _<_}
+use lib.ListN.{length}
 use lib.Bits.{bitOr}
 use lib.Dec.{ltb, leb}
 use Rattle.numbers.specs.Whole.{isReading}
@@ -12,6 +14,11 @@ use Rattle.acks.specs.History.{historyOk}
 use Rattle.head.specs.Head.{windowOk}
 use Rattle.packing.specs.Words.{wholeOf, numberOf, momentOf}
 use Rattle.packing.specs.Packed.{at, windowOf, clockOf, rttOf, historyOf}
+
+-- 79 words of 64 bits
+pub record Typed (ws : List ℕ) : Type 0 where
+  pub long : length ws ≡ 79
+  pub small : (i : ℕ) → at ws i < 2 ^ 64
 
 -- the bits of n words from word i on; and of n sizes, each raised so that one over 1,456 comes to 2,048
 unfoldable pub bitsTo : List ℕ → ℕ → ℕ → ℕ

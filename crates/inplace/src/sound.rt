@@ -6,9 +6,21 @@ ghost use Rattle.acks.specs.Rates.{arrivalsOk, linksOk, timeOk};
 ghost use Rattle.head.specs.Head.{headOk};
 ghost use Rattle.packing.specs.Words.{momentOf};
 ghost use Rattle.packing.specs.Packed.{arrivalsOf, linksOf, ratesFormed, unpackOf};
-ghost use Rattle.inplace.specs.Sound.{bitsTo, raisedTo, allSmall, placesOk, partsOk};
+ghost use Rattle.inplace.specs.Sound.{Typed, bitsTo, raisedTo, allSmall, placesOk, partsOk};
 use packing::unpack;
 use packing::words;
+
+// What the type says of the words: 79 of 64 bits. A copy tells the proof so, and the compiler drops it.
+fn told(ws: [u64; 79])
+    ensures { λ _. ⌜ Typed ws ⌝ }
+{}
+
+pub fn typed(ws: &[u64; 79])
+    ensures { λ _. ⌜ Typed (now (ws .entry)) ⌝ }
+{
+    let copy = *ws;
+    told(copy);
+}
 
 // The bits of sixteen words, from word `at` on, all together.
 fn bits(ws: &[u64; 79], at: usize) -> u64
