@@ -49,7 +49,7 @@ module _ (ws : List ℕ) (w : Window) (k : SynchronizedRemoteClock) (now : ℤ) 
   pub settle-short : {a : PopAnswer} → a ≡ pops.OutShort → settled (answers.Refused 11) ws ≡ settledOf ws w k a now
   settle-short e = rw e
 
-says-head : (ws : List ℕ) → formed ws ≡ true → unpackOf ws ≡ headOf ws
+pub says-head : (ws : List ℕ) → formed ws ≡ true → unpackOf ws ≡ headOf ws
 unfolding unpackOf
 says-head ws f = rw f
 

@@ -20,13 +20,13 @@ use Rattle.window.specs.declared.push.PushAnswer.{PushAnswer}
 use Rattle.window.specs.declared.push.PushAnswer.the-variants as pushes
 use Rattle.head.specs.Rules.{firstRefusal, pushRules}
 use Rattle.head.specs.Head.{headOk}
-use Rattle.receiver.specs.Data.{refusedBy, gotAnswer}
+use Rattle.receiver.specs.Data.{refusedBy, gotAnswer, takenOf}
 use Rattle.receiver.specs.declared.data.DataAnswer.{DataAnswer}
 use Rattle.receiver.specs.declared.data.DataAnswer.the-variants as answers
 use Rattle.packing.specs.Words.{wordOf, wholeOf, momentOf}
-use Rattle.packing.specs.Packed.{at, windowOf, historyOf, unpackOf}
+use Rattle.packing.specs.Packed.{at, windowOf, historyOf, headOf, formed, packOf, unpackOf}
 use Rattle.packing.specs.Puts.{putWindow, putHistory}
-use Rattle.inplace.specs.Calls.{DataLeft, dataLeft}
+use Rattle.inplace.specs.Calls.{keptOr, DataLeft, dataLeft}
 
 -- the last arrival
 unfoldable pub putLast : List ℕ → ℤ → List ℕ
@@ -78,9 +78,9 @@ afterPushIn ws w (pushes.PacketTooEarly room need) now number size = heard (answ
 afterPushIn ws w pushes.PacketTooLate now number size = heard (answers.Refused 9) ws
 afterPushIn ws w pushes.DiscardedDuplicate now number size = heard (answers.Refused 10) ws
 
-unfoldable pub takenIn : List ℕ → List ℕ → List ℕ → ℤ → Packet → List ℕ → DataLeft
-takenIn ws slots bs now p payload =
-    let o = pushOf (windowOf ws) slots bs (natAbs now) p payload in
+unfoldable pub takenBy : List ℕ → Window → List ℕ → List ℕ → ℤ → Packet → List ℕ → DataLeft
+takenBy ws w slots bs now p payload =
+    let o = pushOf w slots bs (natAbs now) p payload in
     let x = afterPushIn ws (o .pushed .window) (o .pushed .answer) now (p .number) (length payload) in
     dataLeft (x .answer) (x .words) (o .slots) (o .payloads)
 
@@ -92,12 +92,23 @@ pub record Rates (ws : List ℕ) : Type 0 where
   pub pairs : at ws 71 ≤ 16
 
 -- and the call, once nothing refuses it
-pub record TakeReady (ws slots bs : List ℕ) (now : ℤ) (p : Packet) (payload : List ℕ) : Type 0 where
+pub record TakeReady (ws : List ℕ) (w : Window) (slots bs : List ℕ) (now : ℤ) (p : Packet) (payload : List ℕ) : Type 0 where
   pub rates : Rates ws
   pub reading : isReading now ≡ true
-  pub good : Good (windowOf ws) slots
-  pub payloads : Bytes (windowOf ws) bs
+  pub good : Good w slots
+  pub payloads : Bytes w bs
   pub right : Right p payload
+
+-- the words say a head as well
+pub record Pushing (ws slots bs : List ℕ) (now : ℤ) (p : Packet) (payload : List ℕ) : Type 0 where
+  pub says : formed ws ≡ true
+  pub ready : TakeReady ws (windowOf ws) slots bs now p payload
+
+-- the call on that head
+abbrev pub dataTaken : List ℕ → List ℕ → List ℕ → ℤ → Packet → List ℕ → DataLeft
+dataTaken ws slots bs now p payload =
+    let o = takenOf (headOf ws) slots bs now p payload in
+    dataLeft (o .handled .answer) (keptOr (o .line .refusal) (packOf (o .handled .head)) ws) (o .slots) (o .payloads)
 
 unfoldable pub pushRefusal : List ℕ → ℕ → ℕ → ℤ → Packet → ℕ → ℕ
 pushRefusal ws slots bytes now p size = firstRefusal (pushRules (headOk (unpackOf ws)) (at ws 1) slots bytes now (wholeOf (at ws 0)) p size)
