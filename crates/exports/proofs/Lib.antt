@@ -1,0 +1,2 @@
+-- The laws of the calls on words.
+pub mod Boundary
