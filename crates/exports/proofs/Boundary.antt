@@ -1,6 +1,6 @@
 -- Each call on words, from what packing, the receiver, the counters and the cells promise and nothing else. A signed number stands twice, as it is and as the
 -- machine reads it back. Assumes nothing.
-use mathlib.Core.Path.{_≡_, refl, sym, _∙_, ap}
+use mathlib.Core.Path.{_≡_, sym, _∙_, ap}
 use mathlib.Core.Bool.{Bool}
 use mathlib.Core.List.{List, [], _∷_}
 use Prim.Native.Nat.{ℕ}
@@ -13,7 +13,7 @@ use Rattle.window.specs.declared.show.Place.{Place}
 use Rattle.head.specs.Head.{madeOf}
 use Rattle.head.specs.declared.state.Head.{Head}
 use Rattle.head.specs.declared.state.Made.{Made}
-use Rattle.receiver.specs.Paper.{dataLine, messageLine, lossLine, fullAckLine, rttLine, dropLine, clearLine, roomLine, shownLine, clockLine}
+use Rattle.receiver.specs.Paper.{dataLine, messageLine, fullAckLine, rttLine, dropLine, clearLine, roomLine, shownLine, clockLine}
 use Rattle.receiver.specs.Acking.{fullAckEnded, fullAckEventOf, ack2Ended, ack2PacketOf}
 use Rattle.receiver.specs.Data.{dataEnded, dataOf}
 use Rattle.receiver.specs.Loss.{lossEnded, lossOf}
@@ -32,12 +32,12 @@ use Rattle.receiver.specs.declared.request.Cleared.{Cleared}
 use Rattle.receiver.specs.declared.show.ShowAnswer.{ShowAnswer}
 use Rattle.receiver.specs.declared.sync.Clocked.{Clocked}
 use Rattle.counts.specs.declared.Counters.{Counters}
-use Rattle.counters.specs.Calls.{Counted, counted, dataCounted, ack2Counted, dropCounted, clockCounted}
+use Rattle.counters.specs.Calls.{counted, dataCounted, ack2Counted, dropCounted, clockCounted}
 use Rattle.packing.specs.Packed.{packOf, unpackOf}
 use Rattle.packing.specs.Tally.{countersWords, countersOf}
 use Rattle.cells.specs.Cells.{cellsOf, countLine, lossCells, shownCells, madeCells}
 use Rattle.cells.proofs.Answers.{count-refusal}
-use Rattle.exports.specs.Calls.{Left, left, kept, fromMade, fromData, fromMessage, fromLoss, fromFullAck, fromAck2, fromClock, fromClear, fromDrop, fromRoom, fromShown, counting, newOf, dataExportOf, messageExportOf, lossExportOf, fullAckExportOf, ack2ExportOf, dropExportOf, clockExportOf, clearExportOf, roomExportOf, showExportOf, dataCountedOf, ack2CountedOf, dropCountedOf, clockCountedOf}
+use Rattle.exports.specs.Calls.{left, kept, fromMade, fromData, fromMessage, fromLoss, fromFullAck, fromAck2, fromClock, fromClear, fromDrop, fromRoom, counting, newOf, dataExportOf, messageExportOf, lossExportOf, fullAckExportOf, ack2ExportOf, dropExportOf, clockExportOf, clearExportOf, roomExportOf, showExportOf, dataCountedOf, ack2CountedOf, dropCountedOf, clockCountedOf}
 
 -- keep
 pub keeps : (ws : List ℕ) (n : ℕ) (h : Head) {vs : List ℕ} → n ≡ 0 → vs ≡ packOf h → vs ≡ kept ws n h

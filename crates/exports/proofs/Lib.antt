@@ -1,2 +1,4 @@
--- The laws of the calls on words.
+-- The laws of the calls on words: `Boundary` is for the code, `Determined` and `Refused` say what a caller has of the calls.
 pub mod Boundary
+pub mod Determined
+pub mod Refused
