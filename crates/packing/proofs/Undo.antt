@@ -110,8 +110,7 @@ module _ (h : Head) (o : Holds h) where
   unfolding packOf
   clock-back =
       let k = h .clock in
-      let g = o .clock in
-      rw (whole-back (k .base .time) (g .time), number-back (k .base .stamp) (g .stamp), time-back (k .last) (g .last), flag-back (k .seen), ofBits-toBits binary64 (k .stats .mean) (g .mean), ofBits-toBits binary64 (k .stats .squares) (g .squares), number-back (k .stats .count) (g .count))
+      rw (whole-back (k .base .time) (o .base .time), number-back (k .base .stamp) (o .base .stamp), time-back (k .last) (o .base .last), flag-back (k .seen), ofBits-toBits binary64 (k .stats .mean) (o .stats .mean), ofBits-toBits binary64 (k .stats .squares) (o .stats .squares), number-back (k .stats .count) (o .stats .count))
 
   rtt-back : rttOf ws ≡ h .rtt
   unfolding packOf
@@ -172,9 +171,8 @@ module _ (h : Head) (o : Holds h) where
   unfolding packOf
   first-fits =
       let k = h .clock in
-      let g = o .clock in
       rw
-      (lt-ltb (h .window .seqno0) (2 ^ 32) (o .window .seqno0), lt-ltb (h .window .lrsn) (2 ^ 32) (o .window .lrsn), lt-ltb (h .latency) (2 ^ 32) (o .latency), flag-fits (h .dropping), lt-ltb (k .base .stamp) (2 ^ 32) (g .stamp), time-fits (k .last), flag-fits (k .seen), double-fits (k .stats .mean) (g .mean), double-fits (k .stats .squares) (g .squares), lt-ltb (k .stats .count) (2 ^ 32) (g .count))
+      (lt-ltb (h .window .seqno0) (2 ^ 32) (o .window .seqno0), lt-ltb (h .window .lrsn) (2 ^ 32) (o .window .lrsn), lt-ltb (h .latency) (2 ^ 32) (o .latency), flag-fits (h .dropping), lt-ltb (k .base .stamp) (2 ^ 32) (o .base .stamp), time-fits (k .last), flag-fits (k .seen), double-fits (k .stats .mean) (o .stats .mean), double-fits (k .stats .squares) (o .stats .squares), lt-ltb (k .stats .count) (2 ^ 32) (o .stats .count))
 
   rates-fit : ratesFormed ws ≡ true
   unfolding packOf numbersWords numbersFormed
