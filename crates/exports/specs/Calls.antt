@@ -22,46 +22,53 @@ use Rattle.packing.specs.Packed.{packOf, unpackOf}
 use Rattle.packing.specs.Tally.{countersWords, countersOf}
 use Rattle.cells.specs.Cells.{cellsOf, lossCells, shownCells, madeCells}
 
--- all that a call leaves: the number that it returns, the head's words, the answer's cells, and each area that it may write
+-- all that a call leaves: the number that it returns, the head's words and the head that they say, the answer's cells, and each area that it may write
 pub record Left : Type 0 where
   pub returned : ℕ
   pub words : List ℕ
+  pub says : Head
   pub cells : List ℤ
   pub areas : List (List ℕ)
 
 abbrev pub left : ℕ → List ℕ → List ℤ → List (List ℕ) → Left
-left n ws cells areas = record { returned = n; words = ws; cells = cells; areas = areas }
+left n ws cells areas = record { returned = n; words = ws; says = unpackOf ws; cells = cells; areas = areas }
 
--- the head's words after a call: those of its head, and on a refusal the same
+-- the head's words after a call: those of its head, and on a refusal the same; and what they say, so that the next call begins with the head that this one ended with
 abbrev pub kept : List ℕ → ℕ → Head → List ℕ
 kept ws refusal h = cond (eqb refusal 0) (packOf h) ws
+
+abbrev pub saying : List ℕ → ℕ → Head → Head
+saying ws refusal h = cond (eqb refusal 0) h (unpackOf ws)
+
+abbrev pub after : List ℕ → ℕ → Head → List ℤ → List (List ℕ) → Left
+after ws refusal h cells areas = record { returned = refusal; words = kept ws refusal h; says = saying ws refusal h; cells = cells; areas = areas }
 
 -- each outcome of the receiver on words
 module _ (ws : List ℕ) where
   abbrev pub fromMade : Made → Left
-  fromMade m = left (m .refusal) (kept ws (m .refusal) (m .head)) (madeCells (m .refusal)) []
+  fromMade m = after ws (m .refusal) (m .head) (madeCells (m .refusal)) []
 
   abbrev pub fromData : DataOutcome → Left
-  fromData o = left (o .line .refusal) (kept ws (o .line .refusal) (o .handled .head)) (cellsOf (o .line)) (o .slots ∷ o .payloads ∷ [])
+  fromData o = after ws (o .line .refusal) (o .handled .head) (cellsOf (o .line)) (o .slots ∷ o .payloads ∷ [])
 
   abbrev pub fromMessage : GivenOutcome → Left
-  fromMessage o = left (o .line .refusal) (kept ws (o .line .refusal) (o .given .head)) (cellsOf (o .line)) (o .output ∷ [])
+  fromMessage o = after ws (o .line .refusal) (o .given .head) (cellsOf (o .line)) (o .output ∷ [])
 
   -- the words of a report lie in the lent list; its answer has their count
   abbrev pub fromLoss : LossOutcome → Left
-  fromLoss o = left (o .line .refusal) (kept ws (o .line .refusal) (o .reported .head)) (lossCells (o .reported .answer)) (o .slots ∷ o .list ∷ [])
+  fromLoss o = after ws (o .line .refusal) (o .reported .head) (lossCells (o .reported .answer)) (o .slots ∷ o .list ∷ [])
 
   abbrev pub fromFullAck : FullAckOutcome → Left
-  fromFullAck o = left (o .line .refusal) (kept ws (o .line .refusal) (o .acked .head)) (cellsOf (o .line)) (o .area ∷ [])
+  fromFullAck o = after ws (o .line .refusal) (o .acked .head) (cellsOf (o .line)) (o .area ∷ [])
 
   abbrev pub fromAck2 : Ack2Outcome → Left
-  fromAck2 o = left (o .line .refusal) (kept ws (o .line .refusal) (o .acked2 .head)) (cellsOf (o .line)) []
+  fromAck2 o = after ws (o .line .refusal) (o .acked2 .head) (cellsOf (o .line)) []
 
   abbrev pub fromClock : ClockOutcome → Left
-  fromClock o = left (o .line .refusal) (kept ws (o .line .refusal) (o .clocked .head)) (cellsOf (o .line)) []
+  fromClock o = after ws (o .line .refusal) (o .clocked .head) (cellsOf (o .line)) []
 
   abbrev pub fromClear : ClearOutcome → Left
-  fromClear o = left (o .line .refusal) (kept ws (o .line .refusal) (o .cleared .head)) (cellsOf (o .line)) []
+  fromClear o = after ws (o .line .refusal) (o .cleared .head) (cellsOf (o .line)) []
 
   -- a drop request and the questions leave the head
   abbrev pub fromDrop : DropOutcome → Left
@@ -77,7 +84,7 @@ module _ (ws : List ℕ) where
 abbrev pub counting : {A : Type 0} → (A → Left) → Counted A → Left
 counting from o =
     let l = from (o .outcome) in
-    left (l .returned) (l .words) (l .cells) (countersWords (o .counters) ∷ l .areas)
+    record { returned = l .returned; words = l .words; says = l .says; cells = l .cells; areas = countersWords (o .counters) ∷ l .areas }
 
 -- the calls; ws are the head's words
 module _ (ws : List ℕ) where

@@ -26,7 +26,8 @@ returns c =
     (d .handle-data-packet .ensures)
     (toZ-ofZ (start .fits .time))
     (r .data-refusal .ensures)
-    (c .before .before .keep .ensures)
+    (c .before .before .keep .ensures .0)
+    (c .before .before .keep .ensures .1)
     (c .data-cells .ensures)
 
 pub pt-counted-handle-data-packet-spec : {M : Type 1} → statement M
