@@ -188,7 +188,7 @@ module _ (h : Head) (o : Holds h) where
 
   pub all-formed : formed (packOf h) ≡ true
   unfolding formed
-  all-formed = rw (first-fits, rates-fit, last-fits)
+  all-formed = rw (first-fits, last-fits, rates-fit)
 
   pub unpack-pack : unpackOf (packOf h) ≡ h
   unfolding unpackOf
@@ -280,18 +280,18 @@ highTests ws =
 
 -- each part's words from the part that they say
 module _ (ws : List ℕ) (small : (i : ℕ) → at ws i < 2 ^ 64) (f : formed ws ≡ true) where
-  parts : Each (firstFormed ws ∷ ratesFormed ws ∷ lastFormed ws ∷ [])
+  parts : Each (firstFormed ws ∷ lastFormed ws ∷ ratesFormed ws ∷ [])
   unfolding formed
-  parts = each true (firstFormed ws ∷ ratesFormed ws ∷ lastFormed ws ∷ []) f
+  parts = each true (firstFormed ws ∷ lastFormed ws ∷ ratesFormed ws ∷ []) f
 
   low : Each (lowTests ws)
   low = each true (lowTests ws) (parts .0)
 
   middle : Each (rateTests ws)
-  middle = each true (rateTests ws) (parts .1 .0)
+  middle = each true (rateTests ws) (parts .1 .1 .0)
 
   high : Each (highTests ws)
-  high = each true (highTests ws) (parts .1 .1 .0)
+  high = each true (highTests ws) (parts .1 .0)
 
   -- a word that was tested, read as a number
   is : (i : ℕ) → numberFormed (at ws i) ≡ true → numberOf (at ws i) ≡ at ws i
