@@ -1,4 +1,9 @@
 // The four calls that count, with the ten counters beside the head: 01, "Counters follow 003". Refusals 7 to 10 still count.
+ghost use mathlib.Core.Path.{_≡_};
+ghost use mathlib.Core.List.{[], _∷_};
+ghost use Rattle.receiver.specs.Data.{packet};
+ghost use Rattle.exports.specs.Calls.{left, ack2CountedOf, clockCountedOf, dataCountedOf, dropCountedOf};
+
 #[no_mangle]
 pub extern "C" fn pt_counted_handle_data_packet(
     words: &mut [u64; 79],
@@ -12,7 +17,9 @@ pub extern "C" fn pt_counted_handle_data_packet(
     location: u32,
     stamp: u32,
     payload: &[u8],
-) -> u32 {
+) -> u32
+    ensures { λ r. ⌜ left r (now (words .exit)) (now (answer .exit)) (now (counts .exit) ∷ now (slots .exit) ∷ now (payloads .exit) ∷ []) ≡ dataCountedOf (now (words .entry)) (now (counts .entry)) (now (slots .entry)) (now (payloads .entry)) time (packet number message location stamp) (now (payload .entry)) ⌝ }
+{
     let h = packing::unpack::unpack(words);
     let c = packing::tally::counters(counts);
     let r = counters::data::handle_data_packet(
@@ -46,7 +53,9 @@ pub extern "C" fn pt_counted_handle_ack2_packet(
     history: &[u64],
     time: i64,
     number: u32,
-) -> u32 {
+) -> u32
+    ensures { λ r. ⌜ left r (now (words .exit)) (now (answer .exit)) (now (counts .exit) ∷ []) ≡ ack2CountedOf (now (words .entry)) (now (counts .entry)) (now (history .entry)) time number ⌝ }
+{
     let h = packing::unpack::unpack(words);
     let c = packing::tally::counters(counts);
     let r = counters::acking::handle_ack2_packet(c, h, history, time, number);
@@ -69,7 +78,9 @@ pub extern "C" fn pt_counted_handle_drop_request(
     slots: &mut [u64],
     first: u32,
     last: u32,
-) -> u32 {
+) -> u32
+    ensures { λ r. ⌜ left r (now (words .entry)) (now (answer .exit)) (now (counts .exit) ∷ now (slots .exit) ∷ []) ≡ dropCountedOf (now (words .entry)) (now (counts .entry)) (now (slots .entry)) first last ⌝ }
+{
     let h = packing::unpack::unpack(words);
     let c = packing::tally::counters(counts);
     let r = counters::request::handle_drop_request(c, h, slots, first, last);
@@ -87,7 +98,9 @@ pub extern "C" fn pt_counted_synchronize_clock(
     answer: &mut [i64; 10],
     time: i64,
     stamp: u32,
-) -> u32 {
+) -> u32
+    ensures { λ r. ⌜ left r (now (words .exit)) (now (answer .exit)) (now (counts .exit) ∷ []) ≡ clockCountedOf (now (words .entry)) (now (counts .entry)) time stamp ⌝ }
+{
     let h = packing::unpack::unpack(words);
     let c = packing::tally::counters(counts);
     let r = counters::sync::synchronize_clock(c, h, time, stamp);

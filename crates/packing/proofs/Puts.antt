@@ -1,12 +1,16 @@
 -- What the code of pack.rt does at each return and each turn, and that the words so written are the head's; the proof files hand these laws to `search`.
 -- Assumes nothing.
 use mathlib.Core.Path.{_≡_, refl, _∙_, ap}
-use mathlib.Core.Bool.{Bool}
+use mathlib.Core.Bool.{Bool, true}
 use mathlib.Core.List.{List}
-use Prim.Native.Nat.{ℕ, _+_, _≤_}
+use Prim.Native.Nat.{ℕ, _+_, _^_, _≤_}
+use native.Mathlib.Nat.{zero-add}
 use native.Mathlib.Numerals.{add-one}
 use native.Mathlib.Omega.{arith}
 use borrow.Author.Needs.{needs}
+use borrow.Author.Tests.{lt-ltb}
+use mir.Syntax.{w32}
+use mir.Val.{Fits}
 use lib.IntN.{ℤ}
 use lib.ListN.{getD, set, replicate}
 use Rattle.clock.specs.declared.time.SynchronizedRemoteClock.{SynchronizedRemoteClock}
@@ -17,7 +21,7 @@ use Rattle.acks.specs.declared.rtt.Rtt.{Rtt}
 use Rattle.window.specs.declared.Window.{Window}
 use Rattle.head.specs.declared.state.Head.{Head}
 use Rattle.packing.specs.Words.{wordOf, bitsOf, flagWord, setWord, timeWord}
-use Rattle.packing.specs.Packed.{numbersWords, packOf}
+use Rattle.packing.specs.Packed.{numbersWords, numbersFormed, packOf}
 use Rattle.packing.specs.Puts.{putNumbers, putSettings, putWindow, putBase, putStats, putRtt, putArrivals, putLinks, putHistory, putHead}
 
 -- the loop of sixteen
@@ -33,6 +37,20 @@ pub put-end : (ws : List ℕ) (i : ℕ) (ns : List ℕ) (n : ℕ) {vs : List ℕ
 put-end ws i ns n p h g =
     let e : n ≡ 16 = omega arith in
     p ∙ ap (putNumbers ws i ns) e
+
+-- and that what is put are numbers
+pub fit-start : (ns : List ℕ) → numbersFormed ns 0 0 ≡ true
+unfolding numbersFormed
+fit-start ns = refl
+
+pub fit-turn : (ns : List ℕ) (n : ℕ) → numbersFormed ns 0 n ≡ true → Fits w32 (getD ns n 0) → numbersFormed ns 0 (n + 1) ≡ true
+unfolding numbersFormed
+fit-turn ns n p f = rw (add-one, p, zero-add, lt-ltb (getD ns n 0) (2 ^ 32) (f .fits))
+
+pub fit-end : (ns : List ℕ) (n : ℕ) → numbersFormed ns 0 n ≡ true → n ≤ 16 → 16 ≤ n → numbersFormed ns 0 16 ≡ true
+fit-end ns n p h g =
+    let e : 16 ≡ n = omega arith in
+    rw e p
 
 module _ (ws : List ℕ) where
   -- the parts
@@ -93,4 +111,4 @@ pub puts-all : (h : Head) {z : ℤ} {a b c d e f g r : List ℕ}
     → r ≡ packOf h
 puts-all h a z b c d e f g r = rw (r, g, f, e, d, c, b, a, z) (puts-head h)
 
-pub ruleset puts = (put-start, put-turn, put-end, puts-settings, puts-window, puts-base, puts-stats, puts-rtt, puts-arrivals, puts-links, puts-history, puts-all, needs)
+pub ruleset puts = (put-start, put-turn, put-end, fit-start, fit-turn, fit-end, puts-settings, puts-window, puts-base, puts-stats, puts-rtt, puts-arrivals, puts-links, puts-history, puts-all, needs)

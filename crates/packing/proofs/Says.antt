@@ -156,9 +156,13 @@ module _ (ws : List ℕ) where
       ≡ lastFormed ws
   tests-last a b = rw (a, b)
 
-  pub tests-all : {a b c : Bool} → a ≡ firstFormed ws → b ≡ ratesFormed ws → c ≡ lastFormed ws → (a && b && c) ≡ formed ws
+  pub tests-all : {a b c : Bool} → a ≡ firstFormed ws → b ≡ lastFormed ws → (a && b) ≡ true → c ≡ ratesFormed ws → c ≡ formed ws
   unfolding formed
-  tests-all a b c = rw (a, b, c)
+  tests-all a b e c = rw (sym a, sym b, e, sym c)
+
+  pub tests-not : {a b : Bool} → a ≡ firstFormed ws → b ≡ lastFormed ws → (a && b) ≡ false → false ≡ formed ws
+  unfolding formed
+  tests-not a b e = rw (sym a, sym b, e)
 
   pub says : {b : Bool} {h : Head} → b ≡ formed ws → b ≡ true → h ≡ headOf ws → h ≡ unpackOf ws
   unfolding unpackOf
@@ -168,4 +172,4 @@ module _ (ws : List ℕ) where
   unfolding unpackOf
   says-not p e q = rw (sym p ∙ e, q)
 
-pub ruleset says-all = (no-capacity, read-start, read-turn, read-end, test-start, test-turn, test-end, says-window, says-base, says-stats, says-clock, says-rtt, says-arrivals, says-links, says-history, says-head, tests-first, tests-rates, tests-last, tests-all, says, says-not, needs)
+pub ruleset says-all = (no-capacity, read-start, read-turn, read-end, test-start, test-turn, test-end, says-window, says-base, says-stats, says-clock, says-rtt, says-arrivals, says-links, says-history, says-head, tests-first, tests-rates, tests-last, tests-all, tests-not, says, says-not, needs)

@@ -19,6 +19,7 @@ use Rattle.numbers.specs.declared.instant.Moment.the-variants.{Unset, At}
 use Rattle.numbers.proofs.Flags.{impossible}
 use Rattle.numbers.proofs.Halves.{same, in-range, above--, below--}
 use Rattle.numbers.proofs.Signs.{signed-low, signed-high}
+use Rattle.packing.specs.Holds.{Time}
 use Rattle.packing.specs.Words.{wordOf, wholeOf, flagWord, timeWord, momentOf}
 use Rattle.packing.proofs.Floats.{itself, nan-bits, no-nan-bits, quotient-nan, float-tests}
 
@@ -73,10 +74,16 @@ flag-byte false = refl
 pub time-at : (m : Moment) (t : ℤ) {t₁ : ℤ} {w : ℕ} → m ≡ At t → w ≡ wordOf t₁ → t₁ ≡ t → w ≡ timeWord m
 time-at m t e p q = rw e (p ∙ ap wordOf q)
 
+pub time-holds : (m : Moment) (t : ℤ) → m ≡ At t → SFits w64 t → Time m
+time-holds m t e f = rw e (f .sfits)
+
+pub unset-holds : (m : Moment) → m ≡ Unset → Time m
+unset-holds m e = rw e tt
+
 pub moment-at : (s w : ℕ) {z z₁ : ℤ} → s ≡ 1 → z ≡ wholeOf w → z₁ ≡ z → At z₁ ≡ momentOf s w
 moment-at s w e p q = rw (eq-eqb s 1 e) (ap At (q ∙ p))
 
 pub moment-unset : (s w : ℕ) → (s ≡ 1 → ⊥) → Unset ≡ momentOf s w
 moment-unset s w n = rw (ne-eqb s 1 n)
 
-pub ruleset steps = (word-above, word-below, whole-low, negated-fits, lessened-fits, whole-high, itself, nan-bits, no-nan-bits, quotient-nan, float-tests, flag-byte, time-at, moment-at, moment-unset, needs)
+pub ruleset steps = (word-above, word-below, whole-low, negated-fits, lessened-fits, whole-high, itself, nan-bits, no-nan-bits, quotient-nan, float-tests, flag-byte, time-at, time-holds, unset-holds, moment-at, moment-unset, needs)

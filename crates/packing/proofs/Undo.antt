@@ -110,8 +110,7 @@ module _ (h : Head) (o : Holds h) where
   unfolding packOf
   clock-back =
       let k = h .clock in
-      let g = o .clock in
-      rw (whole-back (k .base .time) (g .time), number-back (k .base .stamp) (g .stamp), time-back (k .last) (g .last), flag-back (k .seen), ofBits-toBits binary64 (k .stats .mean) (g .mean), ofBits-toBits binary64 (k .stats .squares) (g .squares), number-back (k .stats .count) (g .count))
+      rw (whole-back (k .base .time) (o .base .time), number-back (k .base .stamp) (o .base .stamp), time-back (k .last) (o .base .last), flag-back (k .seen), ofBits-toBits binary64 (k .stats .mean) (o .stats .mean), ofBits-toBits binary64 (k .stats .squares) (o .stats .squares), number-back (k .stats .count) (o .stats .count))
 
   rtt-back : rttOf ws ≡ h .rtt
   unfolding packOf
@@ -172,9 +171,8 @@ module _ (h : Head) (o : Holds h) where
   unfolding packOf
   first-fits =
       let k = h .clock in
-      let g = o .clock in
       rw
-      (lt-ltb (h .window .seqno0) (2 ^ 32) (o .window .seqno0), lt-ltb (h .window .lrsn) (2 ^ 32) (o .window .lrsn), lt-ltb (h .latency) (2 ^ 32) (o .latency), flag-fits (h .dropping), lt-ltb (k .base .stamp) (2 ^ 32) (g .stamp), time-fits (k .last), flag-fits (k .seen), double-fits (k .stats .mean) (g .mean), double-fits (k .stats .squares) (g .squares), lt-ltb (k .stats .count) (2 ^ 32) (g .count))
+      (lt-ltb (h .window .seqno0) (2 ^ 32) (o .window .seqno0), lt-ltb (h .window .lrsn) (2 ^ 32) (o .window .lrsn), lt-ltb (h .latency) (2 ^ 32) (o .latency), flag-fits (h .dropping), lt-ltb (k .base .stamp) (2 ^ 32) (o .base .stamp), time-fits (k .last), flag-fits (k .seen), double-fits (k .stats .mean) (o .stats .mean), double-fits (k .stats .squares) (o .stats .squares), lt-ltb (k .stats .count) (2 ^ 32) (o .stats .count))
 
   rates-fit : ratesFormed ws ≡ true
   unfolding packOf numbersWords numbersFormed
@@ -190,7 +188,7 @@ module _ (h : Head) (o : Holds h) where
 
   pub all-formed : formed (packOf h) ≡ true
   unfolding formed
-  all-formed = rw (first-fits, rates-fit, last-fits)
+  all-formed = rw (first-fits, last-fits, rates-fit)
 
   pub unpack-pack : unpackOf (packOf h) ≡ h
   unfolding unpackOf
@@ -282,18 +280,18 @@ highTests ws =
 
 -- each part's words from the part that they say
 module _ (ws : List ℕ) (small : (i : ℕ) → at ws i < 2 ^ 64) (f : formed ws ≡ true) where
-  parts : Each (firstFormed ws ∷ ratesFormed ws ∷ lastFormed ws ∷ [])
+  parts : Each (firstFormed ws ∷ lastFormed ws ∷ ratesFormed ws ∷ [])
   unfolding formed
-  parts = each true (firstFormed ws ∷ ratesFormed ws ∷ lastFormed ws ∷ []) f
+  parts = each true (firstFormed ws ∷ lastFormed ws ∷ ratesFormed ws ∷ []) f
 
   low : Each (lowTests ws)
   low = each true (lowTests ws) (parts .0)
 
   middle : Each (rateTests ws)
-  middle = each true (rateTests ws) (parts .1 .0)
+  middle = each true (rateTests ws) (parts .1 .1 .0)
 
   high : Each (highTests ws)
-  high = each true (highTests ws) (parts .1 .1 .0)
+  high = each true (highTests ws) (parts .1 .0)
 
   -- a word that was tested, read as a number
   is : (i : ℕ) → numberFormed (at ws i) ≡ true → numberOf (at ws i) ≡ at ws i

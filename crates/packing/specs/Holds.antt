@@ -39,10 +39,12 @@ pub record WindowHolds (w : Window) : Type 0 where
   pub seqno0 : Number (w .seqno0)
   pub lrsn : Number (w .lrsn)
 
-pub record ClockHolds (k : SynchronizedRemoteClock) : Type 0 where
+pub record BaseHolds (k : SynchronizedRemoteClock) : Type 0 where
   pub time : Whole (k .base .time)
   pub stamp : Number (k .base .stamp)
   pub last : Time (k .last)
+
+pub record StatsHolds (k : SynchronizedRemoteClock) : Type 0 where
   pub mean : Double (k .stats .mean)
   pub squares : Double (k .stats .squares)
   pub count : Number (k .stats .count)
@@ -69,7 +71,8 @@ pub record Holds (h : Head) : Type 0 where
   pub latest : Whole (h .latest)
   pub latency : Number (h .latency)
   pub window : WindowHolds (h .window)
-  pub clock : ClockHolds (h .clock)
+  pub base : BaseHolds (h .clock)
+  pub stats : StatsHolds (h .clock)
   pub rtt : RttHolds (h .rtt)
   pub arrivals : ArrivalsHolds (h .arrivals)
   pub links : LinksHolds (h .links)

@@ -138,7 +138,7 @@ lastFormed ws =
     && numberFormed (at ws 78)
 
 unfoldable pub formed : List ℕ → Bool
-formed ws = firstFormed ws && ratesFormed ws && lastFormed ws
+formed ws = firstFormed ws && lastFormed ws && ratesFormed ws
 
 abbrev pub nowhere : Head
 nowhere = freshHead (pos 0) 0 false 0 0

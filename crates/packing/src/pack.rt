@@ -1,7 +1,8 @@
 // A head into its words, part by part.
 ghost use mathlib.Core.Path.{_≡_};
 ghost use Prim.Native.Nat.{_≤_};
-ghost use Rattle.packing.specs.Packed.{packOf};
+ghost use Rattle.packing.specs.Packed.{packOf, unpackOf};
+ghost use Rattle.packing.specs.Holds.{Numbers, Whole, Number, ArrivalsHolds, LinksHolds, RttHolds, WindowHolds, HistoryHolds, BaseHolds, StatsHolds};
 ghost use Rattle.packing.specs.Puts.{putNumbers, putSettings, putWindow, putBase, putStats, putRtt, putArrivals, putLinks, putHistory};
 use crate::words;
 use acks::history::History;
@@ -15,7 +16,7 @@ use window::Window;
 // Sixteen numbers, from word `at` on.
 fn put_sixteen(ws: &mut [u64; 79], at: usize, numbers: [u32; 16])
     requires { ⌜ at ≤ 63 ⌝ }
-    ensures { λ _. ⌜ now (ws .exit) ≡ putNumbers (now (ws .entry)) at numbers 16 ⌝ }
+    ensures { λ _. ⌜ (now (ws .exit) ≡ putNumbers (now (ws .entry)) at numbers 16) × Numbers numbers ⌝ }
 {
     let mut i: usize = 0;
     while i < 16 {
@@ -25,7 +26,7 @@ fn put_sixteen(ws: &mut [u64; 79], at: usize, numbers: [u32; 16])
 }
 
 pub fn put_window(ws: &mut [u64; 79], w: Window)
-    ensures { λ _. ⌜ now (ws .exit) ≡ putWindow (now (ws .entry)) w ⌝ }
+    ensures { λ _. ⌜ (now (ws .exit) ≡ putWindow (now (ws .entry)) w) × WindowHolds w ⌝ }
 {
     ws[1] = words::of_size(w.capacity);
     ws[2] = words::of_size(w.start);
@@ -35,7 +36,7 @@ pub fn put_window(ws: &mut [u64; 79], w: Window)
 }
 
 pub fn put_base(ws: &mut [u64; 79], k: SynchronizedRemoteClock)
-    ensures { λ _. ⌜ now (ws .exit) ≡ putBase (now (ws .entry)) k ⌝ }
+    ensures { λ _. ⌜ (now (ws .exit) ≡ putBase (now (ws .entry)) k) × BaseHolds k ⌝ }
 {
     let last = k.last;
     ws[8] = words::of_whole(k.base.time);
@@ -45,7 +46,7 @@ pub fn put_base(ws: &mut [u64; 79], k: SynchronizedRemoteClock)
 }
 
 pub fn put_stats(ws: &mut [u64; 79], k: SynchronizedRemoteClock)
-    ensures { λ _. ⌜ now (ws .exit) ≡ putStats (now (ws .entry)) k ⌝ }
+    ensures { λ _. ⌜ (now (ws .exit) ≡ putStats (now (ws .entry)) k) × StatsHolds k ⌝ }
 {
     ws[12] = words::of_flag(k.seen);
     ws[13] = words::of_float(k.stats.mean);
@@ -54,14 +55,14 @@ pub fn put_stats(ws: &mut [u64; 79], k: SynchronizedRemoteClock)
 }
 
 fn put_rtt(ws: &mut [u64; 79], t: Rtt)
-    ensures { λ _. ⌜ now (ws .exit) ≡ putRtt (now (ws .entry)) t ⌝ }
+    ensures { λ _. ⌜ (now (ws .exit) ≡ putRtt (now (ws .entry)) t) × RttHolds t ⌝ }
 {
     ws[16] = words::of_number(t.mean);
     ws[17] = words::of_number(t.variance);
 }
 
 fn put_arrivals(ws: &mut [u64; 79], a: Arrivals)
-    ensures { λ _. ⌜ now (ws .exit) ≡ putArrivals (now (ws .entry)) a ⌝ }
+    ensures { λ _. ⌜ (now (ws .exit) ≡ putArrivals (now (ws .entry)) a) × ArrivalsHolds a ⌝ }
 {
     let last = a.last;
     let gaps = a.gaps;
@@ -75,7 +76,7 @@ fn put_arrivals(ws: &mut [u64; 79], a: Arrivals)
 }
 
 fn put_links(ws: &mut [u64; 79], l: Links)
-    ensures { λ _. ⌜ now (ws .exit) ≡ putLinks (now (ws .entry)) l ⌝ }
+    ensures { λ _. ⌜ (now (ws .exit) ≡ putLinks (now (ws .entry)) l) × LinksHolds l ⌝ }
 {
     let probe = l.probe;
     let gaps = l.gaps;
@@ -87,7 +88,7 @@ fn put_links(ws: &mut [u64; 79], l: Links)
 }
 
 pub fn put_history(ws: &mut [u64; 79], y: History)
-    ensures { λ _. ⌜ now (ws .exit) ≡ putHistory (now (ws .entry)) y ⌝ }
+    ensures { λ _. ⌜ (now (ws .exit) ≡ putHistory (now (ws .entry)) y) × HistoryHolds y ⌝ }
 {
     ws[74] = words::of_size(y.start);
     ws[75] = words::of_size(y.count);
@@ -97,7 +98,7 @@ pub fn put_history(ws: &mut [u64; 79], y: History)
 }
 
 fn put_settings(ws: &mut [u64; 79], latest: i64, latency: u32, dropping: bool)
-    ensures { λ _. ⌜ now (ws .exit) ≡ putSettings (now (ws .entry)) latest latency dropping ⌝ }
+    ensures { λ _. ⌜ (now (ws .exit) ≡ putSettings (now (ws .entry)) latest latency dropping) × (Whole latest × Number latency) ⌝ }
 {
     ws[0] = words::of_whole(latest);
     ws[6] = words::of_number(latency);
@@ -105,7 +106,7 @@ fn put_settings(ws: &mut [u64; 79], latest: i64, latency: u32, dropping: bool)
 }
 
 pub fn pack(h: Head) -> [u64; 79]
-    ensures { λ r. ⌜ r ≡ packOf h ⌝ }
+    ensures { λ r. ⌜ (r ≡ packOf h) × (unpackOf r ≡ h) ⌝ }
 {
     let mut ws: [u64; 79] = [0; 79];
     put_settings(&mut ws, h.latest, h.latency, h.dropping);

@@ -1,5 +1,6 @@
 // One value as one word, and back.
 ghost use mathlib.Core.Path.{_≡_};
+ghost use Rattle.packing.specs.Holds.{Time};
 ghost use Rattle.packing.specs.Words.{wordOf, wholeOf, bitsOf, floatOf, flagWord, flagOf, numberOf, setWord, timeWord, momentOf, floatFormed, momentFormed};
 use numbers::instant::Moment;
 
@@ -93,7 +94,7 @@ pub fn of_set(m: Moment) -> u64
 }
 
 pub fn of_time(m: Moment) -> u64
-    ensures { λ r. ⌜ r ≡ timeWord m ⌝ }
+    ensures { λ r. ⌜ (r ≡ timeWord m) × Time m ⌝ }
 {
     let Moment::At(t) = m else {
         return 0;

@@ -1,12 +1,14 @@
 use mathlib.Core.Path.{_≡_}
 use Prim.Native.Nat.{_-_, _≤_}
+use mathlib.Core.Bool.{true}
+use Rattle.packing.specs.Packed.{numbersFormed}
 use Rattle.packing.specs.Puts.{putNumbers}
 use Rattle.packing.proofs.Puts.{puts}
 use Rattle.packing.proofs.pack.put_sixteen.Statement.{statement}
 use Rattle.packing.proofs.pack.put_sixteen.Tie as tie
 
 abbrev Inv-loop : tie.InvT-loop
-Inv-loop ws₀ at numbers i₀ ws i = (i ≤ 16) × (ws ≡ putNumbers ws₀ at numbers i)
+Inv-loop ws₀ at numbers i₀ ws i = (i ≤ 16) × (ws ≡ putNumbers ws₀ at numbers i) × (numbersFormed numbers 0 i ≡ true)
 
 abbrev μ-loop : tie.MeasureT-loop
 μ-loop ws₀ at numbers i₀ ws i = 16 - i

@@ -9,4 +9,5 @@ formed-spec =
     (λ c κs. search says-all)
     (λ c κs. search says-all)
     (λ c κs. search says-all)
+    (λ c. search says-all)
     (λ c. search says-all))
