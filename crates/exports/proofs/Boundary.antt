@@ -5,7 +5,9 @@ use mathlib.Core.Bool.{Bool}
 use mathlib.Core.List.{List, [], _∷_}
 use Prim.Native.Nat.{ℕ}
 use borrow.Author.Needs.{needs}
-use borrow.Author.Tests.{eq-eqb, ne-eqb}
+use borrow.Author.Tests.{eq-eqb, ne-eqb, eqb-true}
+use lib.Dec.{eqb}
+use Rattle.numbers.proofs.Flags.{by-bool}
 use lib.IntN.{ℤ}
 use lib.ListN.{length}
 use Rattle.window.specs.declared.push.Packet.{Packet}
@@ -15,17 +17,17 @@ use Rattle.head.specs.declared.state.Head.{Head}
 use Rattle.head.specs.declared.state.Made.{Made}
 use Rattle.receiver.specs.Paper.{dataLine, messageLine, fullAckLine, rttLine, dropLine, clearLine, roomLine, shownLine, clockLine}
 use Rattle.receiver.specs.Acking.{fullAckEnded, fullAckEventOf, ack2Ended, ack2PacketOf}
-use Rattle.receiver.specs.Data.{dataEnded, dataOf}
+use Rattle.receiver.specs.Data.{DataOutcome, dataOf}
 use Rattle.receiver.specs.Loss.{lossEnded, lossOf}
-use Rattle.receiver.specs.Message.{givenEnded, messageOf}
+use Rattle.receiver.specs.Message.{messageOf}
 use Rattle.receiver.specs.Request.{dropEnded, dropCallOf, clearEnded, clearOf, roomEnded, roomCallOf}
 use Rattle.receiver.specs.Show.{shownEnded, shownCallOf, placeCallOf}
 use Rattle.receiver.specs.Sync.{clockEnded, clockOf}
 use Rattle.receiver.specs.declared.acking.FullAcked.{FullAcked}
 use Rattle.receiver.specs.declared.acking.Ack2ed.{Ack2ed}
-use Rattle.receiver.specs.declared.data.Handled.{Handled}
+use Rattle.receiver.specs.declared.data.DataAnswer.{DataAnswer}
 use Rattle.receiver.specs.declared.loss.Reported.{Reported}
-use Rattle.receiver.specs.declared.message.Given.{Given}
+use Rattle.receiver.specs.declared.message.MessageAnswer.{MessageAnswer}
 use Rattle.receiver.specs.declared.request.DropAnswer.{DropAnswer}
 use Rattle.receiver.specs.declared.request.RoomAnswer.{RoomAnswer}
 use Rattle.receiver.specs.declared.request.Cleared.{Cleared}
@@ -37,7 +39,10 @@ use Rattle.packing.specs.Packed.{packOf, unpackOf}
 use Rattle.packing.specs.Tally.{countersWords, countersOf}
 use Rattle.cells.specs.Cells.{cellsOf, countLine, lossCells, shownCells, madeCells}
 use Rattle.cells.proofs.Answers.{count-refusal}
-use Rattle.exports.specs.Calls.{left, kept, saying, fromMade, fromData, fromMessage, fromLoss, fromFullAck, fromAck2, fromClock, fromClear, fromDrop, fromRoom, counting, newOf, dataExportOf, messageExportOf, lossExportOf, fullAckExportOf, ack2ExportOf, dropExportOf, clockExportOf, clearExportOf, roomExportOf, showExportOf, dataCountedOf, ack2CountedOf, dropCountedOf, clockCountedOf}
+use Rattle.counts.specs.Counts.{dataCounts}
+use Rattle.inplace.specs.Calls.{PopIn, popIn, messageIn, DataLeft, dataLeft, dataAfter, dataIn}
+use Rattle.inplace.proofs.Says.{message-says, data-says}
+use Rattle.exports.specs.Calls.{Left, left, kept, saying, fromMade, fromData, fromMessage, fromLoss, fromFullAck, fromAck2, fromClock, fromClear, fromDrop, fromRoom, counting, newOf, dataExportOf, messageExportOf, lossExportOf, fullAckExportOf, ack2ExportOf, dropExportOf, clockExportOf, clearExportOf, roomExportOf, showExportOf, dataCountedOf, ack2CountedOf, dropCountedOf, clockCountedOf}
 
 -- keep
 pub keeps : (ws : List ℕ) (n : ℕ) (h : Head) {vs : List ℕ} → n ≡ 0 → vs ≡ packOf h → vs ≡ kept ws n h
@@ -52,6 +57,45 @@ keeps-head ws n h vs e p = rw (eq-eqb n 0 e) p
 pub stays-head : (ws : List ℕ) (n : ℕ) (h : Head) → (n ≡ 0 → ⊥) → unpackOf ws ≡ saying ws n h
 stays-head ws n h e = rw (ne-eqb n 0 e)
 
+-- the two calls of every packet are made on the words where they lie; what these say after it is the head that it ended with
+says-kept : (ws : List ℕ) (n : ℕ) (h : Head) → (n ≡ 0 → unpackOf (packOf h) ≡ h) → unpackOf (kept ws n h) ≡ saying ws n h
+says-kept ws n h f = by-bool (eqb n 0) (λ b. rw b (f (eqb-true n 0 b))) (λ b. rw b)
+
+module _ (ws : List ℕ) {c : List ℤ} {n : ℕ} {k : List ℕ} where
+  pub message-ends : (slots payloads output : List ℕ) (now : ℤ) {a : MessageAnswer} {o : List ℕ} {z : ℤ}
+      → popIn a k o ≡ messageIn ws slots payloads output z → z ≡ now → n ≡ messageLine a .refusal → c ≡ cellsOf (messageLine a)
+      → left n k c (o ∷ []) ≡ messageExportOf ws slots payloads output now
+  unfolding messageExportOf
+  message-ends slots payloads output now {a} {o} e z i l =
+      let x = messageOf (unpackOf ws) slots payloads output now in
+      let f : popIn a k o ≡ messageIn ws slots payloads output now = e ∙ rw z in
+      rw (i, l)
+      (ap (λ (y : PopIn). left (y .line .refusal) (y .words) (cellsOf (y .line)) (y .output ∷ [])) f
+      ∙ ap (λ (h : Head). record { returned = x .line .refusal; words = kept ws (x .line .refusal) (x .given .head); says = h; cells = cellsOf (x .line); areas = x .output ∷ [] }) (says-kept ws (x .line .refusal) (x .given .head) (message-says ws slots payloads output now)))
+
+  module _ (slots payloads : List ℕ) (now : ℤ) (p : Packet) (payload : List ℕ) {a : DataAnswer} {s b : List ℕ} {z : ℤ}
+      (e : dataLeft a k s b ≡ dataIn ws slots payloads z p payload) (q : z ≡ now) (i : n ≡ dataLine a .refusal) (l : c ≡ cellsOf (dataLine a)) where
+    abbrev outcome : DataOutcome
+    outcome = dataOf (unpackOf ws) slots payloads now p payload
+
+    same : dataLeft a k s b ≡ dataAfter ws outcome
+    same = e ∙ rw q
+
+    pub data-ends : left n k c (s ∷ b ∷ []) ≡ dataExportOf ws slots payloads now p payload
+    unfolding dataExportOf
+    data-ends =
+        rw (i, l)
+        (ap (λ (y : DataLeft). left (y .line .refusal) (y .words) (cellsOf (y .line)) (y .slots ∷ y .payloads ∷ [])) same
+        ∙ ap (λ (h : Head). record { returned = outcome .line .refusal; words = kept ws (outcome .line .refusal) (outcome .handled .head); says = h; cells = cellsOf (outcome .line); areas = outcome .slots ∷ outcome .payloads ∷ [] }) (says-kept ws (outcome .line .refusal) (outcome .handled .head) (data-says ws slots payloads now p payload)))
+
+    pub data-counts : (cs : List ℕ) {ts : List ℕ} {t d : Counters} {m : ℕ} → t ≡ countersOf cs → ts ≡ countersWords d → d ≡ dataCounts t m a → m ≡ length payload
+        → left n k c (ts ∷ s ∷ b ∷ []) ≡ dataCountedOf ws cs slots payloads now p payload
+    unfolding dataCountedOf dataExportOf
+    data-counts cs f g h j =
+        rw (g, h, f, j)
+        (ap (λ (y : Left). record { returned = y .returned; words = y .words; says = y .says; cells = y .cells; areas = countersWords (dataCounts (countersOf cs) (length payload) a) ∷ y .areas }) data-ends
+        ∙ ap (λ (y : DataLeft). let x = fromData ws outcome in record { returned = x .returned; words = x .words; says = x .says; cells = x .cells; areas = countersWords (dataCounts (countersOf cs) (length payload) (y .answer)) ∷ x .areas }) same)
+
 module _ (ws : List ℕ) {c : List ℤ} where
   pub new-ends : (start : ℤ) (latency : ℕ) (dropping : Bool) (first capacity : ℕ) {m : Made} {s : ℤ} {k : List ℕ}
       → m ≡ madeOf s latency dropping first capacity → s ≡ start → k ≡ kept ws (m .refusal) (m .head) → unpackOf k ≡ saying ws (m .refusal) (m .head) → c ≡ madeCells (m .refusal)
@@ -60,20 +104,6 @@ module _ (ws : List ℕ) {c : List ℤ} where
   new-ends start latency dropping first capacity a z p g q = rw (g, p, q) (ap (fromMade ws) (rw z at a))
 
   module _ {n : ℕ} {h : Head} (u : h ≡ unpackOf ws) where
-    pub data-ends : (slots payloads : List ℕ) (now : ℤ) (p : Packet) (payload : List ℕ) {r : Handled} {s b : List ℕ} {z : ℤ} {k : List ℕ}
-        → dataEnded r s b ≡ dataOf h slots payloads z p payload → z ≡ now
-        → n ≡ dataLine (r .answer) .refusal → k ≡ kept ws n (r .head) → unpackOf k ≡ saying ws n (r .head) → c ≡ cellsOf (dataLine (r .answer))
-        → left n k c (s ∷ b ∷ []) ≡ dataExportOf ws slots payloads now p payload
-    unfolding dataExportOf
-    data-ends slots payloads now p payload e z i j g l = rw (g, j, i, l) (ap (fromData ws) (rw (u, z) at e))
-
-    pub message-ends : (slots payloads output : List ℕ) (now : ℤ) {r : Given} {o : List ℕ} {z : ℤ} {k : List ℕ}
-        → givenEnded r o ≡ messageOf h slots payloads output z → z ≡ now
-        → n ≡ messageLine (r .answer) .refusal → k ≡ kept ws n (r .head) → unpackOf k ≡ saying ws n (r .head) → c ≡ cellsOf (messageLine (r .answer))
-        → left n k c (o ∷ []) ≡ messageExportOf ws slots payloads output now
-    unfolding messageExportOf
-    message-ends slots payloads output now e z i j g l = rw (g, j, i, l) (ap (fromMessage ws) (rw (u, z) at e))
-
     pub loss-ends : (slots list : List ℕ) (now : ℤ) {r : Reported} {s o : List ℕ} {z : ℤ} {k : List ℕ}
         → lossEnded r s o ≡ lossOf h slots list z → z ≡ now
         → n ≡ countLine (r .answer) .refusal → k ≡ kept ws n (r .head) → unpackOf k ≡ saying ws n (r .head) → c ≡ lossCells (r .answer)
@@ -129,13 +159,6 @@ module _ (ws : List ℕ) {c : List ℤ} where
     show-ends slots payloads number {a} {p} e f i l = rw (i, l, rw u at (sym e), rw u at (sym f))
 
     module _ (cs : List ℕ) {ts : List ℕ} {t d : Counters} (q : t ≡ countersOf cs) (v : ts ≡ countersWords d) where
-      pub data-counts : (slots payloads : List ℕ) (now : ℤ) (p : Packet) (payload : List ℕ) {r : Handled} {s b : List ℕ} {z : ℤ} {k : List ℕ}
-          → counted (dataEnded r s b) d ≡ dataCounted t h slots payloads z p payload → z ≡ now
-          → n ≡ dataLine (r .answer) .refusal → k ≡ kept ws n (r .head) → unpackOf k ≡ saying ws n (r .head) → c ≡ cellsOf (dataLine (r .answer))
-          → left n k c (ts ∷ s ∷ b ∷ []) ≡ dataCountedOf ws cs slots payloads now p payload
-      unfolding dataCountedOf
-      data-counts slots payloads now p payload e z i j g l = rw (g, j, i, l, v) (ap (counting (fromData ws)) (rw (u, z, q) at e))
-
       pub ack2-counts : (history : List ℕ) (now : ℤ) (number : ℕ) {r : Ack2ed} {z : ℤ} {k : List ℕ}
           → counted (ack2Ended r) d ≡ ack2Counted t h history z number → z ≡ now
           → n ≡ rttLine (r .answer) .refusal → k ≡ kept ws n (r .head) → unpackOf k ≡ saying ws n (r .head) → c ≡ cellsOf (rttLine (r .answer))

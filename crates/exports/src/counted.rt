@@ -20,11 +20,10 @@ pub extern "C" fn pt_counted_handle_data_packet(
 ) -> u32
     ensures { λ r. ⌜ left r (now (words .exit)) (now (answer .exit)) (now (counts .exit) ∷ now (slots .exit) ∷ now (payloads .exit) ∷ []) ≡ dataCountedOf (now (words .entry)) (now (counts .entry)) (now (slots .entry)) (now (payloads .entry)) time (packet number message location stamp) (now (payload .entry)) ⌝ }
 {
-    let h = packing::unpack::unpack(words);
     let c = packing::tally::counters(counts);
-    let r = counters::data::handle_data_packet(
-        c,
-        h,
+    let size = payload.len();
+    let a = inplace::data::handle_data_packet(
+        words,
         slots,
         payloads,
         time,
@@ -34,15 +33,9 @@ pub extern "C" fn pt_counted_handle_data_packet(
         stamp,
         payload,
     );
-    let raised = r.counters;
-    let handled = r.handled;
-    let next = handled.head;
-    let a = handled.answer;
-    let n = cells::data_refusal(a);
-    crate::keep::keep(words, n, next);
-    *counts = packing::tally::of_counters(raised);
+    *counts = packing::tally::of_counters(counts::after::after_data(c, size, a));
     *answer = cells::data_cells(a);
-    n
+    cells::data_refusal(a)
 }
 
 #[no_mangle]

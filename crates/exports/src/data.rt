@@ -19,9 +19,8 @@ pub extern "C" fn pt_handle_data_packet(
 ) -> u32
     ensures { λ r. ⌜ left r (now (words .exit)) (now (answer .exit)) (now (slots .exit) ∷ now (payloads .exit) ∷ []) ≡ dataExportOf (now (words .entry)) (now (slots .entry)) (now (payloads .entry)) time (packet number message location stamp) (now (payload .entry)) ⌝ }
 {
-    let h = packing::unpack::unpack(words);
-    let r = receiver::data::handle_data_packet(
-        h,
+    let a = inplace::data::handle_data_packet(
+        words,
         slots,
         payloads,
         time,
@@ -31,10 +30,6 @@ pub extern "C" fn pt_handle_data_packet(
         stamp,
         payload,
     );
-    let next = r.head;
-    let a = r.answer;
-    let n = cells::data_refusal(a);
-    crate::keep::keep(words, n, next);
     *answer = cells::data_cells(a);
-    n
+    cells::data_refusal(a)
 }

@@ -14,12 +14,7 @@ pub extern "C" fn pt_pop_next_message(
 ) -> u32
     ensures { λ r. ⌜ left r (now (words .exit)) (now (answer .exit)) (now (output .exit) ∷ []) ≡ messageExportOf (now (words .entry)) (now (slots .entry)) (now (payloads .entry)) (now (output .entry)) time ⌝ }
 {
-    let h = packing::unpack::unpack(words);
-    let r = receiver::message::pop_next_message(h, slots, payloads, output, time);
-    let next = r.head;
-    let a = r.answer;
-    let n = cells::message_refusal(a);
-    crate::keep::keep(words, n, next);
+    let a = inplace::message::pop_next_message(words, slots, payloads, output, time);
     *answer = cells::message_cells(a);
-    n
+    cells::message_refusal(a)
 }

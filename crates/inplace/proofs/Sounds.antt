@@ -77,17 +77,17 @@ in-raised ws (suc n) k h =
     (λ l. let q : k ≡ n = omega arith in rw q (or-right (raisedTo ws n) (at ws (34 + n) % 2048 + 591)))
 
 -- sixteen words that are all under a bound
-abbrev Under : ℕ → List ℕ → ℕ → Type 0
+abbrev pub Under : ℕ → List ℕ → ℕ → Type 0
 Under b ws i = (k : ℕ) → k < 16 → at ws (i + k) < b
 
-formed-under : (b : ℕ) (ws : List ℕ) (i n : ℕ) → Under b ws i → b ≤ 2 ^ 32 → n ≤ 16 → numbersFormed ws i n ≡ true
+pub formed-under : (b : ℕ) (ws : List ℕ) (i n : ℕ) → Under b ws i → b ≤ 2 ^ 32 → n ≤ 16 → numbersFormed ws i n ≡ true
 unfolding numbersFormed
 formed-under b ws i zero u h k = refl
 formed-under b ws i (suc n) u h k =
     rw (formed-under b ws i n u h (omega arith), lt-ltb (at ws (i + n)) (2 ^ 32) (let l = u n (omega arith) in omega arith))
 
 -- an element of sixteen is that word
-element : (ws : List ℕ) (i k : ℕ) → k < 16 → getD (sixteenOf ws i) k 0 ≡ numberOf (at ws (i + k))
+pub element : (ws : List ℕ) (i k : ℕ) → k < 16 → getD (sixteenOf ws i) k 0 ≡ numberOf (at ws (i + k))
 unfolding sixteenOf
 element ws i zero h = refl
 element ws i (suc zero) h = refl
@@ -205,11 +205,10 @@ and-any true = refl
 and-any false = refl
 
 shuffle : (f l r a k w t c m y z : Bool)
-    → (f && l && (r && (a && k)) && (w && t && c && m && y && z)) ≡ ((f && r && l) && (w && t && c && m && a && k && y && z))
+    → (f && l && (r && (a && k)) && (w && t && c && m && y && z)) ≡ ((f && l && r) && (w && t && c && m && a && k && y && z))
 shuffle false l r a k w t c m y z = refl
-shuffle true false false a k w t c m y z = refl
+shuffle true false r a k w t c m y z = refl
 shuffle true true false a k w t c m y z = refl
-shuffle true false true a k w t c m y z = refl
 shuffle true true true a k false t c m y z = and-any (a && k)
 shuffle true true true a k true false c m y z = and-any (a && k)
 shuffle true true true a k true true false m y z = and-any (a && k)
@@ -232,6 +231,6 @@ unfolding unpackOf formed headOf headOk
 sound-by ws e g h k =
     rw (e, g, h, k)
     (shuffle (firstFormed ws) (lastFormed ws) (ratesFormed ws) (arrivalsOk (arrivalsOf ws)) (linksOk (linksOf ws)) (windowOk (windowOf ws)) (leb (numberOf (at ws 6)) 65535000) (clockOk (clockOf ws)) (rttOk (rttOf ws)) (historyOk (historyOf ws)) (isReading (wholeOf (at ws 0)))
-    ∙ gated (firstFormed ws && ratesFormed ws && lastFormed ws) ws)
+    ∙ gated (firstFormed ws && lastFormed ws && ratesFormed ws) ws)
 
 pub ruleset sounds = (bits-start, bits-turn, bits-end, raised-start, raised-turn, raised-end, small-by, time-by, places-by, rates-quick, rates-slow, parts-by, sound-by, needs)

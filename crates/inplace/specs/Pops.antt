@@ -16,9 +16,9 @@ use Rattle.receiver.specs.Message.{answerOf, takenOf}
 use Rattle.receiver.specs.declared.message.MessageAnswer.{MessageAnswer}
 use Rattle.receiver.specs.declared.message.MessageAnswer.the-variants as answers
 use Rattle.packing.specs.Words.{wordOf, wholeOf, numberOf, flagOf}
-use Rattle.packing.specs.Packed.{at, windowOf, clockOf, headOf, formed, packOf, unpackOf}
+use Rattle.packing.specs.Packed.{at, windowOf, clockOf, headOf, formed, unpackOf}
 use Rattle.packing.specs.Puts.{putWindow, putBase, putStats}
-use Rattle.inplace.specs.Calls.{keptOr, PopIn, popIn}
+use Rattle.inplace.specs.Calls.{PopIn, popIn, messageLeft}
 
 -- the window and clock after a pop, and the reading as the latest
 unfoldable pub putPopped : List ℕ → Window → SynchronizedRemoteClock → ℤ → List ℕ
@@ -56,5 +56,4 @@ pub record Popping (ws slots bs : List ℕ) (now : ℤ) : Type 0 where
 
 -- the call on that head
 abbrev pub messageTaken : List ℕ → List ℕ → List ℕ → List ℕ → ℤ → PopIn
-messageTaken ws slots bs out now =
-    let o = takenOf (headOf ws) slots bs out now in popIn (o .given .answer) (keptOr (o .line .refusal) (packOf (o .given .head)) ws) (o .output)
+messageTaken ws slots bs out now = messageLeft ws (takenOf (headOf ws) slots bs out now)

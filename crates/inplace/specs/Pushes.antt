@@ -24,9 +24,9 @@ use Rattle.receiver.specs.Data.{refusedBy, gotAnswer, takenOf}
 use Rattle.receiver.specs.declared.data.DataAnswer.{DataAnswer}
 use Rattle.receiver.specs.declared.data.DataAnswer.the-variants as answers
 use Rattle.packing.specs.Words.{wordOf, wholeOf, momentOf}
-use Rattle.packing.specs.Packed.{at, windowOf, historyOf, headOf, formed, packOf, unpackOf}
+use Rattle.packing.specs.Packed.{at, windowOf, historyOf, headOf, formed, unpackOf}
 use Rattle.packing.specs.Puts.{putWindow, putHistory}
-use Rattle.inplace.specs.Calls.{keptOr, DataLeft, dataLeft}
+use Rattle.inplace.specs.Calls.{DataLeft, dataLeft, dataAfter}
 
 -- the last arrival
 unfoldable pub putLast : List ℕ → ℤ → List ℕ
@@ -106,9 +106,7 @@ pub record Pushing (ws slots bs : List ℕ) (now : ℤ) (p : Packet) (payload : 
 
 -- the call on that head
 abbrev pub dataTaken : List ℕ → List ℕ → List ℕ → ℤ → Packet → List ℕ → DataLeft
-dataTaken ws slots bs now p payload =
-    let o = takenOf (headOf ws) slots bs now p payload in
-    dataLeft (o .handled .answer) (keptOr (o .line .refusal) (packOf (o .handled .head)) ws) (o .slots) (o .payloads)
+dataTaken ws slots bs now p payload = dataAfter ws (takenOf (headOf ws) slots bs now p payload)
 
 unfoldable pub pushRefusal : List ℕ → ℕ → ℕ → ℤ → Packet → ℕ → ℕ
 pushRefusal ws slots bytes now p size = firstRefusal (pushRules (headOk (unpackOf ws)) (at ws 1) slots bytes now (wholeOf (at ws 0)) p size)

@@ -9,8 +9,6 @@ pt-handle-data-packet-spec =
     (λ c κs. search boundary)
     (λ c κs. search boundary)
     (λ c κs. search boundary)
-    (λ c κs. search boundary)
-    (λ c κs. search boundary)
     (λ c. search boundary)
     (λ c. search boundary)
     (λ c. search boundary))

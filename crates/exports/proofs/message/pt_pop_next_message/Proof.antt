@@ -9,7 +9,5 @@ pt-pop-next-message-spec =
     (λ c κs. search boundary)
     (λ c κs. search boundary)
     (λ c κs. search boundary)
-    (λ c κs. search boundary)
-    (λ c κs. search boundary)
     (λ c. search boundary)
     (λ c. search boundary))
