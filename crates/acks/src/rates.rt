@@ -40,7 +40,7 @@ pub enum Link {
 }
 
 // The interval since a time; a time after `now` is read as `now`.
-fn since(now: i64, time: i64) -> u32
+pub fn since(now: i64, time: i64) -> u32
     ensures { λ r. ⌜ r ≡ sinceTime now time ⌝ }
 {
     if now < time {
@@ -49,7 +49,7 @@ fn since(now: i64, time: i64) -> u32
     numbers::instant::interval(time, now) as u32
 }
 
-fn one_more(count: usize) -> usize
+pub fn one_more(count: usize) -> usize
     requires { ⌜ count ≤ 16 ⌝ }
     ensures { λ r. ⌜ r ≡ oneMore count ⌝ }
 {
@@ -149,7 +149,7 @@ fn all_under(values: [u32; 16], at: usize, count: usize, bound: u32) -> bool
     window_under(&values, at, count, bound)
 }
 
-fn time_ok(time: Moment) -> bool
+pub fn time_ok(time: Moment) -> bool
     ensures { λ r. ⌜ r ≡ timeOk time ⌝ }
 {
     let Moment::At(t) = time else {

@@ -28,7 +28,7 @@ pub struct Made {
     pub head: Head,
 }
 
-fn window_in_range(w: Window) -> bool
+pub fn window_in_range(w: Window) -> bool
     ensures { λ r. ⌜ r ≡ windowOk w ⌝ }
 {
     (1 <= w.capacity)

@@ -36,7 +36,7 @@ fn placed(h: Head, window: Window, time: i64) -> Head
 }
 
 // The window's refusal as the call's; refusal 0 for an answer that is none.
-fn refused_by(answer: PushAnswer) -> DataAnswer
+pub fn refused_by(answer: PushAnswer) -> DataAnswer
     ensures { λ r. ⌜ r ≡ refusedBy answer ⌝ }
 {
     match answer {
@@ -124,7 +124,7 @@ fn after_push(h: Head, pushed: Pushed, time: i64, number: u32, size: u32) -> Han
 }
 
 // The push alone: a reading is not negative, so the window takes it without its sign.
-fn push_at(
+pub fn push_at(
     w: Window,
     words: &mut [u64],
     bytes: &mut [u8],

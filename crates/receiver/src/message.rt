@@ -37,7 +37,7 @@ fn popped(h: Head, window: Window, clock: SynchronizedRemoteClock, time: i64) ->
 }
 
 // The window's answer as the call's.
-fn answer_of(answer: PopAnswer) -> MessageAnswer
+pub fn answer_of(answer: PopAnswer) -> MessageAnswer
     ensures { λ r. ⌜ r ≡ answerOf answer ⌝ }
 {
     match answer {

@@ -14,7 +14,7 @@ pub enum ShowAnswer {
 }
 
 // Where the payload of a number lies, or nowhere.
-fn place_in(h: Head, words: &[u64], size: usize, number: u32) -> Place
+pub fn place_in(h: Head, words: &[u64], size: usize, number: u32) -> Place
     ensures { λ r. ⌜ r ≡ placeCallOf h (now (words .entry)) size number ⌝ }
 {
     let w = h.window;

@@ -1,0 +1,2 @@
+-- The definitions of an answer's cells.
+pub mod Cells

@@ -1,0 +1,5 @@
+-- The laws of the calls on words: `Boundary` is for the code, `Determined` and `Refused` say what a caller has of the calls.
+pub mod Boundary
+pub mod Determined
+pub mod Examples
+pub mod Refused

@@ -1,0 +1,2 @@
+-- The definitions of the calls on words.
+pub mod Calls

@@ -1,0 +1,236 @@
+-- What the code of sound.rt does at each return, as laws over plain values. Assumes nothing.
+use mathlib.Core.Path.{_≡_, refl, sym, _∙_, ap}
+use mathlib.Core.Bool.{Bool, true, false, _&&_, cond}
+use mathlib.Core.List.{List, [], _∷_}
+use Prim.Native.Nat.{ℕ, zero, suc, _+_, _-_, _%_, _^_, _<_, _≤_}
+use native.Mathlib.Nat.{mod-lt, mod-le, mod-eq-of-lt}
+use native.Mathlib.Numerals.{add-one}
+use native.Mathlib.Omega.{arith}
+use borrow.Author.Needs.{needs}
+use borrow.Author.Tests.{lt-ltb, ltb-true}
+use lib.Bits.{bitOr, bitAnd, or-add-and, and-le-l, and-le-r}
+use lib.Dec.{ltb, leb}
+use lib.IntN.{ℤ, pos}
+use lib.ListN.{getD}
+use Rattle.numbers.proofs.Flags.{by-bool, by-order, and-left, and-right}
+use Rattle.clock.specs.Ranges.{clockOk}
+use Rattle.acks.specs.Rtt.{rttOk}
+use Rattle.acks.specs.Rates.{placeBefore, windowOf as windowFrom, allUnder, arrivalsOk, linksOk, timeOk}
+use Rattle.acks.specs.History.{historyOk}
+use Rattle.numbers.specs.declared.instant.Moment.{Moment}
+use Rattle.clock.specs.declared.time.SynchronizedRemoteClock.{SynchronizedRemoteClock}
+use Rattle.acks.specs.declared.history.History.{History}
+use Rattle.acks.specs.declared.rates.Arrivals.{Arrivals}
+use Rattle.acks.specs.declared.rates.Links.{Links}
+use Rattle.acks.specs.declared.rtt.Rtt.{Rtt}
+use Rattle.window.specs.declared.Window.{Window}
+use Rattle.head.specs.Head.{windowOk, headOk, freshHead}
+use Rattle.numbers.specs.Whole.{isReading}
+use Rattle.packing.specs.Words.{numberOf, numberFormed, wholeOf, momentOf}
+use Rattle.packing.specs.Packed.{at, sixteen, sixteenOf, numbersFormed, firstFormed, ratesFormed, lastFormed, formed, windowOf, clockOf, rttOf, arrivalsOf, linksOf, historyOf, headOf, nowhere, unpackOf}
+use Rattle.inplace.specs.Sound.{bitsTo, raisedTo, allSmall, placesOk, partsOk}
+
+-- bits, raised_bits
+or-left : (a b : ℕ) → a ≤ bitOr a b
+or-left a b = let k = or-add-and a b in let l = and-le-r a b in omega arith
+
+or-right : (a b : ℕ) → b ≤ bitOr a b
+or-right a b = let k = or-add-and a b in let l = and-le-l a b in omega arith
+
+module _ (ws : List ℕ) (i : ℕ) where
+  pub bits-start : 0 ≡ bitsTo ws i 0
+  unfolding bitsTo
+  bits-start = refl
+
+  pub bits-turn : (n : ℕ) {x y : ℕ} → x ≡ bitsTo ws i n → y ≡ at ws (i + n) → bitOr x y ≡ bitsTo ws i (n + 1)
+  unfolding bitsTo
+  bits-turn n e f = rw (e, f, add-one n)
+
+  pub bits-end : (n : ℕ) {x : ℕ} → x ≡ bitsTo ws i n → n ≤ 16 → 16 ≤ n → x ≡ bitsTo ws i 16
+  bits-end n e h k = let q : n ≡ 16 = omega arith in e ∙ ap (bitsTo ws i) q
+
+  in-bits : (n k : ℕ) → k < n → at ws (i + k) ≤ bitsTo ws i n
+  unfolding bitsTo
+  in-bits zero k h = absurd (omega arith)
+  in-bits (suc n) k h =
+      by-order k n
+      (λ l. let a = in-bits n k l in let b = or-left (bitsTo ws i n) (at ws (i + n)) in omega arith)
+      (λ l. let q : k ≡ n = omega arith in rw q (or-right (bitsTo ws i n) (at ws (i + n))))
+
+pub raised-start : (ws : List ℕ) → 0 ≡ raisedTo ws 0
+unfolding raisedTo
+raised-start ws = refl
+
+pub raised-turn : (ws : List ℕ) (n : ℕ) {x y : ℕ} → x ≡ raisedTo ws n → y ≡ at ws (34 + n) → bitOr x (y % 2048 + 591) ≡ raisedTo ws (n + 1)
+unfolding raisedTo
+raised-turn ws n e f = rw (e, f, add-one n)
+
+pub raised-end : (ws : List ℕ) (n : ℕ) {x : ℕ} → x ≡ raisedTo ws n → n ≤ 16 → 16 ≤ n → x ≡ raisedTo ws 16
+raised-end ws n e h k = let q : n ≡ 16 = omega arith in e ∙ ap (raisedTo ws) q
+
+in-raised : (ws : List ℕ) (n k : ℕ) → k < n → at ws (34 + k) % 2048 + 591 ≤ raisedTo ws n
+unfolding raisedTo
+in-raised ws zero k h = absurd (omega arith)
+in-raised ws (suc n) k h =
+    by-order k n
+    (λ l. let a = in-raised ws n k l in let b = or-left (raisedTo ws n) (at ws (34 + n) % 2048 + 591) in omega arith)
+    (λ l. let q : k ≡ n = omega arith in rw q (or-right (raisedTo ws n) (at ws (34 + n) % 2048 + 591)))
+
+-- sixteen words that are all under a bound
+abbrev pub Under : ℕ → List ℕ → ℕ → Type 0
+Under b ws i = (k : ℕ) → k < 16 → at ws (i + k) < b
+
+pub formed-under : (b : ℕ) (ws : List ℕ) (i n : ℕ) → Under b ws i → b ≤ 2 ^ 32 → n ≤ 16 → numbersFormed ws i n ≡ true
+unfolding numbersFormed
+formed-under b ws i zero u h k = refl
+formed-under b ws i (suc n) u h k =
+    rw (formed-under b ws i n u h (omega arith), lt-ltb (at ws (i + n)) (2 ^ 32) (let l = u n (omega arith) in omega arith))
+
+-- an element of sixteen is that word
+pub element : (ws : List ℕ) (i k : ℕ) → k < 16 → getD (sixteenOf ws i) k 0 ≡ numberOf (at ws (i + k))
+unfolding sixteenOf
+element ws i zero h = refl
+element ws i (suc zero) h = refl
+element ws i (suc (suc zero)) h = refl
+element ws i (suc (suc (suc zero))) h = refl
+element ws i (suc (suc (suc (suc zero)))) h = refl
+element ws i (suc (suc (suc (suc (suc zero))))) h = refl
+element ws i (suc (suc (suc (suc (suc (suc zero)))))) h = refl
+element ws i (suc (suc (suc (suc (suc (suc (suc zero))))))) h = refl
+element ws i (suc (suc (suc (suc (suc (suc (suc (suc zero)))))))) h = refl
+element ws i (suc (suc (suc (suc (suc (suc (suc (suc (suc zero))))))))) h = refl
+element ws i (suc (suc (suc (suc (suc (suc (suc (suc (suc (suc zero)))))))))) h = refl
+element ws i (suc (suc (suc (suc (suc (suc (suc (suc (suc (suc (suc zero))))))))))) h = refl
+element ws i (suc (suc (suc (suc (suc (suc (suc (suc (suc (suc (suc (suc zero)))))))))))) h = refl
+element ws i (suc (suc (suc (suc (suc (suc (suc (suc (suc (suc (suc (suc (suc zero))))))))))))) h = refl
+element ws i (suc (suc (suc (suc (suc (suc (suc (suc (suc (suc (suc (suc (suc (suc zero)))))))))))))) h = refl
+element ws i (suc (suc (suc (suc (suc (suc (suc (suc (suc (suc (suc (suc (suc (suc (suc zero))))))))))))))) h = refl
+element ws i (suc (suc (suc (suc (suc (suc (suc (suc (suc (suc (suc (suc (suc (suc (suc (suc k)))))))))))))))) h = absurd (omega arith)
+
+window-under : (b : ℕ) (ws : List ℕ) (i a c : ℕ) → Under b ws i → allUnder b (windowFrom (sixteenOf ws i) a c) ≡ true
+unfolding windowFrom allUnder
+window-under b ws i a zero u = refl
+window-under b ws i a (suc n) u =
+    let p = placeBefore a (suc n) in
+    let h : p < 16 = mod-lt (a + (16 - suc n)) (omega arith) in
+    let l = u p h in
+    let m = mod-le (at ws (i + p)) (2 ^ 32) in
+    rw (element ws i p h, lt-ltb (numberOf (at ws (i + p))) b (omega arith), window-under b ws i a n u)
+
+-- places_ok, rates_ok
+and-true : (b : Bool) → (b && true) ≡ b
+and-true true = refl
+and-true false = refl
+
+module _ (ws : List ℕ) (e : allSmall ws ≡ true) where
+  abbrev a1 : Bool
+  a1 = ltb (bitsTo ws 18 16) (2 ^ 31)
+
+  abbrev a2 : Bool
+  a2 = ltb (bitsTo ws 54 16) (2 ^ 31)
+
+  abbrev a3 : Bool
+  a3 = ltb (bitsTo ws 34 16) 2048
+
+  three : (a1 && a2 && a3) ≡ true
+  three = and-left (a1 && a2 && a3) (ltb (raisedTo ws 16) 2048) e
+
+  low : (a1 && a2) ≡ true
+  low = and-left (a1 && a2) a3 three
+
+  gaps-small : Under (2 ^ 31) ws 18
+  gaps-small k h = let a = in-bits ws 18 16 k h in let b = ltb-true (bitsTo ws 18 16) (2 ^ 31) (and-left a1 a2 low) in omega arith
+
+  probes-small : Under (2 ^ 31) ws 54
+  probes-small k h = let a = in-bits ws 54 16 k h in let b = ltb-true (bitsTo ws 54 16) (2 ^ 31) (and-right a1 a2 low) in omega arith
+
+  sizes-small : Under 1457 ws 34
+  sizes-small k h =
+      let a = in-bits ws 34 16 k h in
+      let b = ltb-true (bitsTo ws 34 16) 2048 (and-right (a1 && a2) a3 three) in
+      let c = in-raised ws 16 k h in
+      let d = ltb-true (raisedTo ws 16) 2048 (and-right (a1 && a2 && a3) (ltb (raisedTo ws 16) 2048) e) in
+      let f : at ws (34 + k) % 2048 ≡ at ws (34 + k) = mod-eq-of-lt (omega arith) in
+      omega arith
+
+  all-formed : ratesFormed ws ≡ true
+  all-formed =
+      rw (
+        formed-under (2 ^ 31) ws 18 16 gaps-small (omega arith) (omega arith),
+        formed-under 1457 ws 34 16 sizes-small (omega arith) (omega arith),
+        formed-under (2 ^ 31) ws 54 16 probes-small (omega arith) (omega arith),
+      )
+
+  quick : {b : Bool} → b ≡ placesOk ws → b ≡ (ratesFormed ws && (arrivalsOk (arrivalsOf ws) && linksOk (linksOf ws)))
+  unfolding arrivalsOk linksOk
+  quick f =
+      f
+      ∙ rw (
+        all-formed,
+        window-under (2 ^ 31) ws 18 (at ws 50) (at ws 51) gaps-small,
+        window-under 1457 ws 34 (at ws 50) (at ws 51) sizes-small,
+        window-under (2 ^ 31) ws 54 (at ws 70) (at ws 71) probes-small,
+        and-true (leb (at ws 51) 16 && ltb (at ws 50) 16),
+        and-true (leb (at ws 51) 16 && ltb (at ws 50) 16),
+        and-true (leb (at ws 71) 16 && ltb (at ws 70) 16),
+      )
+
+pub rates-quick : (ws : List ℕ) {s b : Bool} → s ≡ allSmall ws → s ≡ true → b ≡ placesOk ws → b ≡ (ratesFormed ws && (arrivalsOk (arrivalsOf ws) && linksOk (linksOf ws)))
+rates-quick ws e t f = quick ws (sym e ∙ t) f
+
+-- parts_ok: the machine's whole number is the definition's
+pub parts-by : (ws : List ℕ) {w : Window} {k : SynchronizedRemoteClock} {x : Rtt} {h : History} {n : ℕ} {t t₁ : ℤ} {d c m y z : Bool}
+    → w ≡ windowOf ws → d ≡ windowOk w → n ≡ numberOf (at ws 6) → k ≡ clockOf ws → c ≡ clockOk k → x ≡ rttOf ws → m ≡ rttOk x → h ≡ historyOf ws → y ≡ historyOk h
+    → t ≡ wholeOf (at ws 0) → t₁ ≡ t → z ≡ isReading t₁ → (d && leb n 65535000 && c && m && y && z) ≡ partsOk ws
+parts-by ws a b c d e f g h i j k l = rw (b, a, c, e, d, g, f, i, h, l, k, j)
+
+pub time-by : (s t : ℕ) {m : Moment} {b : Bool} → m ≡ momentOf s t → b ≡ timeOk m → b ≡ timeOk (momentOf s t)
+time-by s t e f = rw (f, e)
+
+pub places-by : (ws : List ℕ) {a b : Bool} → a ≡ timeOk (momentOf (at ws 52) (at ws 53)) → b ≡ timeOk (momentOf (at ws 72) (at ws 73))
+    → ((leb (at ws 51) 16 && ltb (at ws 50) 16 && a) && (leb (at ws 71) 16 && ltb (at ws 70) 16 && b)) ≡ placesOk ws
+places-by ws e f = rw (e, f)
+
+pub small-by : (ws : List ℕ) {a b c d : ℕ} → a ≡ bitsTo ws 18 16 → b ≡ bitsTo ws 54 16 → c ≡ bitsTo ws 34 16 → d ≡ raisedTo ws 16
+    → (ltb a 2147483648 && ltb b 2147483648 && ltb c 2048 && ltb d 2048) ≡ allSmall ws
+small-by ws e f g h = rw (e, f, g, h)
+
+pub rates-slow : (ws : List ℕ) {x : Arrivals} {y : Links} {f a l : Bool} → x ≡ arrivalsOf ws → y ≡ linksOf ws → f ≡ ratesFormed ws → a ≡ arrivalsOk x → l ≡ linksOk y
+    → (f && (a && l)) ≡ (ratesFormed ws && (arrivalsOk (arrivalsOf ws) && linksOk (linksOf ws)))
+rates-slow ws p q e f g = rw (e, f, g, p, q)
+
+-- sound
+and-any : (b : Bool) → (b && false) ≡ false
+and-any true = refl
+and-any false = refl
+
+shuffle : (f l r a k w t c m y z : Bool)
+    → (f && l && (r && (a && k)) && (w && t && c && m && y && z)) ≡ ((f && l && r) && (w && t && c && m && a && k && y && z))
+shuffle false l r a k w t c m y z = refl
+shuffle true false r a k w t c m y z = refl
+shuffle true true false a k w t c m y z = refl
+shuffle true true true a k false t c m y z = and-any (a && k)
+shuffle true true true a k true false c m y z = and-any (a && k)
+shuffle true true true a k true true false m y z = and-any (a && k)
+shuffle true true true a k true true true false y z = and-any (a && k)
+shuffle true true true false k true true true true y z = refl
+shuffle true true true true false true true true true y z = refl
+shuffle true true true true true true true true true y z = refl
+
+pub no-range : headOk nowhere ≡ false
+unfolding headOk freshHead
+no-range = refl
+
+gated : (b : Bool) (ws : List ℕ) → (b && headOk (headOf ws)) ≡ headOk (cond b (headOf ws) nowhere)
+gated true ws = refl
+gated false ws = sym no-range
+
+pub sound-by : (ws : List ℕ) {f l r p : Bool} → f ≡ firstFormed ws → l ≡ lastFormed ws → r ≡ (ratesFormed ws && (arrivalsOk (arrivalsOf ws) && linksOk (linksOf ws))) → p ≡ partsOk ws
+    → (f && l && r && p) ≡ headOk (unpackOf ws)
+unfolding unpackOf formed headOf headOk
+sound-by ws e g h k =
+    rw (e, g, h, k)
+    (shuffle (firstFormed ws) (lastFormed ws) (ratesFormed ws) (arrivalsOk (arrivalsOf ws)) (linksOk (linksOf ws)) (windowOk (windowOf ws)) (leb (numberOf (at ws 6)) 65535000) (clockOk (clockOf ws)) (rttOk (rttOf ws)) (historyOk (historyOf ws)) (isReading (wholeOf (at ws 0)))
+    ∙ gated (firstFormed ws && lastFormed ws && ratesFormed ws) ws)
+
+pub ruleset sounds = (bits-start, bits-turn, bits-end, raised-start, raised-turn, raised-end, small-by, time-by, places-by, rates-quick, rates-slow, parts-by, sound-by, needs)

@@ -1,0 +1,25 @@
+use mathlib.Core.Path.{_≡_}
+use Prim.Native.Nat.{_-_, _≤_}
+use Rattle.inplace.specs.Sound.{bitsTo}
+use Rattle.inplace.proofs.Sounds.{sounds}
+use Rattle.inplace.proofs.sound.bits.Statement.{statement}
+use Rattle.inplace.proofs.sound.bits.Tie as tie
+
+abbrev Inv-loop : tie.InvT-loop
+Inv-loop ws at all₀ i₀ all i = (i ≤ 16) × (all ≡ bitsTo ws at i)
+
+abbrev μ-loop : tie.MeasureT-loop
+μ-loop ws at all₀ i₀ all i = 16 - i
+
+pub bits-spec : {M : Type 1} → statement M
+bits-spec =
+    tie.close
+    (tie.spec Inv-loop μ-loop
+    (λ c. search sounds)
+    (λ c. search sounds)
+    (λ c. search sounds)
+    (λ c. search sounds)
+    (λ c. search sounds)
+    (λ c. search sounds)
+    (λ c. search sounds)
+    (λ c. search sounds))

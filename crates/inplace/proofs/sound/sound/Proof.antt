@@ -1,0 +1,13 @@
+use Rattle.inplace.proofs.Sounds.{sounds}
+use Rattle.inplace.proofs.sound.sound.Statement.{statement}
+use Rattle.inplace.proofs.sound.sound.Tie as tie
+
+pub sound-spec : {M : Type 1} → statement M
+sound-spec =
+    tie.close
+    (tie.spec
+    (λ c κs. search sounds)
+    (λ c κs. search sounds)
+    (λ c κs. search sounds)
+    (λ c κs. search sounds)
+    (λ c. search sounds))

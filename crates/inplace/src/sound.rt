@@ -1,0 +1,110 @@
+// Refusal 1, from the words themselves: 01, "Head and lent areas".
+ghost use mathlib.Core.Path.{_≡_};
+ghost use mathlib.Core.Bool.{_&&_};
+ghost use Prim.Native.Nat.{_≤_};
+ghost use Rattle.acks.specs.Rates.{arrivalsOk, linksOk, timeOk};
+ghost use Rattle.head.specs.Head.{headOk};
+ghost use Rattle.packing.specs.Words.{momentOf};
+ghost use Rattle.packing.specs.Packed.{arrivalsOf, linksOf, ratesFormed, unpackOf};
+ghost use Rattle.inplace.specs.Sound.{Typed, bitsTo, raisedTo, allSmall, placesOk, partsOk};
+use packing::unpack;
+use packing::words;
+
+// What the type says of the words: 79 of 64 bits. A copy tells the proof so, and the compiler drops it.
+fn told(ws: [u64; 79])
+    ensures { λ _. ⌜ Typed ws ⌝ }
+{}
+
+pub fn typed(ws: &[u64; 79])
+    ensures { λ _. ⌜ Typed (now (ws .entry)) ⌝ }
+{
+    let copy = *ws;
+    told(copy);
+}
+
+// The bits of sixteen words, from word `at` on, all together.
+fn bits(ws: &[u64; 79], at: usize) -> u64
+    requires { ⌜ at ≤ 63 ⌝ }
+    ensures { λ r. ⌜ r ≡ bitsTo (now (ws .entry)) at 16 ⌝ }
+{
+    let mut all: u64 = 0;
+    let mut i: usize = 0;
+    while i < 16 {
+        all = all | ws[at + i];
+        i += 1;
+    }
+    all
+}
+
+// The same of the sizes, each raised so that one over 1,456 comes to 2,048.
+fn raised_bits(ws: &[u64; 79]) -> u64
+    ensures { λ r. ⌜ r ≡ raisedTo (now (ws .entry)) 16 ⌝ }
+{
+    let mut all: u64 = 0;
+    let mut i: usize = 0;
+    while i < 16 {
+        all = all | (ws[34 + i] % 2048 + 591);
+        i += 1;
+    }
+    all
+}
+
+// Whether every interval and size is in its range, in the window or not: so it is of every head that calls have left.
+fn all_small(ws: &[u64; 79]) -> bool
+    ensures { λ r. ⌜ r ≡ allSmall (now (ws .entry)) ⌝ }
+{
+    (bits(ws, 18) < 0x8000_0000)
+        & (bits(ws, 54) < 0x8000_0000)
+        & (bits(ws, 34) < 2048)
+        & (raised_bits(ws) < 2048)
+}
+
+// A time that may be unset is a reading.
+fn is_time(set: u64, time: u64) -> bool
+    ensures { λ r. ⌜ r ≡ timeOk (momentOf set time) ⌝ }
+{
+    let m = words::moment(set, time);
+    acks::rates::time_ok(m)
+}
+
+// The other numbers of the two windows of intervals.
+fn places_ok(ws: &[u64; 79]) -> bool
+    ensures { λ r. ⌜ r ≡ placesOk (now (ws .entry)) ⌝ }
+{
+    ((ws[51] <= 16) & (ws[50] < 16) & is_time(ws[52], ws[53]))
+        & ((ws[71] <= 16) & (ws[70] < 16) & is_time(ws[72], ws[73]))
+}
+
+// Only the intervals in a window have to be in range, so that a head with others outside it is asked place by place.
+fn rates_ok(ws: &[u64; 79]) -> bool
+    ensures { λ r. ⌜ r ≡ (ratesFormed (now (ws .entry)) && (arrivalsOk (arrivalsOf (now (ws .entry))) && linksOk (linksOf (now (ws .entry))))) ⌝ }
+{
+    if all_small(ws) {
+        return places_ok(ws);
+    }
+    let a = unpack::arrivals(ws);
+    let l = unpack::links(ws);
+    unpack::rates_formed(ws) & (a.in_range() & l.in_range())
+}
+
+// All other parts.
+fn parts_ok(ws: &[u64; 79]) -> bool
+    ensures { λ r. ⌜ r ≡ partsOk (now (ws .entry)) ⌝ }
+{
+    let w = unpack::window(ws);
+    let k = unpack::clock(ws);
+    let t = unpack::rtt(ws);
+    let y = unpack::history(ws);
+    head::state::window_in_range(w)
+        & (words::number(ws[6]) <= 65535000)
+        & k.in_range()
+        & t.in_range()
+        & y.in_range()
+        & numbers::instant::is_reading(words::whole(ws[0]))
+}
+
+pub fn sound(ws: &[u64; 79]) -> bool
+    ensures { λ r. ⌜ r ≡ headOk (unpackOf (now (ws .entry))) ⌝ }
+{
+    unpack::first_formed(ws) & unpack::last_formed(ws) & rates_ok(ws) & parts_ok(ws)
+}

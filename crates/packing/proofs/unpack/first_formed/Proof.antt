@@ -1,0 +1,23 @@
+use Rattle.packing.proofs.Says.{says-all}
+use Rattle.packing.proofs.unpack.first_formed.Statement.{statement}
+use Rattle.packing.proofs.unpack.first_formed.Tie as tie
+
+pub first-formed-spec : {M : Type 1} → statement M
+first-formed-spec =
+    tie.close
+    (tie.spec
+    (λ c. search says-all)
+    (λ c. search says-all)
+    (λ c. search says-all)
+    (λ c. search says-all)
+    (λ c. search says-all)
+    (λ c. search says-all)
+    (λ c. search says-all)
+    (λ c κs. search says-all)
+    (λ c. search says-all)
+    (λ c. search says-all)
+    (λ c κs. search says-all)
+    (λ c. search says-all)
+    (λ c κs. search says-all)
+    (λ c. search says-all)
+    (λ c. search says-all))
