@@ -10,6 +10,10 @@ impl AckHistoryWindow {
         self.buffer.len()
     }
 
+    pub fn last_acked(&self) -> SeqNumber {
+        self.last_ack_dsn
+    }
+
     pub fn acknowledged(&self) -> SeqNumber {
         self.largest_ack2_dsn
     }
