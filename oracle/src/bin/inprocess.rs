@@ -866,14 +866,19 @@ fn main() {
             loud(info)
         }
     }));
-    let words: Vec<u64> = env::args().skip(1).filter_map(|w| w.parse().ok()).collect();
-    let [runs, seed] = words[..] else {
-        eprintln!("inprocess RUNS SEED");
+    let words: Vec<String> = env::args().skip(1).collect();
+    let number = |i: usize| words.get(i).and_then(|w| w.parse::<u64>().ok());
+    let (Some(runs), Some(seed)) = (number(0), number(1)) else {
+        eprintln!("inprocess RUNS SEED [first]     first: stop at the first difference, and do not reduce it");
         exit(2)
     };
+    let first = words.get(2).is_some_and(|w| w == "first");
     let (mut agreed, mut left, mut differed) = (0, 0, 0);
     let mut all = Reached::default();
     for index in 0..runs {
+        if first && differed > 0 {
+            break;
+        }
         let mut maker = match Maker::new(seed, index) {
             Ok(maker) => maker,
             Err(why) => {
@@ -895,7 +900,7 @@ fn main() {
                 agreed += steps - 1;
                 differed += 1;
                 println!("run {index} of seed {seed} differs at call {steps}: {why}");
-                if differed <= 3 {
+                if differed <= 3 && !first {
                     let header = maker.pair.header;
                     let few = reduced(header, &maker.steps);
                     println!("reduced to {} calls: {}", few.len(), written(&header, &few));
