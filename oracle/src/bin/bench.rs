@@ -491,12 +491,12 @@ fn source() -> Vec<u8> {
         .collect()
 }
 
-/// One line a row: medians of both sides and of the pairs' ratios, with the quarters of the ratio.
+/// One line a row: medians of both sides and of the pairs' ratios, the quarters of the ratio, and the ratio of both sides' best.
 fn table(chosen: &[String]) -> i32 {
     let (zero, source) = (Instant::now(), source());
     let mut ported = Ported::new(CAPACITY);
     let mut differed = 0;
-    println!("row\twhat\tunit\tRust ns\tport ns\tport/Rust\tquarters");
+    println!("row\twhat\tunit\tRust ns\tport ns\tratio\tquarters\tof the best");
     for row in rows(zero) {
         if !chosen.is_empty() && !chosen.iter().any(|c| c == row.name) {
             continue;
@@ -529,7 +529,28 @@ fn table(chosen: &[String]) -> i32 {
         }
         let (t, o, m) = (median(&mut theirs), median(&mut ours), median(&mut ratios));
         let quarters = (ratios[ratios.len() / 4], ratios[ratios.len() * 3 / 4]);
-        println!("{}\t{}\t{}\t{t:.1}\t{o:.1}\t{m:.2}\t{:.2} to {:.2}", row.name, row.what, row.unit, quarters.0, quarters.1);
+        // All three are sorted by now; the best of each side is the least disturbed by other programs.
+        let best = ours[0] / theirs[0];
+        println!(
+            "{}\t{}\t{}\t{t:.1}\t{o:.1}\t{m:.2}\t{:.2} to {:.2}\t{best:.2}",
+            row.name, row.what, row.unit, quarters.0, quarters.1
+        );
+    }
+    differed
+}
+
+/// Whether both sides answer alike in every row; says nothing if they do.
+fn alike(chosen: &[String]) -> i32 {
+    let (zero, source) = (Instant::now(), source());
+    let mut differed = 0;
+    for row in rows(zero).iter().filter(|r| chosen.is_empty() || chosen.iter().any(|c| c == r.name)) {
+        let theirs = run(&mut Rust::new(zero, row.settings), row, &source).1;
+        let mut ported = Ported::new(row.settings.capacity);
+        ported.fresh(row.settings);
+        if run(&mut ported, row, &source).1 != theirs {
+            println!("{}: the sides answer otherwise", row.name);
+            differed = 1;
+        }
     }
     differed
 }
@@ -570,6 +591,7 @@ fn sizes() -> i32 {
 
 fn usage() -> ! {
     eprintln!("bench table [ROW ..]         the port against the Rust, a line a row");
+    eprintln!("bench alike [ROW ..]         whether they answer alike");
     eprintln!("bench once ROW rust|port     one row on one side, for callgrind");
     eprintln!("bench rows                   the rows' names");
     eprintln!("bench sizes                  memory");
@@ -580,6 +602,7 @@ fn main() {
     let words: Vec<String> = env::args().skip(1).collect();
     exit(match words.first().map(String::as_str) {
         Some("table") => table(&words[1..]),
+        Some("alike") => alike(&words[1..]),
         Some("once") if words.len() == 3 => once(&words[1], &words[2]),
         Some("rows") => {
             rows(Instant::now()).iter().for_each(|r| println!("{}", r.name));

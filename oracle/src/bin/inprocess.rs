@@ -667,8 +667,14 @@ impl Maker {
                     self.put(Record::Report(now));
                 }
             }
+            // A full ACK, often at or beside the readings at which its two tests turn, which are the last of the edges.
             8 => {
-                let now = self.now();
+                let mut now = self.now();
+                if self.dice.below(2) == 0 && self.pair.machine.ack_numbers().is_some() {
+                    let edges = self.pair.machine.edges();
+                    let at = self.dice.of(&edges[edges.len() - 2..]) + self.dice.below(3) as i64 - 1;
+                    now = now.max(at.max(0) as u64);
+                }
                 self.put(Record::Ack(now));
             }
             9 => {
@@ -694,18 +700,12 @@ impl Maker {
                 };
                 self.put(Record::Drop(first, last & 0x7fff_ffff));
             }
-            11 => {
-                let n = if self.dice.below(12) == 0 { 1_010 } else { 1 + self.dice.below(3) };
-                let wide = self.dice.of(&[1, 500, 5_000, 9_000, 20_000]);
-                for _ in 0..n {
-                    let now = self.pair.machine.latest as u64 + self.dice.below(3);
-                    let drift = self.dice.below(2 * wide + 1) as i64 - wide as i64;
-                    let stamp = self.stamp_of(now as i64 - drift);
-                    self.put(Record::Clock(now, stamp));
-                }
-            }
+            11 => self.clocks(),
             12 => {
                 self.put(Record::Clear);
+                if self.dice.below(2) == 0 {
+                    self.taken_back();
+                }
             }
             13 => self.refused(),
             _ => {
@@ -715,6 +715,50 @@ impl Maker {
                 }
             }
         }
+    }
+
+    /// A few clock samples; or over a thousand; or a thousand whose deviation is at the tolerance or just beside it.
+    fn clocks(&mut self) {
+        let wide = self.dice.of(&[1, 500, 5_000, 9_000, 20_000]);
+        let (known, offset) = (self.dice.of(&[4_999, 5_000, 5_000, 5_001]), self.dice.of(&[0, 0, 1, -3, 250]));
+        let strays = self.dice.of(&[0, 0, 40]);
+        let (any, exact) = match self.dice.below(16) {
+            0 => (1_010, 0),
+            1 => {
+                // What was begun is finished first.
+                let stand = self.pair.machine.stand();
+                let (seen, samples) = (stand.seen, u64::from(stand.sums.2));
+                (u64::from(!seen) + (1_000 - samples) % 1_000, 1_000)
+            }
+            _ => (1 + self.dice.below(3), 0),
+        };
+        for i in 0..any + exact {
+            let drift = if i < any {
+                self.dice.below(2 * wide + 1) as i64 - wide as i64
+            } else {
+                let stray = if i - any < strays { self.dice.below(5) as i64 } else { 0 };
+                offset + (known + stray) * (1 - 2 * ((i - any) as i64 % 2))
+            };
+            let now = self.pair.machine.latest as u64 + self.dice.below(3);
+            let stamp = self.stamp_of(now as i64 - drift);
+            self.put(Record::Clock(now, stamp));
+        }
+    }
+
+    /// After a clear: a packet at the front, the one that lrsn names, an ACK of it; a late drop of the front alone then takes lrsn back
+    /// before the number acknowledged.
+    fn taken_back(&mut self) {
+        let (front, lrsn) = (self.next(), self.pair.machine.lrsn());
+        let now = self.now();
+        let stamp = self.stamp_of(now as i64);
+        self.put(Record::Data { now, number: front, message: 1, location: 2, stamp, payload: vec![1, 2] });
+        let later = now + 5_000 + self.dice.below(3);
+        let stamp = self.stamp_of(later as i64);
+        self.put(Record::Data { now: later, number: lrsn, message: 2, location: 3, stamp, payload: vec![3] });
+        self.put(Record::Ack(later));
+        let due = later + u64::from(self.pair.header.latency);
+        self.put(Record::Pop(due));
+        self.put(Record::Ack(due));
     }
 
     fn odd(&mut self) {
@@ -772,7 +816,7 @@ impl Maker {
 
     fn run(&mut self) {
         //                          next gap comb rec again odd pop rep ack ack2 drop clock clear refused round
-        let weights: [u64; ACTS] = [200, 60, 60, 90, 30, 6, 200, 60, 60, 50, 15, 12, 1, 6, 40];
+        let weights: [u64; ACTS] = [200, 60, 60, 90, 30, 6, 250, 60, 90, 60, 15, 15, 4, 6, 40];
         while !self.done() {
             let mut at = self.dice.below(weights.iter().sum());
             let mut act = 0;
