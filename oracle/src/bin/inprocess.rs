@@ -286,6 +286,8 @@ impl Pair {
     fn short(&mut self, n: usize, record: &Record, output: usize, words: usize, reached: &mut Reached) -> Result<(), String> {
         let port = &mut self.ports[n];
         let before = (port.head, port.counters, port.slots.clone(), port.history.clone());
+        // Twelve megabytes at the largest capacity: copied only where it is small.
+        let payloads = (self.header.capacity <= 512).then(|| port.payloads.clone());
         let (mut out, mut list) = (vec![0xa5; output], vec![0xa5a5_a5a5; words]);
         let mut tried = Vec::new();
         let counted = n == 0;
@@ -323,6 +325,7 @@ impl Pair {
         }
         let same = before == (port.head, port.counters, port.slots.clone(), port.history.clone());
         hold!(same, "a call that was lent too little changed something");
+        hold!(payloads.is_none_or(|p| p == port.payloads), "a call that was lent too little wrote a payload");
         let clean = out.iter().all(|b| *b == 0xa5) && list.iter().all(|w| *w == 0xa5a5_a5a5);
         hold!(clean, "a call that was lent too little wrote into what was lent");
         Ok(())
