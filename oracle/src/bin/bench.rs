@@ -575,8 +575,8 @@ fn once(name: &str, side: &str) -> i32 {
 /// What a receiver takes in memory.
 fn sizes() -> i32 {
     let settings = Settings { latency: 0, first: 0, capacity: 32 };
-    let entry = Rust::new(Instant::now(), settings).0.arq.entry_size();
-    println!("the Rust: receiver {} bytes, an entry of its window {entry} bytes", size_of::<Receiver>());
+    let (entry, ack) = Rust::new(Instant::now(), settings).0.arq.entry_sizes();
+    println!("the Rust: receiver {} bytes, an entry of its window {entry}, an ACK {ack}", size_of::<Receiver>());
     for capacity in [32, CAPACITY] {
         println!(
             "capacity {capacity}: the port head {} slots {} payloads {} history {} bytes",

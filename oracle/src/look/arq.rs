@@ -9,8 +9,9 @@ impl AutomaticRepeatRequestAlgorithm {
         &mut self.receive_buffer
     }
 
-    pub fn entry_size(&self) -> usize {
-        ReceiveBuffer::ENTRY
+    /// Bytes that an entry takes in the window and in the history.
+    pub fn entry_sizes(&self) -> (usize, usize) {
+        (ReceiveBuffer::ENTRY, AckHistoryWindow::ENTRY)
     }
 
     pub fn history(&self) -> &AckHistoryWindow {
