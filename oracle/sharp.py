@@ -3,6 +3,7 @@
 unchanged Rust as if it were the port. Every mistake must be found.
 
     sharp.py [N] [SEED] [WORD]      N traces of each kind (30), seed (1), only mistakes in whose text WORD stands
+    sharp.py --inprocess ..         the same for inprocess: N runs (300), the changed Rust against the port's library
 """
 import os
 import pathlib
@@ -78,6 +79,9 @@ MISTAKES = [
 
 
 def main(words):
+    inprocess = words[:1] == ["--inprocess"]
+    if inprocess:
+        words = words[1:] or ["300"]
     count, seed = (words + ["30", "1"][len(words):])[:2]
     only = words[2] if len(words) > 2 else ""
     oracle = HERE / "target/release/oracle"
@@ -97,10 +101,14 @@ def main(words):
             path.write_text(text.replace(old, new))
             # Built in less time; the answers are the same.
             env = dict(os.environ, CARGO_TARGET_DIR=str(room / "target"), CARGO_PROFILE_RELEASE_OPT_LEVEL="1")
-            built = subprocess.run(["cargo", "build", "--release", "--quiet", "-j1"], cwd=room / "oracle", env=env, capture_output=True, text=True)
+            if inprocess:
+                env.setdefault("PURSETHISTLE_LIB", str(HERE.parent / "target/staticlib/libexports.a"))
+            which = ["--features", "library", "--bin", "inprocess"] if inprocess else ["--bin", "oracle"]
+            built = subprocess.run(["cargo", "build", "--release", "--quiet", "-j1", *which], cwd=room / "oracle", env=env, capture_output=True, text=True)
             if built.returncode != 0:
                 sys.exit(f"{file}: {new!r} does not build:\n{built.stderr[-1500:]}")
-            ran = subprocess.run([oracle, "lines", program, count, seed], cwd=room, capture_output=True, text=True)
+            calls = [room / "target/release/inprocess", count, seed, "first"] if inprocess else [oracle, "lines", program, count, seed]
+            ran = subprocess.run(calls, cwd=room, capture_output=True, text=True)
             last = ran.stdout.splitlines()[-1] if ran.stdout else ran.stderr[-300:]
             found = ran.returncode == 1
             missed += not found

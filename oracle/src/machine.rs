@@ -127,6 +127,36 @@ impl Sums {
     }
 }
 
+/// Where a receiver stands, as plain numbers: all that 01's head holds, but for the places in its rings.
+#[derive(Debug, PartialEq)]
+pub struct Stand {
+    pub latest: i64,
+    pub held: usize,
+    pub front: u32,
+    pub lrsn: u32,
+    pub reference: (i64, u32),
+    pub released: Option<i64>,
+    pub seen: bool,
+    /// The bits of mean and squares, and the count.
+    pub sums: (u64, u64, u32),
+    pub rtt: (i64, i64),
+    pub arrivals: Vec<(i64, u64)>,
+    pub arrival: Option<i64>,
+    pub pairs: Vec<i64>,
+    pub probe: Option<i64>,
+    /// Data number, ACK number and departure.
+    pub acks: Vec<(u32, u32, i64)>,
+    pub acknowledged: u32,
+    pub last_acked: u32,
+}
+
+/// An entry of the window, with the packet of a received one.
+pub enum Entry<'a> {
+    Lost { k: i32, feedback: i64 },
+    Received(&'a DataPacket),
+    GivenUp,
+}
+
 pub struct Machine {
     zero: Instant,
     header: Header,
@@ -142,6 +172,9 @@ pub struct Machine {
     /// The record at which the domain was left, and why.
     pub left: Option<(u64, String)>,
     pub panicked: bool,
+    /// The bytes of the last message, and v of the last thousand samples: a line has neither.
+    pub message: Bytes,
+    pub variance: f64,
 }
 
 thread_local! {
@@ -178,6 +211,8 @@ impl Machine {
             records: 0,
             left: None,
             panicked: false,
+            message: Bytes::new(),
+            variance: 0.0,
         }
     }
 
@@ -381,24 +416,26 @@ impl Machine {
 
     fn pop(&mut self, now: u64) -> String {
         let at = self.at(now);
-        let before: Vec<Seen> = self.answering.arq.window().entries().collect();
+        let before = self.held();
+        let first_received = self.answering.arq.window().entries().find_map(|e| match e {
+            Seen::Received { time } => Some(self.micros(time)),
+            _ => None,
+        });
         let answer = self.answering.arq.pop_next_message(at);
         let _ = self.counting.arq.pop_next_message(at);
         match answer {
             Ok(None) => "none".to_string(),
             Ok(Some((time, bytes))) => {
-                let packets = before.len() - self.held();
+                let packets = before - self.held();
                 let count = if self.switches.packet_count { format!(" {packets}") } else { String::new() };
-                format!("message {} {}{count}", self.micros(time), bytes.len())
+                let line = format!("message {} {}{count}", self.micros(time), bytes.len());
+                self.message = bytes;
+                line
             }
             Err(late) => {
                 let (first, end) = (late.too_late_packets.start, late.too_late_packets.end);
-                let walked = &before[..(end - first) as usize];
-                let time = walked.iter().find_map(|e| match e {
-                    Seen::Received { time } => Some(self.micros(*time)),
-                    _ => None,
-                });
-                let delay = now as i64 - (time.unwrap() + i64::from(self.header.latency));
+                // What was discarded ends with a received entry, so the window's first received one is the first walked.
+                let delay = now as i64 - (first_received.unwrap() + i64::from(self.header.latency));
                 if delay != delay.clamp(-LONGEST - 1, LONGEST) {
                     self.leave("an interval cut by the clamp (delay)");
                 }
@@ -521,6 +558,7 @@ impl Machine {
         let theirs = (self.shadow.mean() as i32, self.shadow.stddev() as i32);
         assert!(answer.is_none() || answer == Some(theirs));
         let v = self.sums.variance();
+        self.variance = v;
         let ours = (self.sums.mean as i32, self.sums.deviation());
         if v.sqrt() as i32 != ours.1 {
             self.leave("a root that rounds up");
@@ -571,8 +609,53 @@ impl Machine {
         format!("end {} {} {} {}", self.records, self.lrsn(), self.front(), self.held())
     }
 
+    pub fn stand(&self) -> Stand {
+        let arq = &self.answering.arq;
+        let (history, clock) = (arq.history(), arq.window().clock());
+        let time = |t: Option<Instant>| t.map(|t| self.micros(t));
+        Stand {
+            latest: self.latest,
+            held: self.held(),
+            front: self.front(),
+            lrsn: self.lrsn(),
+            reference: self.reference(),
+            released: time(clock.last_released()),
+            seen: clock.samples().is_some(),
+            sums: (self.sums.mean.to_bits(), self.sums.q.to_bits(), self.sums.n),
+            rtt: (self.mean(), i64::from(arq.round_trip().variance().as_micros())),
+            arrivals: arq.arrivals().iter().map(|(t, size)| (i64::from(*t), *size)).collect(),
+            arrival: time(arq.last_arrival()),
+            pairs: arq.pairs().iter().map(|t| i64::from(*t)).collect(),
+            probe: time(arq.probe()),
+            acks: history.entries().map(|(number, ack, at)| (number.0, ack.0, self.micros(at))).collect(),
+            acknowledged: history.acknowledged().0,
+            last_acked: history.last_acked().0,
+        }
+    }
+
+    /// The entries, front first.
+    pub fn entries(&self) -> impl Iterator<Item = Entry<'_>> + '_ {
+        let window = self.answering.arq.window();
+        window.entries().enumerate().map(move |(i, entry)| match entry {
+            Seen::Lost { k, feedback } => Entry::Lost { k, feedback: self.micros(feedback) },
+            Seen::Received { .. } => Entry::Received(window.packet(i).unwrap()),
+            Seen::GivenUp => Entry::GivenUp,
+        })
+    }
+
+    /// The payload of a held received entry, by its number.
+    pub fn payload(&self, number: u32) -> Option<&[u8]> {
+        let place = number.wrapping_sub(self.front()) & 0x7fff_ffff;
+        let packet = self.answering.arq.window().packet(place as usize)?;
+        Some(&packet.payload)
+    }
+
+    pub fn counters(&self) -> [u64; 10] {
+        self.statistics.ten().map(|(_, value)| value)
+    }
+
     /// Both receivers have had the same calls; they must stand alike.
-    fn same(&self) -> bool {
+    pub fn same(&self) -> bool {
         let seen = |r: &Receiver| (r.arq.window().next_ack_dsn(), r.arq.window().front_number(), r.arq.window().held());
         seen(&self.answering) == seen(&self.counting) && self.answering.arq.round_trip() == self.counting.arq.round_trip()
     }

@@ -18,8 +18,8 @@ pub struct SocketStatistics {
 }
 
 impl SocketStatistics {
-    pub fn line(&self) -> String {
-        let ten = [
+    pub fn ten(&self) -> [(&'static str, u64); 10] {
+        [
             ("rx_data", self.rx_data),
             ("rx_bytes", self.rx_bytes),
             ("rx_unique_data", self.rx_unique_data),
@@ -30,7 +30,10 @@ impl SocketStatistics {
             ("rx_ack2", self.rx_ack2),
             ("rx_ack2_errors", self.rx_ack2_errors),
             ("rx_clock_adjustments", self.rx_clock_adjustments),
-        ];
-        ten.iter().fold("counters".to_string(), |line, (name, value)| format!("{line} {name}={value}"))
+        ]
+    }
+
+    pub fn line(&self) -> String {
+        self.ten().iter().fold("counters".to_string(), |line, (name, value)| format!("{line} {name}={value}"))
     }
 }

@@ -9,6 +9,11 @@ impl AutomaticRepeatRequestAlgorithm {
         &mut self.receive_buffer
     }
 
+    /// Bytes that an entry takes in the window and in the history.
+    pub fn entry_sizes(&self) -> (usize, usize) {
+        (ReceiveBuffer::ENTRY, AckHistoryWindow::ENTRY)
+    }
+
     pub fn history(&self) -> &AckHistoryWindow {
         &self.ack_history_window
     }
@@ -23,6 +28,15 @@ impl AutomaticRepeatRequestAlgorithm {
 
     pub fn probe(&self) -> Option<Instant> {
         self.link_capacity_estimate.probe_time
+    }
+
+    /// Interval and size of each arrival, and each pair's interval, oldest first.
+    pub fn arrivals(&self) -> Vec<(i32, u64)> {
+        self.arrival_speed.packet_history_window.iter().map(|(t, size)| (t.as_micros(), *size)).collect()
+    }
+
+    pub fn pairs(&self) -> Vec<i32> {
+        self.link_capacity_estimate.packet_pair_window.iter().map(|t| t.as_micros()).collect()
     }
 
     /// 01: "Newest 16 likewise, median index 7, 1,000,000 / median truncated; 0 gives 4,294,967,295."

@@ -8,6 +8,9 @@ pub enum Seen {
 }
 
 impl ReceiveBuffer {
+    /// Bytes that an entry takes in the window, without its payload.
+    pub const ENTRY: usize = std::mem::size_of::<BufferPacket>();
+
     pub fn held(&self) -> usize {
         self.buffer.len()
     }
@@ -26,6 +29,11 @@ impl ReceiveBuffer {
             BufferPacket::Received(data) => Seen::Received { time: self.remote_clock.instant_from(data.timestamp) },
             BufferPacket::Dropped(_) => Seen::GivenUp,
         })
+    }
+
+    /// The packet of an entry that is received.
+    pub fn packet(&self, index: usize) -> Option<&DataPacket> {
+        self.buffer.get(index)?.data_packet()
     }
 
     pub fn drop_indices(&self, range: Range<SeqNumber>) -> (usize, usize) {

@@ -15,6 +15,10 @@ impl SynchronizedRemoteClock {
         self.time_base = base;
     }
 
+    pub fn last_released(&self) -> Option<Instant> {
+        self.last_monotonic_instant
+    }
+
     /// No samples before the first drift.
     pub fn samples(&self) -> Option<usize> {
         self.stats.as_ref().map(|s| s.len())
