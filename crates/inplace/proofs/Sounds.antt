@@ -24,6 +24,7 @@ use Rattle.acks.specs.declared.rates.Arrivals.{Arrivals}
 use Rattle.acks.specs.declared.rates.Links.{Links}
 use Rattle.acks.specs.declared.rtt.Rtt.{Rtt}
 use Rattle.window.specs.declared.Window.{Window}
+use Rattle.head.specs.declared.state.Head.{Head}
 use Rattle.head.specs.Head.{windowOk, headOk, freshHead}
 use Rattle.numbers.specs.Whole.{isReading}
 use Rattle.packing.specs.Words.{numberOf, numberFormed, wholeOf, momentOf}
@@ -175,7 +176,7 @@ module _ (ws : List ℕ) (e : allSmall ws ≡ true) where
         and-true (leb (at ws 71) 16 && ltb (at ws 70) 16),
       )
 
-pub rates-quick : (ws : List ℕ) {s b : Bool} → s ≡ allSmall ws → s ≡ true → b ≡ placesOk ws → b ≡ (ratesFormed ws && (arrivalsOk (arrivalsOf ws) && linksOk (linksOf ws)))
+rates-quick : (ws : List ℕ) {s b : Bool} → s ≡ allSmall ws → s ≡ true → b ≡ placesOk ws → b ≡ (ratesFormed ws && (arrivalsOk (arrivalsOf ws) && linksOk (linksOf ws)))
 rates-quick ws e t f = quick ws (sym e ∙ t) f
 
 -- parts_ok: the machine's whole number is the definition's
@@ -194,10 +195,6 @@ places-by ws e f = rw (e, f)
 pub small-by : (ws : List ℕ) {a b c d : ℕ} → a ≡ bitsTo ws 18 16 → b ≡ bitsTo ws 54 16 → c ≡ bitsTo ws 34 16 → d ≡ raisedTo ws 16
     → (ltb a 2147483648 && ltb b 2147483648 && ltb c 2048 && ltb d 2048) ≡ allSmall ws
 small-by ws e f g h = rw (e, f, g, h)
-
-pub rates-slow : (ws : List ℕ) {x : Arrivals} {y : Links} {f a l : Bool} → x ≡ arrivalsOf ws → y ≡ linksOf ws → f ≡ ratesFormed ws → a ≡ arrivalsOk x → l ≡ linksOk y
-    → (f && (a && l)) ≡ (ratesFormed ws && (arrivalsOk (arrivalsOf ws) && linksOk (linksOf ws)))
-rates-slow ws p q e f g = rw (e, f, g, p, q)
 
 -- sound
 and-any : (b : Bool) → (b && false) ≡ false
@@ -225,7 +222,7 @@ gated : (b : Bool) (ws : List ℕ) → (b && headOk (headOf ws)) ≡ headOk (con
 gated true ws = refl
 gated false ws = sym no-range
 
-pub sound-by : (ws : List ℕ) {f l r p : Bool} → f ≡ firstFormed ws → l ≡ lastFormed ws → r ≡ (ratesFormed ws && (arrivalsOk (arrivalsOf ws) && linksOk (linksOf ws))) → p ≡ partsOk ws
+sound-by : (ws : List ℕ) {f l r p : Bool} → f ≡ firstFormed ws → l ≡ lastFormed ws → r ≡ (ratesFormed ws && (arrivalsOk (arrivalsOf ws) && linksOk (linksOf ws))) → p ≡ partsOk ws
     → (f && l && r && p) ≡ headOk (unpackOf ws)
 unfolding unpackOf formed headOf headOk
 sound-by ws e g h k =
@@ -233,4 +230,11 @@ sound-by ws e g h k =
     (shuffle (firstFormed ws) (lastFormed ws) (ratesFormed ws) (arrivalsOk (arrivalsOf ws)) (linksOk (linksOf ws)) (windowOk (windowOf ws)) (leb (numberOf (at ws 6)) 65535000) (clockOk (clockOf ws)) (rttOk (rttOf ws)) (historyOk (historyOf ws)) (isReading (wholeOf (at ws 0)))
     ∙ gated (firstFormed ws && lastFormed ws && ratesFormed ws) ws)
 
-pub ruleset sounds = (bits-start, bits-turn, bits-end, raised-start, raised-turn, raised-end, small-by, time-by, places-by, rates-quick, rates-slow, parts-by, sound-by, needs)
+pub sound-quick : (ws : List ℕ) {s f l p q : Bool} → s ≡ allSmall ws → s ≡ true → f ≡ firstFormed ws → l ≡ lastFormed ws → p ≡ placesOk ws → q ≡ partsOk ws
+    → (f && l && p && q) ≡ headOk (unpackOf ws)
+sound-quick ws a b e g h k = sound-by ws e g (rates-quick ws a b h) k
+
+pub sound-slow : (ws : List ℕ) {h : Head} {b : Bool} → h ≡ unpackOf ws → b ≡ headOk h → b ≡ headOk (unpackOf ws)
+sound-slow ws e f = rw (f, e)
+
+pub ruleset sounds = (bits-start, bits-turn, bits-end, raised-start, raised-turn, raised-end, small-by, time-by, places-by, parts-by, sound-quick, sound-slow, needs)

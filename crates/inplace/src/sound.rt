@@ -1,11 +1,10 @@
 // Refusal 1, from the words themselves: 01, "Head and lent areas".
 ghost use mathlib.Core.Path.{_≡_};
-ghost use mathlib.Core.Bool.{_&&_};
 ghost use Prim.Native.Nat.{_≤_};
-ghost use Rattle.acks.specs.Rates.{arrivalsOk, linksOk, timeOk};
+ghost use Rattle.acks.specs.Rates.{timeOk};
 ghost use Rattle.head.specs.Head.{headOk};
 ghost use Rattle.packing.specs.Words.{momentOf};
-ghost use Rattle.packing.specs.Packed.{arrivalsOf, linksOf, ratesFormed, unpackOf};
+ghost use Rattle.packing.specs.Packed.{unpackOf};
 ghost use Rattle.inplace.specs.Sound.{Typed, bitsTo, raisedTo, allSmall, placesOk, partsOk};
 use packing::unpack;
 use packing::words;
@@ -75,18 +74,6 @@ fn places_ok(ws: &[u64; 79]) -> bool
         & ((ws[71] <= 16) & (ws[70] < 16) & is_time(ws[72], ws[73]))
 }
 
-// Only the intervals in a window have to be in range, so that a head with others outside it is asked place by place.
-fn rates_ok(ws: &[u64; 79]) -> bool
-    ensures { λ r. ⌜ r ≡ (ratesFormed (now (ws .entry)) && (arrivalsOk (arrivalsOf (now (ws .entry))) && linksOk (linksOf (now (ws .entry))))) ⌝ }
-{
-    if all_small(ws) {
-        return places_ok(ws);
-    }
-    let a = unpack::arrivals(ws);
-    let l = unpack::links(ws);
-    unpack::rates_formed(ws) & (a.in_range() & l.in_range())
-}
-
 // All other parts.
 fn parts_ok(ws: &[u64; 79]) -> bool
     ensures { λ r. ⌜ r ≡ partsOk (now (ws .entry)) ⌝ }
@@ -103,8 +90,13 @@ fn parts_ok(ws: &[u64; 79]) -> bool
         & numbers::instant::is_reading(words::whole(ws[0]))
 }
 
+// Only the intervals in a window have to be in range; a head with others outside it is unpacked and asked place by place.
 pub fn sound(ws: &[u64; 79]) -> bool
     ensures { λ r. ⌜ r ≡ headOk (unpackOf (now (ws .entry))) ⌝ }
 {
-    unpack::first_formed(ws) & unpack::last_formed(ws) & rates_ok(ws) & parts_ok(ws)
+    if all_small(ws) {
+        return unpack::first_formed(ws) & unpack::last_formed(ws) & places_ok(ws) & parts_ok(ws);
+    }
+    let h = unpack::unpack(ws);
+    h.in_range()
 }

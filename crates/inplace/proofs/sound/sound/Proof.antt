@@ -10,4 +10,8 @@ sound-spec =
     (λ c κs. search sounds)
     (λ c κs. search sounds)
     (λ c κs. search sounds)
+    (λ c κs. search sounds)
+    (λ c. search sounds)
+    (λ c κs. search sounds)
+    (λ c κs. search sounds)
     (λ c. search sounds))
