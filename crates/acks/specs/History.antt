@@ -55,10 +55,11 @@ noneDue h a now mean lrsn =
     cond (eqb (h .largest) lrsn) true
     (cond (eqb (h .count) 0) false (isRecent a (placeOf (h .start) (h .count - 1)) now mean lrsn))
 
--- refusal 13: the newest ACK number is 4,294,967,295
+-- the newest ACK number; with none held, one before the first
 abbrev pub newestOf : History → ℕ
 newestOf h = h .first + h .count - 1
 
+-- refusal 13: the newest ACK number is 4,294,967,295
 unfoldable pub isWorn : History → Bool
 isWorn h = ltb 0 (h .count) && eqb (newestOf h) 4294967295
 
@@ -125,10 +126,11 @@ withLargest h l = record { start = h .start; count = h .count; first = h .first;
 abbrev pub withLast : History → ℕ → History
 withLast h l = record { start = h .start; count = h .count; first = h .first; largest = h .largest; lastack = l }
 
--- ACK2 of a held ACK sets largest_ack2_dsn to its number, even downwards (r: interval since departure)
+-- an ACK number from the first to the newest
 abbrev pub isHeld : History → ℕ → Bool
 isHeld h number = leb (h .first) number && ltb number (h .first + h .count)
 
+-- ACK2 of a held ACK sets largest_ack2_dsn to its number, even downwards (r: interval since departure)
 unfoldable pub ack2Of : History → List ℕ → ℕ → ℕ → Answered
 ack2Of h a now number =
     let p = placeOf (h .start) (number - h .first) in

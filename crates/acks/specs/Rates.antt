@@ -78,10 +78,11 @@ arrivalOf a now size = arrivedSince (a .last) a now size
 abbrev pub keeps : ℕ → ℕ → Bool
 keeps ai i = ltb (i / 8) ai && ltb (ai / 8) i
 
--- how many of the first n are kept, the sum of their intervals, and of their sizes
+-- one interval more, with its size, if it is kept
 unfoldable pub takeIn : ℕ → ℕ → ℕ → Kept → Kept
 takeIn ai i size k = cond (keeps ai i) (record { count = k .count + 1; sum = k .sum + i; bytes = k .bytes + size }) k
 
+-- how many of the first n are kept, the sum of their intervals, and of their sizes
 unfoldable pub keptOf : List ℕ → List ℕ → ℕ → ℕ → Kept
 keptOf gaps sizes ai zero = record { count = 0; sum = 0; bytes = 0 }
 keptOf gaps sizes ai (suc n) = takeIn ai (getD gaps n 0) (getD sizes n 0) (keptOf gaps sizes ai n)

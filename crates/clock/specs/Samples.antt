@@ -29,10 +29,10 @@ sampled s x = record { mean = meanWith s x; squares = squaresWith s x; count = s
 unfoldable pub varianceOf : OnlineStats → Float
 varianceOf s = div binary64 (s .squares) (ofInt binary64 (pos (s .count)))
 
--- deviation = whole square root of v's whole part (v negative or NaN: 0; at most 2,147,483,647)
+-- deviation = whole square root of v's whole part (v negative or NaN: 0, as `toUnsigned` has it; at most 2,147,483,647)
 unfoldable pub deviationOf : Float → ℕ
 deviationOf v = min (root (toUnsigned 64 v)) 2147483647
 
--- mean truncated to signed 32 bits (NaN: 0; beyond an end: that end)
+-- mean truncated to signed 32 bits, 31 beside the sign (NaN: 0; beyond an end: that end)
 unfoldable pub truncatedOf : Float → ℤ
 truncatedOf m = toSigned 31 m

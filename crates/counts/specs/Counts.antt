@@ -52,7 +52,7 @@ duplicate b = counts 1 b 0 0 0 0 0 0 0 0
 abbrev pub gone : ℕ → Counters
 gone n = counts 0 0 0 0 0 n 0 0 0 0
 
--- an ACK2 that is not held, and one that is found
+-- an ACK2 that is not held, and one that is found, which 003 counts among the errors (A6)
 abbrev pub unknown : Counters
 unknown = counts 0 0 0 0 0 0 0 1 0 0
 

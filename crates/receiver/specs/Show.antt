@@ -12,6 +12,7 @@ use Rattle.receiver.specs.Paper.{Line, shownLine}
 use Rattle.receiver.specs.declared.show.ShowAnswer.{ShowAnswer}
 use Rattle.receiver.specs.declared.show.ShowAnswer.the-variants.{Received, Other, Refused}
 
+-- refusals 1, 2 and 5; bytes is the length of the payload area
 abbrev pub refusalOf : Head → List ℕ → ℕ → ℕ → ℕ
 refusalOf h ws bytes number = firstRefusal (showRules (headOk h) (h .window .capacity) (length ws) bytes number)
 

@@ -1,4 +1,4 @@
-// replay FILE, or standard input when no file is named: writes 01's lines for a trace to standard output. 01, "Trace, mark DLT".
+// replay [--counters] [FILE]: writes 01's lines for a trace to standard output, and the counters behind them if they are asked for. 01, "Trace, mark DLT".
 fn main() {
     replaying::run();
 }

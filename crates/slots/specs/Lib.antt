@@ -1,3 +1,3 @@
--- The definitions of the lent areas, in the order of 01, "Head and lent areas".
+-- The definitions of the lent areas: 01, "Head and lent areas", an entry's words and then where it lies.
 pub mod Words
 pub mod Ring

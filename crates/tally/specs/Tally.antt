@@ -1,6 +1,6 @@
 -- What the answers of a replay count together, and the line that is written of it behind the end line if it is asked for: `counters`, then the ten
 -- of 003 by name. 01, "Counters follow 003".
-use mathlib.Core.Bool.{cond, true}
+use mathlib.Core.Bool.{Bool, cond, true}
 use mathlib.Core.List.{List, [], _∷_, _++_}
 use Prim.Native.Nat.{ℕ}
 use Rattle.text.specs.Decimal.{decimal}
@@ -9,7 +9,6 @@ use Rattle.counts.specs.declared.Counters.{Counters}
 use Rattle.step.specs.declared.Answer.{Answer}
 use Rattle.step.specs.declared.Answer.the-variants as answers
 use Rattle.tally.specs.declared.Tally.{Tally}
-use mathlib.Core.Bool.{Bool}
 
 -- what an answer raises; size is the length of a data packet's payload
 abbrev pub countedOf : Counters → ℕ → Answer → Counters

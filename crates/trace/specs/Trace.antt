@@ -36,7 +36,7 @@ pub record Replay : Type 0 where
   pub tally : Tally
   pub areas : Areas
 
--- the record as a call; one that is cut or bad is none, and is never made
+-- the record as a call; one that is cut or bad is none, and is never made, so that any call may stand for it
 abbrev pub callIn : RecordRead → Call
 callIn records.Short = calls.Clear
 callIn records.Bad = calls.Clear

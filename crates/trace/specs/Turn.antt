@@ -85,7 +85,7 @@ isShort (records.Drop first last) = false
 isShort (records.Clock time stamp) = false
 isShort records.Clear = false
 
--- room for the longest line: the end line and the counters behind it, and 21 bytes for each word of a loss report
+-- room for the longest line: the end line (256 bytes at most) with the counters behind it (429), rounded up, and 21 bytes for each word of a loss report
 abbrev pub lineNeed : List ℕ → ℕ
 lineNeed list = 700 + 21 * length list
 

@@ -29,10 +29,10 @@ sweep capacity start ws i (suc n) = giveUp (slotOf capacity start (i + n)) (swee
 unfoldable pub endIn : Window → ℕ → ℕ
 endIn w number = min (saturating 31 number (w .seqno0)) (w .held)
 
--- last + 1 as end
 abbrev pub dropFrom : Window → ℕ → ℕ
 dropFrom w first = endIn w first
 
+-- last + 1 as end
 abbrev pub dropTo : Window → ℕ → ℕ
 dropTo w last = endIn w (sum 31 last 1)
 

@@ -30,7 +30,7 @@ isDue time mean (Lost k f) = ltb (f + k * mean) time
 isDue time mean (Received n l m t) = false
 isDue time mean GivenUp = false
 
--- each gets k + 1 (at most 65,535) and feedback now
+-- each gets k + 1 (at most 65,535), and, in `slotsTo`, feedback now
 abbrev pub kAfter : Entry → ℕ
 kAfter (Lost k f) = min (k + 1) 65535
 kAfter (Received n l m t) = 0
@@ -79,6 +79,7 @@ reportOne w time mean s i x =
     (reporting (x .slots) (runPut w (x .list) (x .runs) i) (runsAfter (x .runs) i false))
 
 module _ (w : Window) (ws : List ℕ) (time mean : ℕ) where
+  -- the slot of entry i, and whether it is due
   abbrev pub slotNo : ℕ → ℕ
   slotNo i = slotOf (w .capacity) (w .start) i
 
@@ -90,6 +91,7 @@ module _ (w : Window) (ws : List ℕ) (time mean : ℕ) where
   slotsTo zero = ws
   slotsTo (suc i) = cond (dueAt i) (writeReport (slotsTo i) (slotNo i) (kAfter (entryAt ws (slotNo i))) time) (slotsTo i)
 
+  -- the runs of the first i entries, and the words that all of them need
   unfoldable pub runsTo : ℕ → Runs
   runsTo zero = record { words = 0; going = false; first = 0 }
   runsTo (suc i) = runsAfter (runsTo i) i (dueAt i)
@@ -97,6 +99,7 @@ module _ (w : Window) (ws : List ℕ) (time mean : ℕ) where
   abbrev pub needed : ℕ
   needed = closed (runsTo (w .held)) (w .held) .words
 
+  -- the list after the first i entries: a run is written when it has ended
   unfoldable pub listTo : List ℕ → ℕ → List ℕ
   listTo list zero = list
   listTo list (suc i) = cond (dueAt i) (listTo list i) (runPut w (listTo list i) (runsTo i) i)
