@@ -5,10 +5,10 @@ use mathlib.Core.Bool.{Bool, true, false, _&&_, not, cond}
 use mathlib.Core.List.{List, [], _∷_, _++_, append-nil}
 use Prim.Native.Nat.{ℕ, zero, suc, _+_, _-_, _<_, _≤_}
 use native.Mathlib.Omega.{arith}
-use borrow.Author.Tests.{ne-eqb, lt-ltb}
+use borrow.Author.Tests.{ne-eqb, lt-ltb, le-leb}
 use lib.Dec.{eqb, leb}
 use lib.IntN.{ℤ}
-use lib.ListN.{length, take, drop, length-append, length-drop}
+use lib.ListN.{length, take, drop, replicate, length-append, length-drop, length-replicate}
 use lib.Seq.{drop-append-le, take-append-le, take-at}
 use Rattle.numbers.proofs.Flags.{by-test, by-bool, by-order, impossible}
 use Rattle.dlt.specs.Record.{recordOf, sizeOf, fixedOf}
@@ -24,7 +24,7 @@ use Rattle.lines.specs.Lines as lines
 use Rattle.lines.specs.Lines.{badBytes}
 use Rattle.dlt.proofs.Laws.{header-behind, record-behind, size-within, size-some}
 use Rattle.text.specs.Put.{put, putOf}
-use Rattle.trace.proofs.Steps.{and-true}
+use Rattle.trace.proofs.Steps.{and-true, come-not}
 use Rattle.trace.specs.Trace.{Areas, Replay, callIn, lengthIn, payloadIn, called, replayed, lineOf, closing, linesOf, isRefused, byHeader, outputOf}
 use Rattle.trace.specs.Turn.{beginOf, begunBy, replayIn, Outcome, outcome, isShort, lineNeed, stays, endsWith, Next, next, advances, nextBy, nextOf}
 use Rattle.trace.specs.Loop.{wroteIn, Writes, record-line, end-line, bad-line, Replays, cut, refused, ready}
@@ -262,3 +262,57 @@ turn-moves t a hand last line =
 pub bad-start : badBytes 0 ≡ 98 ∷ 97 ∷ 100 ∷ 32 ∷ 48 ∷ 10 ∷ []
 unfolding lines.badBytes shapes.closed shapes.spaced decimals.signed decimals.decimal decimals.digits
 bad-start = refl
+
+-- there is such a run for every file: with a line that is long enough each turn gives a record's line or the last one, and each record has a byte at least
+module _ (t : Trace) (a : Areas) (rest : List ℕ) where
+  abbrev long : List ℕ
+  long = replicate (lineNeed (a .list)) 0
+
+  roomy : leb (lineNeed (a .list)) (length long) ≡ true
+  roomy = le-leb (lineNeed (a .list)) (length long) (let e : length long ≡ lineNeed (a .list) = length-replicate (lineNeed (a .list)) 0 in omega arith)
+
+  turn-ends : eqb (sizeOf (recordOf rest)) 0 ≡ true → next (endsWith t long (eqb (length rest) 0)) a ≡ nextOf t a rest true long
+  unfolding nextOf
+  turn-ends e = rw (roomy, e, ← come-not (recordOf rest) true refl)
+
+  turn-goes : eqb (sizeOf (recordOf rest)) 0 ≡ false → advances t a long (callIn (recordOf rest)) (payloadIn rest (recordOf rest)) (sizeOf (recordOf rest)) ≡ nextOf t a rest true long
+  unfolding nextOf
+  turn-goes e = rw (roomy, e)
+
+  last-turn : eqb (sizeOf (recordOf rest)) 0 ≡ true → Writes t a (rest ++ []) (linesOf (length (rest ++ [])) (replayIn t a) (rest ++ []))
+  last-turn e =
+      subst (Writes t a (rest ++ [])) (step-close t a rest [] true long (λ q. refl) e (sym (come-not (recordOf rest) true refl)))
+      (by-bool (eqb (length rest) 0)
+      (λ b. end-line t a rest [] true long (next (endsWith t long (eqb (length rest) 0)) a) (λ q. refl) (turn-ends e) (rw b))
+      (λ b. bad-line t a rest [] true long (next (endsWith t long (eqb (length rest) 0)) a) (λ q. refl) (turn-ends e) (rw b)))
+
+writes-all : (n : ℕ) (t : Trace) (a : Areas) (rest : List ℕ) → length rest ≤ n → Writes t a (rest ++ []) (linesOf (length (rest ++ [])) (replayIn t a) (rest ++ []))
+writes-all zero t a [] h = last-turn t a [] (rw none-short)
+writes-all zero t a (x ∷ rest) h = absurd (omega arith)
+writes-all (suc n) t a rest h =
+    by-bool (eqb (sizeOf (recordOf rest)) 0)
+    (last-turn t a rest)
+    (λ e.
+    let r = recordOf rest in
+    let x = advances t a (long t a rest) (callIn r) (payloadIn rest r) (sizeOf r) in
+    let some = positive (sizeOf r) e in
+    let fits = size-within rest in
+    let left = drop (sizeOf r) rest in
+    let l : length left ≤ n = rw (length-drop (sizeOf r) rest) (omega arith) in
+    let out = linesOf (length (left ++ [])) (replayIn (x .outcome .trace) (x .areas)) (left ++ []) in
+    subst (Writes t a (rest ++ [])) (step-line t a rest [] true (long t a rest) out e refl)
+    (record-line t a rest [] true (long t a rest) out x (λ q. refl) (turn-goes t a rest e) refl (writes-all n (x .outcome .trace) (x .areas) left l)))
+
+pub replays-all : (c : Bool) (a : Areas) (file : List ℕ) → Replays c a file (outputOf c a file)
+unfolding outputOf
+replays-all c a file = by-opened (beginOf file c .opened) refl
+  where
+    by-opened : (o : Opened) → beginOf file c .opened ≡ o → Replays c a file (byHeader c a (headerOf file) (drop 24 file))
+    by-opened opened.Short e = subst (Replays c a file) (bad-by c a (drop 24 file) (headerOf file) (rw e (omega arith))) (cut c a file e)
+    by-opened opened.Bad e = subst (Replays c a file) (bad-by c a (drop 24 file) (headerOf file) (rw e (omega arith))) (rw (append-nil file) at (refused c a file [] e))
+    by-opened opened.Ready e =
+        let t = beginOf file c .trace in
+        let w = writes-all (length (drop 24 file)) t a (drop 24 file) (omega arith) in
+        let v : Writes t a (drop 24 file ++ []) (linesOf (length (drop 24 file)) (replayIn t a) (drop 24 file)) = subst (λ (l : List ℕ). Writes t a (drop 24 file ++ []) (linesOf (length l) (replayIn t a) l)) (append-nil (drop 24 file)) w in
+        subst (Replays c a file) (ready-by c a (drop 24 file) (headerOf file) _ e refl)
+        (subst (λ (f : List ℕ). Replays c a f (linesOf (length (drop 24 file)) (replayIn t a) (drop 24 file))) (append-nil file) (ready c a file [] _ e v))
