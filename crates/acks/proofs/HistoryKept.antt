@@ -15,7 +15,7 @@ use Rattle.numbers.specs.Whole.{intervalOf}
 use Rattle.numbers.proofs.Flags.{and-left, and-right, by-bool, by-test, by-order}
 use Rattle.numbers.proofs.Halves.{same, above--, below--}
 use Rattle.numbers.proofs.Signs.{clamp-in, clamp-high}
-use Rattle.acks.specs.History.{Right, placeOf, numberAt, departureAt, since, writeAck, freshHistory, noneDue, newestOf, isWorn, leaving, nextAck, firstAfter, AckOutcome, grown, appendOf, fullAckOf, withLargest, withLast, isHeld, ack2Of, lightAckOf, clearedOf, historyOk}
+use Rattle.acks.specs.History.{HistoryReady, ackSlot, numberAt, departureAt, since, writeAck, freshHistory, noneDue, newestOf, isWorn, leaving, nextAck, firstAfter, AckOutcome, grown, appendOf, fullAckOf, withLargest, withLast, isHeld, ack2Of, lightAckOf, clearedOf, historyOk}
 use Rattle.acks.specs.declared.history.History.{History}
 use Rattle.acks.specs.declared.history.Answered.{Answered}
 use Rattle.acks.specs.declared.history.Ack2Answer.{Ack2Answer}
@@ -59,13 +59,13 @@ history-ok h r =
     rw (lt-ltb _ _ (r .starts), le-leb _ _ (r .holds), le-leb _ _ (r .first), le-leb _ _ (r .newest), lt-ltb _ _ (r .largest), lt-ltb _ _ (r .lastack))
 
 -- what a caller who tested the history and its area may call with
-pub right : (h : History) (a : List ℕ) → historyOk h ≡ true → 2048 ≤ length a → Right h a
+pub right : (h : History) (a : List ℕ) → historyOk h ≡ true → 2048 ≤ length a → HistoryReady h a
 right h a e l =
     let r = history-ranges h e in
     record { starts = r .starts; holds = r .holds; first = r .first; newest = omega (arith, r .newest); words = l }
 
 -- the same by a flag, as a program has it
-pub right-by : {h : History} {a : List ℕ} {b : Bool} → b ≡ historyOk h → b ≡ true → 2048 ≤ length a → Right h a
+pub right-by : {h : History} {a : List ℕ} {b : Bool} → b ≡ historyOk h → b ≡ true → 2048 ≤ length a → HistoryReady h a
 right-by {h} {a} p e l = right h a (sym p ∙ e) l
 
 pub fresh-history-ok : (n : ℕ) → n < 2 ^ 31 → historyOk (freshHistory n) ≡ true
@@ -129,7 +129,7 @@ module _ (h : History) (e : historyOk h ≡ true) where
       let r = history-ranges h e in
       by-test (λ (o : Answered). historyOk (o .history) ≡ true) (isHeld h number) _ _
       (λ t.
-      history-ok (withLargest h (numberAt a (placeOf (h .start) (number - h .first))))
+      history-ok (withLargest h (numberAt a (ackSlot (h .start) (number - h .first))))
       (record { starts = r .starts; holds = r .holds; first = r .first; newest = r .newest; largest = omega arith; lastack = r .lastack }))
       (λ t. e)
 

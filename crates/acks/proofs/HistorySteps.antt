@@ -12,7 +12,7 @@ use mir.Syntax.{w64}
 use mir.Val.{Fits}
 use Rattle.numbers.specs.Circular.{before, sum}
 use Rattle.numbers.proofs.Flags.{and-false, by-test, by-order}
-use Rattle.acks.specs.History.{placeOf, numberAt, departureAt, since, writeAck, freshHistory, isRecent, noneDue, isWorn, isExpired, firstKept, leaving, nextAck, firstAfter, AckOutcome, ackEnded, appendOf, fullAckOf, withLast, ack2Of, lightAckOf, clearedOf, historyOk}
+use Rattle.acks.specs.History.{ackSlot, numberAt, departureAt, since, writeAck, freshHistory, isRecent, noneDue, isWorn, isExpired, firstKept, leaving, nextAck, firstAfter, AckOutcome, ackEnded, appendOf, fullAckOf, withLast, ack2Of, lightAckOf, clearedOf, historyOk}
 use Rattle.acks.specs.declared.history.History.{History}
 use Rattle.acks.specs.declared.history.AckAnswer.the-variants.{Nothing, Worn, Ack}
 use Rattle.acks.specs.declared.history.Answered.{Answered}
@@ -35,7 +35,7 @@ recent-test a p now mean lrsn e f g h = rw (h, g, f, e)
 
 -- the loop of first_kept: a turn, its way out in the middle, its end
 module _ (a : List ℕ) (start count now wait i : ℕ) {r : ℕ} (e : r ≡ firstKept a start now wait i (count - 1 - i)) where
-  module _ {d : ℕ} (h : i + 1 < count) (f : d ≡ departureAt a (placeOf start i) now) where
+  module _ {d : ℕ} (h : i + 1 < count) (f : d ≡ departureAt a (ackSlot start i) now) where
     left : count - 1 - i ≡ suc (count - 1 - (i + 1))
     left = omega arith
 
@@ -59,7 +59,7 @@ pub kept-le : (a : List ℕ) (start now wait n i : ℕ) → firstKept a start no
 unfolding firstKept
 kept-le a start now wait zero i = omega arith
 kept-le a start now wait (suc n) i =
-    by-test (λ (x : ℕ). x ≤ i + suc n) (isExpired a (placeOf start i) now wait) _ _
+    by-test (λ (x : ℕ). x ≤ i + suc n) (isExpired a (ackSlot start i) now wait) _ _
     (λ t. let r = kept-le a start now wait n (i + 1) in omega arith)
     (λ t. omega arith)
 
@@ -116,7 +116,7 @@ module _ (h : History) where
     unfolding noneDue
     due-empty e f = rw (ne-eqb _ _ e, eq-eqb _ _ f)
 
-    pub due-recent : {b : Bool} → (h .largest ≡ lrsn → ⊥) → (h .count ≡ 0 → ⊥) → b ≡ isRecent a (placeOf (h .start) (h .count - 1)) now mean lrsn → b ≡ noneDue h a now mean lrsn
+    pub due-recent : {b : Bool} → (h .largest ≡ lrsn → ⊥) → (h .count ≡ 0 → ⊥) → b ≡ isRecent a (ackSlot (h .start) (h .count - 1)) now mean lrsn → b ≡ noneDue h a now mean lrsn
     unfolding noneDue
     due-recent e f g = rw (ne-eqb _ _ e, ne-eqb _ _ f) g
 
@@ -144,8 +144,8 @@ module _ (h : History) where
 module _ (h : History) (a : List ℕ) (now lrsn : ℕ) where
   pub appended : (wait : ℕ) {n number first : ℕ} {a₁ : List ℕ}
       → number ≡ nextAck h → n ≡ leaving a (h .start) (h .count) now wait → first ≡ firstAfter h n
-      → a₁ ≡ writeAck a (placeOf (placeOf (h .start) n) (h .count - n)) lrsn now
-      → ackEnded (record { history = record { start = placeOf (h .start) n; count = h .count - n + 1; first = first; largest = h .largest; lastack = lrsn }; answer = Ack number }) a₁ ≡ appendOf h a now wait lrsn
+      → a₁ ≡ writeAck a (ackSlot (ackSlot (h .start) n) (h .count - n)) lrsn now
+      → ackEnded (record { history = record { start = ackSlot (h .start) n; count = h .count - n + 1; first = first; largest = h .largest; lastack = lrsn }; answer = Ack number }) a₁ ≡ appendOf h a now wait lrsn
   unfolding appendOf
   appended wait e f g i = rw (i, g, f, e)
 
@@ -186,7 +186,7 @@ module _ (h : History) (a : List ℕ) (now number : ℕ) where
 
   pub held : {d r l : ℕ}
       → h .first ≤ number → number - h .first < h .count
-      → d ≡ departureAt a (placeOf (h .start) (number - h .first)) now → r ≡ since now d → l ≡ numberAt a (placeOf (h .start) (number - h .first))
+      → d ≡ departureAt a (ackSlot (h .start) (number - h .first)) now → r ≡ since now d → l ≡ numberAt a (ackSlot (h .start) (number - h .first))
       → _≡_ {A = Answered} (record { history = record { start = h .start; count = h .count; first = h .first; largest = l; lastack = h .lastack }; answer = Held r }) (ack2Of h a now number)
   unfolding ack2Of
   held e f i j k = let g : number < h .first + h .count = omega arith in rw (le-leb _ _ e, lt-ltb _ _ g, j, i, k)

@@ -13,8 +13,8 @@ use Rattle.acks.specs.declared.history.Ack2Answer.the-variants.{NotHeld,
 use Rattle.acks.specs.declared.history.LightAcked.{LightAcked}
 
 -- the history area has 2,048 words, two an entry, i at (start + i) mod 1,024
-abbrev pub placeOf : ℕ → ℕ → ℕ
-placeOf start i = (start + i) % 1024
+abbrev pub ackSlot : ℕ → ℕ → ℕ
+ackSlot start i = (start + i) % 1024
 
 -- data number mod 2^31
 abbrev pub numberAt : List ℕ → ℕ → ℕ
@@ -37,7 +37,7 @@ unfoldable pub freshHistory : ℕ → History
 freshHistory number = record { start = 0; count = 0; first = 1; largest = number; lastack = number }
 
 -- what the head's range test and the test of the area have shown
-pub record Right (h : History) (a : List ℕ) : Type 0 where
+pub record HistoryReady (h : History) (a : List ℕ) : Type 0 where
   pub starts : h .start < 1024
   pub holds : h .count ≤ 1024
   pub first : 1 ≤ h .first
@@ -53,7 +53,7 @@ isRecent a p now mean lrsn =
 unfoldable pub noneDue : History → List ℕ → ℕ → ℕ → ℕ → Bool
 noneDue h a now mean lrsn =
     cond (eqb (h .largest) lrsn) true
-    (cond (eqb (h .count) 0) false (isRecent a (placeOf (h .start) (h .count - 1)) now mean lrsn))
+    (cond (eqb (h .count) 0) false (isRecent a (ackSlot (h .start) (h .count - 1)) now mean lrsn))
 
 -- the newest ACK number; with none held, one before the first
 abbrev pub newestOf : History → ℕ
@@ -70,7 +70,7 @@ isExpired a p now wait = ltb (departureAt a p now + wait) now
 -- of the n entries from entry i on, the first that is not expired, else i + n
 unfoldable pub firstKept : List ℕ → ℕ → ℕ → ℕ → ℕ → ℕ → ℕ
 firstKept a start now wait i zero = i
-firstKept a start now wait i (suc n) = cond (isExpired a (placeOf start i) now wait) (firstKept a start now wait (i + 1) n) i
+firstKept a start now wait i (suc n) = cond (isExpired a (ackSlot start i) now wait) (firstKept a start now wait (i + 1) n) i
 
 -- a history still full loses its oldest
 abbrev pub oneMore : ℕ → ℕ → ℕ
@@ -100,7 +100,7 @@ ackEnded r a = record { acked = r; area = a }
 abbrev pub grown : History → ℕ → ℕ → History
 grown h n lrsn =
     record {
-      start = placeOf (h .start) n;
+      start = ackSlot (h .start) n;
       count = h .count - n + 1;
       first = firstAfter h n;
       largest = h .largest;
@@ -111,7 +111,7 @@ unfoldable pub appendOf : History → List ℕ → ℕ → ℕ → ℕ → AckOu
 appendOf h a now wait lrsn =
     let n = leaving a (h .start) (h .count) now wait in
     ackEnded (record { history = grown h n lrsn; answer = Ack (nextAck h) })
-    (writeAck a (placeOf (placeOf (h .start) n) (h .count - n)) lrsn now)
+    (writeAck a (ackSlot (ackSlot (h .start) n) (h .count - n)) lrsn now)
 
 unfoldable pub fullAckOf : History → List ℕ → ℕ → ℕ → ℕ → ℕ → AckOutcome
 fullAckOf h a now mean latency lrsn =
@@ -133,7 +133,7 @@ isHeld h number = leb (h .first) number && ltb number (h .first + h .count)
 -- ACK2 of a held ACK sets largest_ack2_dsn to its number, even downwards (r: interval since departure)
 unfoldable pub ack2Of : History → List ℕ → ℕ → ℕ → Answered
 ack2Of h a now number =
-    let p = placeOf (h .start) (number - h .first) in
+    let p = ackSlot (h .start) (number - h .first) in
     cond (isHeld h number) (record { history = withLargest h (numberAt a p); answer = Held (since now (departureAt a p now)) })
     (record { history = h; answer = NotHeld })
 

@@ -2,7 +2,7 @@
 ghost use mathlib.Core.Path.{_≡_};
 ghost use Prim.Native.Nat.{_+_, _-_, _*_, _<_, _≤_, _^_};
 ghost use lib.ListN.{length};
-ghost use Rattle.acks.specs.History.{Right, numberAt, departureAt, since, writeAck, freshHistory, isRecent, noneDue, isWorn, firstKept, leaving, nextAck, firstAfter, ackEnded, appendOf, fullAckOf, ack2Of, lightAckOf, clearedOf, historyOk};
+ghost use Rattle.acks.specs.History.{HistoryReady, numberAt, departureAt, since, writeAck, freshHistory, isRecent, noneDue, isWorn, firstKept, leaving, nextAck, firstAfter, ackEnded, appendOf, fullAckOf, ack2Of, lightAckOf, clearedOf, historyOk};
 
 // Entry i, under count, has the ACK number first + i and lies at (start + i) mod 1,024. `largest` is largest_ack2_dsn, `lastack` last_ack_dsn.
 pub struct History {
@@ -136,7 +136,7 @@ impl History {
     }
 
     fn none_due(self, area: &[u64], time: u64, mean: u32, lrsn: u32) -> bool
-        requires { ⌜ Right self (now area) ⌝ }
+        requires { ⌜ HistoryReady self (now area) ⌝ }
         ensures { λ r. ⌜ r ≡ noneDue self (now (area .entry)) time mean lrsn ⌝ }
     {
         if self.largest == lrsn {
@@ -185,7 +185,7 @@ impl History {
 
     // Removes what leaves the front, then appends an ACK of lrsn.
     fn append(self, area: &mut [u64], time: u64, wait: u64, lrsn: u32) -> Acked
-        requires { ⌜ Right self (now area) × (wait < 2 ^ 34) × (self .first + self .count < 2 ^ 32) ⌝ }
+        requires { ⌜ HistoryReady self (now area) × (wait < 2 ^ 34) × (self .first + self .count < 2 ^ 32) ⌝ }
         ensures { λ r. ⌜ ackEnded r (now (area .exit)) ≡ appendOf self (now (area .entry)) time wait lrsn ⌝ }
     {
         let number = self.next_number();
@@ -215,7 +215,7 @@ impl History {
         latency: u32,
         lrsn: u32,
     ) -> Acked
-        requires { ⌜ Right self (now area) ⌝ }
+        requires { ⌜ HistoryReady self (now area) ⌝ }
         ensures { λ r. ⌜ ackEnded r (now (area .exit)) ≡ fullAckOf self (now (area .entry)) time mean latency lrsn ⌝ }
     {
         let wait = (latency as u64) + 2 * (mean as u64);
@@ -236,7 +236,7 @@ impl History {
 
     // The ACK2 of a full ACK: its data number, and the interval since it left.
     pub fn calculate_ack2(self, area: &[u64], time: u64, number: u32) -> Answered
-        requires { ⌜ Right self (now area) ⌝ }
+        requires { ⌜ HistoryReady self (now area) ⌝ }
         ensures { λ r. ⌜ r ≡ ack2Of self (now (area .entry)) time number ⌝ }
     {
         if number < self.first {

@@ -16,7 +16,7 @@ use Rattle.clock.specs.Ranges.{clockOk}
 use Rattle.clock.proofs.Ranges.{ready}
 use Rattle.clock.specs.declared.time.SynchronizedRemoteClock.{SynchronizedRemoteClock}
 use Rattle.window.specs.Window.{Good, Bytes}
-use Rattle.window.specs.Push.{Right}
+use Rattle.window.specs.Push.{PacketRight}
 use Rattle.window.specs.declared.Window.{Window}
 use Rattle.window.specs.declared.push.Packet.{Packet}
 use Rattle.window_pop.specs.Pop.{PopReady}
@@ -58,7 +58,7 @@ tested-by {w} {ws} {bs} p e q f =
       payloads = omega (arith, leb-true (w .capacity) (length bs / 1456) (and-right h k (sym q ∙ f)));
     }
 
-right : (p : Packet) (payload : List ℕ) → packetOk p ≡ true → length payload ≤ 1456 → Right p payload
+right : (p : Packet) (payload : List ℕ) → packetOk p ≡ true → length payload ≤ 1456 → PacketRight p payload
 right p payload e h =
     let a = ltb (p .number) (2 ^ 31) in
     let b = ltb (p .message) (2 ^ 26) in
@@ -71,7 +71,7 @@ right p payload e h =
       bytes = h;
     }
 
-pub right-by : {p : Packet} {payload : List ℕ} {a : Bool} → a ≡ packetOk p → a ≡ true → length payload ≤ 1456 → Right p payload
+pub right-by : {p : Packet} {payload : List ℕ} {a : Bool} → a ≡ packetOk p → a ≡ true → length payload ≤ 1456 → PacketRight p payload
 right-by {p} {payload} q e h = right p payload (sym q ∙ e) h
 
 pub pop-by : {k : SynchronizedRemoteClock} {latency : ℕ} {w : Window} {ws bs : List ℕ} {now : ℤ} {a b : Bool}

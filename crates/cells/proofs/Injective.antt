@@ -38,7 +38,7 @@ use Rattle.receiver.specs.declared.acking.FullAckAnswer.{FullAckAnswer}
 use Rattle.receiver.specs.declared.acking.FullAckAnswer.the-variants as acks
 use Rattle.receiver.specs.declared.acking.RttAnswer.{RttAnswer}
 use Rattle.receiver.specs.declared.acking.RttAnswer.the-variants as rtts
-use Rattle.receiver.specs.Paper.{packetsOf, bytesOf, linkOf, dataLine, messageLine, fullAckLine, rttLine, dropLine, clockLine, clearLine, roomLine, shownLine}
+use Rattle.receiver.specs.Paper.{packetsValue, bytesValue, linkValue, dataLine, messageLine, fullAckLine, rttLine, dropLine, clockLine, clearLine, roomLine, shownLine}
 use Rattle.cells.specs.Cells.{cell, valueCell, cellsOf, countLine, lossCells, shownCells}
 use Rattle.cells.proofs.Numbers.{cell-same, cell-wraps, cell-low}
 
@@ -150,7 +150,7 @@ abbrev speedBack : ℤ → ℤ → Speed
 speedBack (pos packets) bytes = speeds.Known packets (natAbs bytes)
 speedBack (negsuc n) bytes = speeds.Unknown
 
-speed-back : (s : Speed) → SpeedFits s → speedBack (valueCell (packetsOf s)) (valueCell (bytesOf s)) ≡ s
+speed-back : (s : Speed) → SpeedFits s → speedBack (valueCell (packetsValue s)) (valueCell (bytesValue s)) ≡ s
 speed-back speeds.Unknown i = refl
 speed-back (speeds.Known packets bytes) i = rw (cell-low packets (i .0), cell-low bytes (i .1))
 
@@ -158,7 +158,7 @@ abbrev linkBack : ℤ → Link
 linkBack (pos n) = links.Known n
 linkBack (negsuc n) = links.Unknown
 
-link-back : (l : Link) → LinkFits l → linkBack (valueCell (linkOf l)) ≡ l
+link-back : (l : Link) → LinkFits l → linkBack (valueCell (linkValue l)) ≡ l
 link-back links.Unknown i = refl
 link-back (links.Known n) i = rw (cell-low n i)
 

@@ -18,7 +18,7 @@ use Rattle.numbers.proofs.Halves.{same, in-range, above--, below--}
 use Rattle.numbers.proofs.Signs.{signed-low, signed-only, widens}
 use Rattle.acks.specs.declared.rates.Speed.{Speed}
 use Rattle.acks.specs.declared.rates.Link.{Link}
-use Rattle.receiver.specs.Paper.{flag, packetsOf, bytesOf, linkOf}
+use Rattle.receiver.specs.Paper.{flag, packetsValue, bytesValue, linkValue}
 use Rattle.cells.specs.Cells.{cell, valueCell}
 
 -- a number that fits an i64 is its own cell
@@ -116,13 +116,13 @@ exact-bits v n e p q = q ∙ p ∙ ap (λ (k : ℕ). cell (pos k)) e
 
 -- the rates
 module _ (s t : Speed) (e : s ≡ t) {z : ℤ} where
-  pub packets-case : z ≡ valueCell (packetsOf t) → z ≡ valueCell (packetsOf s)
+  pub packets-case : z ≡ valueCell (packetsValue t) → z ≡ valueCell (packetsValue s)
   packets-case p = rw e p
 
-  pub bytes-case : z ≡ valueCell (bytesOf t) → z ≡ valueCell (bytesOf s)
+  pub bytes-case : z ≡ valueCell (bytesValue t) → z ≡ valueCell (bytesValue s)
   bytes-case p = rw e p
 
-pub link-case : (s t : Link) → s ≡ t → {z : ℤ} → z ≡ valueCell (linkOf t) → z ≡ valueCell (linkOf s)
+pub link-case : (s t : Link) → s ≡ t → {z : ℤ} → z ≡ valueCell (linkValue t) → z ≡ valueCell (linkValue s)
 link-case s t e p = rw e p
 
 pub read-back : {x z z₁ : ℤ} → z₁ ≡ z → z ≡ x → z₁ ≡ x

@@ -4,7 +4,7 @@ ghost use mathlib.Core.Path.{_≡_};
 ghost use mathlib.Core.List.{[], _∷_};
 ghost use lib.IntN.{pos};
 ghost use lib.Ieee.{binary64, toBits};
-ghost use Rattle.receiver.specs.Paper.{flag, packetsOf, bytesOf, linkOf, dataLine, messageLine, fullAckLine, rttLine, dropLine, clearLine, roomLine, shownLine, clockLine};
+ghost use Rattle.receiver.specs.Paper.{flag, packetsValue, bytesValue, linkValue, dataLine, messageLine, fullAckLine, rttLine, dropLine, clearLine, roomLine, shownLine, clockLine};
 ghost use Rattle.cells.specs.Cells.{cell, valueCell, cellsOf, countLine, lossCells, shownCells, madeCells};
 use acks::rates::Link;
 use acks::rates::Speed;
@@ -77,7 +77,7 @@ fn exact(v: f64) -> i64
 
 // The rates of an ack; -1 for none.
 fn packets_of(s: Speed) -> i64
-    ensures { λ r. ⌜ r ≡ valueCell (packetsOf s) ⌝ }
+    ensures { λ r. ⌜ r ≡ valueCell (packetsValue s) ⌝ }
 {
     match s {
         Speed::Unknown => -1,
@@ -86,7 +86,7 @@ fn packets_of(s: Speed) -> i64
 }
 
 fn bytes_of(s: Speed) -> i64
-    ensures { λ r. ⌜ r ≡ valueCell (bytesOf s) ⌝ }
+    ensures { λ r. ⌜ r ≡ valueCell (bytesValue s) ⌝ }
 {
     match s {
         Speed::Unknown => -1,
@@ -95,7 +95,7 @@ fn bytes_of(s: Speed) -> i64
 }
 
 fn link_of(l: Link) -> i64
-    ensures { λ r. ⌜ r ≡ valueCell (linkOf l) ⌝ }
+    ensures { λ r. ⌜ r ≡ valueCell (linkValue l) ⌝ }
 {
     match l {
         Link::Unknown => -1,

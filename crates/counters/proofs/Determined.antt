@@ -9,7 +9,7 @@ use Rattle.head.specs.declared.state.Head.{Head}
 use Rattle.receiver.specs.Acking.{FullAckOutcome, fullAckEnded, Ack2Outcome, ack2Ended}
 use Rattle.receiver.specs.Data.{DataOutcome, dataEnded}
 use Rattle.receiver.specs.Loss.{LossOutcome, lossEnded}
-use Rattle.receiver.specs.Message.{GivenOutcome, givenEnded}
+use Rattle.receiver.specs.Message.{MessageOutcome, messageEnded}
 use Rattle.receiver.specs.Request.{DropOutcome, dropEnded, ClearOutcome, clearEnded}
 use Rattle.receiver.specs.Sync.{ClockOutcome, clockEnded}
 use Rattle.receiver.specs.declared.data.DataAnswer.{DataAnswer}
@@ -32,7 +32,7 @@ use Rattle.counters.specs.declared.sync.ClockCounted.{ClockCounted}
 abbrev dataCountedMade : Counted DataOutcome → DataCounted
 dataCountedMade o = record { counters = o .counters; handled = o .outcome .handled }
 
-abbrev messageCountedMade : Counted GivenOutcome → MessageCounted
+abbrev messageCountedMade : Counted MessageOutcome → MessageCounted
 messageCountedMade o = record { counters = o .counters; given = o .outcome .given }
 
 abbrev lossCountedMade : Counted LossOutcome → LossCounted
@@ -77,8 +77,8 @@ module _ (c : Counters) (h : Head) where
       (ap dataCountedMade e, (ap (λ o. o .outcome .slots) e, ap (λ o. o .outcome .payloads) e))
 
   pub message-determined : (ws bs out : List ℕ) (now : ℤ) (r s : MessageCounted) (out₁ out₂ : List ℕ)
-      → counted (givenEnded (r .given) out₁) (r .counters) ≡ messageCounted c h ws bs out now
-      → counted (givenEnded (s .given) out₂) (s .counters) ≡ messageCounted c h ws bs out now
+      → counted (messageEnded (r .given) out₁) (r .counters) ≡ messageCounted c h ws bs out now
+      → counted (messageEnded (s .given) out₂) (s .counters) ≡ messageCounted c h ws bs out now
       → (r ≡ s) × (out₁ ≡ out₂)
   message-determined ws bs out now r s out₁ out₂ p q =
       let e = p ∙ sym q in

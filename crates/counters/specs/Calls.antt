@@ -5,12 +5,12 @@ use lib.IntN.{ℤ}
 use lib.ListN.{length}
 use Rattle.window.specs.declared.push.Packet.{Packet}
 use Rattle.head.specs.declared.state.Head.{Head}
-use Rattle.receiver.specs.Acking.{FullAckOutcome, Ack2Outcome, ack2PacketOf, fullAckEventOf}
-use Rattle.receiver.specs.Data.{DataOutcome, dataOf}
-use Rattle.receiver.specs.Loss.{LossOutcome, lossOf}
-use Rattle.receiver.specs.Message.{GivenOutcome, messageOf}
-use Rattle.receiver.specs.Request.{DropOutcome, ClearOutcome, dropCallOf, clearOf}
-use Rattle.receiver.specs.Sync.{ClockOutcome, clockOf}
+use Rattle.receiver.specs.Acking.{FullAckOutcome, Ack2Outcome, ack2CallOf, fullAckCallOf}
+use Rattle.receiver.specs.Data.{DataOutcome, dataCallOf}
+use Rattle.receiver.specs.Loss.{LossOutcome, reportCallOf}
+use Rattle.receiver.specs.Message.{MessageOutcome, popCallOf}
+use Rattle.receiver.specs.Request.{DropOutcome, ClearOutcome, dropCallOf, clearCallOf}
+use Rattle.receiver.specs.Sync.{ClockOutcome, clockCallOf}
 use Rattle.counts.specs.Counts.{dataCounts, ack2Counts, dropCounts, clockCounts}
 use Rattle.counts.specs.declared.Counters.{Counters}
 
@@ -25,26 +25,26 @@ counted o c = record { outcome = o; counters = c }
 module _ (c : Counters) (h : Head) where
   -- those that count
   abbrev pub dataCounted : List ℕ → List ℕ → ℤ → Packet → List ℕ → Counted DataOutcome
-  dataCounted ws bs now p payload = let o = dataOf h ws bs now p payload in counted o (dataCounts c (length payload) (o .handled .answer))
+  dataCounted ws bs now p payload = let o = dataCallOf h ws bs now p payload in counted o (dataCounts c (length payload) (o .handled .answer))
 
   abbrev pub ack2Counted : List ℕ → ℤ → ℕ → Counted Ack2Outcome
-  ack2Counted a now number = let o = ack2PacketOf h a now number in counted o (ack2Counts c (o .acked2 .answer))
+  ack2Counted a now number = let o = ack2CallOf h a now number in counted o (ack2Counts c (o .acked2 .answer))
 
   abbrev pub dropCounted : List ℕ → ℕ → ℕ → Counted DropOutcome
   dropCounted ws first last = let o = dropCallOf h ws first last in counted o (dropCounts c (o .answer))
 
   abbrev pub clockCounted : ℤ → ℕ → Counted ClockOutcome
-  clockCounted now stamp = let o = clockOf h now stamp in counted o (clockCounts c (o .clocked .answer))
+  clockCounted now stamp = let o = clockCallOf h now stamp in counted o (clockCounts c (o .clocked .answer))
 
   -- pops, reports, full ACKs and clears raise nothing
-  abbrev pub messageCounted : List ℕ → List ℕ → List ℕ → ℤ → Counted GivenOutcome
-  messageCounted ws bs out now = counted (messageOf h ws bs out now) c
+  abbrev pub messageCounted : List ℕ → List ℕ → List ℕ → ℤ → Counted MessageOutcome
+  messageCounted ws bs out now = counted (popCallOf h ws bs out now) c
 
   abbrev pub lossCounted : List ℕ → List ℕ → ℤ → Counted LossOutcome
-  lossCounted ws list now = counted (lossOf h ws list now) c
+  lossCounted ws list now = counted (reportCallOf h ws list now) c
 
   abbrev pub fullAckCounted : List ℕ → ℤ → Counted FullAckOutcome
-  fullAckCounted a now = counted (fullAckEventOf h a now) c
+  fullAckCounted a now = counted (fullAckCallOf h a now) c
 
   abbrev pub clearCounted : Counted ClearOutcome
-  clearCounted = counted (clearOf h) c
+  clearCounted = counted (clearCallOf h) c

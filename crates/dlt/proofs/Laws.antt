@@ -15,8 +15,8 @@ use Rattle.numbers.specs.Circular.{signed}
 use Rattle.numbers.proofs.Flags.{by-test, by-order}
 use Rattle.numbers.proofs.Signs.{signed-range}
 use Rattle.dlt.specs.Bytes.{bigFrom, big, byteAt, field, timeAt}
-use Rattle.dlt.specs.Header.{isMarked, settingsIn, headerOf}
-use Rattle.dlt.specs.Record.{fixedOf, dataIn, dataOf, fieldsOf, recordOf, sizeOf}
+use Rattle.dlt.specs.Header.{isHeader, settingsIn, headerOf}
+use Rattle.dlt.specs.Record.{leastSize, dataIn, dataOf, fieldsOf, recordOf, sizeOf}
 use Rattle.dlt.specs.declared.header.HeaderRead.{HeaderRead}
 use Rattle.dlt.specs.declared.header.HeaderRead.the-variants as header
 use Rattle.dlt.specs.declared.record.RecordRead.{RecordRead}
@@ -62,8 +62,8 @@ module _ (xs ys : List ℕ) where
   longer : {n : ℕ} → n ≤ length xs → n ≤ length (xs ++ ys)
   longer h = rw (length-append xs ys) (omega arith)
 
-  settings-behind : 24 ≤ length xs → (isMarked (xs ++ ys) ≡ isMarked xs) × (settingsIn (xs ++ ys) ≡ settingsIn xs)
-  unfolding isMarked
+  settings-behind : 24 ≤ length xs → (isHeader (xs ++ ys) ≡ isHeader xs) × (settingsIn (xs ++ ys) ≡ settingsIn xs)
+  unfolding isHeader
   settings-behind h = (
     rw (byte-behind 0 (omega arith), byte-behind 1 (omega arith), byte-behind 2 (omega arith), field-behind 3 2 (omega arith), byte-behind 17 (omega arith)),
     rw (time-behind 5 (omega arith), field-behind 13 4 (omega arith), byte-behind 17 (omega arith), field-behind 18 4 (omega arith), field-behind 22 2 (omega arith)),
@@ -92,10 +92,10 @@ module _ (xs ys : List ℕ) where
       rw (time-behind 1 (omega arith), field-behind 9 4 (omega arith), field-behind 13 4 (omega arith), byte-behind 17 (omega arith), field-behind 18 4 (omega arith)) in
       sym (data-is (xs ++ ys) e l (longer m) (sym d)) ∙ data-is xs refl l m refl))
 
-  fields-behind : (kind : ℕ) → fixedOf kind ≤ length xs → (fieldsOf kind xs ≡ Short → ⊥) → fieldsOf kind (xs ++ ys) ≡ fieldsOf kind xs
-  unfolding fieldsOf fixedOf
+  fields-behind : (kind : ℕ) → leastSize kind ≤ length xs → (fieldsOf kind xs ≡ Short → ⊥) → fieldsOf kind (xs ++ ys) ≡ fieldsOf kind xs
+  unfolding fieldsOf leastSize
   fields-behind =
-      by-kind (λ (kind : ℕ). fixedOf kind ≤ length xs → (fieldsOf kind xs ≡ Short → ⊥) → fieldsOf kind (xs ++ ys) ≡ fieldsOf kind xs)
+      by-kind (λ (kind : ℕ). leastSize kind ≤ length xs → (fieldsOf kind xs ≡ Short → ⊥) → fieldsOf kind (xs ++ ys) ≡ fieldsOf kind xs)
       (λ h whole. refl)
       (λ h whole. data-behind h whole)
       (λ h whole. rw (time-behind 1 (omega arith)))
@@ -108,10 +108,10 @@ module _ (xs ys : List ℕ) where
       (λ k l h whole. unknown (xs ++ ys) k l ∙ sym (unknown xs k l))
 
 pub record-behind : (xs ys : List ℕ) → (recordOf xs ≡ Short → ⊥) → recordOf (xs ++ ys) ≡ recordOf xs
-unfolding recordOf fixedOf
+unfolding recordOf leastSize
 record-behind [] ys whole = absurd (whole refl)
 record-behind (x ∷ xs) ys whole =
-    by-order (length (x ∷ xs)) (fixedOf x)
+    by-order (length (x ∷ xs)) (leastSize x)
     (λ h. absurd (whole (rw (lt-ltb _ _ h))))
     (λ h.
     rw (le-ltb _ _ h, le-ltb _ _ (longer (x ∷ xs) ys h))
@@ -128,10 +128,10 @@ data-within xs h =
     (λ u. omega arith)
     (λ u. ltb-false _ _ u))
 
-fields-within : (xs : List ℕ) (kind : ℕ) → fixedOf kind ≤ length xs → sizeOf (fieldsOf kind xs) ≤ length xs
-unfolding fieldsOf fixedOf
+fields-within : (xs : List ℕ) (kind : ℕ) → leastSize kind ≤ length xs → sizeOf (fieldsOf kind xs) ≤ length xs
+unfolding fieldsOf leastSize
 fields-within xs =
-    by-kind (λ (kind : ℕ). fixedOf kind ≤ length xs → sizeOf (fieldsOf kind xs) ≤ length xs)
+    by-kind (λ (kind : ℕ). leastSize kind ≤ length xs → sizeOf (fieldsOf kind xs) ≤ length xs)
     (λ h. omega arith)
     (λ h. data-within xs h)
     (λ h. h)
@@ -146,7 +146,7 @@ fields-within xs =
 pub size-within : (xs : List ℕ) → sizeOf (recordOf xs) ≤ length xs
 unfolding recordOf
 size-within xs =
-    by-test (λ (r : RecordRead). sizeOf r ≤ length xs) (ltb (length xs) (fixedOf (byteAt xs 0))) _ _
+    by-test (λ (r : RecordRead). sizeOf r ≤ length xs) (ltb (length xs) (leastSize (byteAt xs 0))) _ _
     (λ t. omega arith)
     (λ t. fields-within xs (byteAt xs 0) (ltb-false _ _ t))
 
@@ -189,7 +189,7 @@ ShortPayload Clear = Unit {0}
 short-payload : (xs : List ℕ) → ShortPayload (recordOf xs)
 unfolding recordOf fieldsOf dataOf
 short-payload xs =
-    by-test ShortPayload (ltb (length xs) (fixedOf (byteAt xs 0))) _ _
+    by-test ShortPayload (ltb (length xs) (leastSize (byteAt xs 0))) _ _
     (λ t. tt)
     (λ t.
     by-kind (λ (kind : ℕ). ShortPayload (fieldsOf kind xs)) tt
@@ -293,7 +293,7 @@ module _ (xs : List ℕ) (small : AreBytes xs) where
 
   pub record-fits : RecordFit (recordOf xs)
   unfolding recordOf
-  record-fits = by-test RecordFit (ltb (length xs) (fixedOf (byteAt xs 0))) _ _ (λ t. tt) (λ t. fields-fit (byteAt xs 0))
+  record-fits = by-test RecordFit (ltb (length xs) (leastSize (byteAt xs 0))) _ _ (λ t. tt) (λ t. fields-fit (byteAt xs 0))
 
   pub header-fits : HeaderFit (headerOf xs)
   unfolding headerOf
@@ -301,6 +301,6 @@ module _ (xs : List ℕ) (small : AreBytes xs) where
       by-test HeaderFit (ltb (length xs) 24) _ _
       (λ t. tt)
       (λ t.
-      by-test HeaderFit (isMarked xs) _ _
+      by-test HeaderFit (isHeader xs) _ _
       (λ u. (time-below xs 5 small, field-below xs 13 4 small, field-below xs 18 4 small, field-below xs 22 2 small))
       (λ u. tt))

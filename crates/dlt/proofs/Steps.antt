@@ -12,8 +12,8 @@ use lib.IntN.{ℤ}
 use lib.ListN.{length, getD, take, drop, length-drop, drop-of-length-le, List·getD-eq-default}
 use lib.Seq.{take-all}
 use Rattle.dlt.specs.Bytes.{byteAt, field, timeAt}
-use Rattle.dlt.specs.Header.{isMarked, settingsIn, headerOf}
-use Rattle.dlt.specs.Record.{fixedOf, dataIn, dataOf, fieldsOf, recordOf, sizeOf}
+use Rattle.dlt.specs.Header.{isHeader, settingsIn, headerOf}
+use Rattle.dlt.specs.Record.{leastSize, dataIn, dataOf, fieldsOf, recordOf, sizeOf}
 use Rattle.dlt.specs.declared.header.HeaderRead.{HeaderRead}
 use Rattle.dlt.specs.declared.header.HeaderRead.the-variants as header
 use Rattle.dlt.specs.declared.record.RecordRead.{RecordRead}
@@ -22,19 +22,19 @@ use Rattle.dlt.specs.declared.record.RecordRead.the-variants.{Short, Bad
 -- header.rt
 module _ (xs : List ℕ) where
   pub mark-is : {v : ℕ} → v ≡ field xs 3 2
-      → (eqb (getD xs 0 0) 68 && eqb (getD xs 1 0) 76 && eqb (getD xs 2 0) 84 && eqb v 1 && leb (getD xs 17 0) 1) ≡ isMarked xs
-  unfolding isMarked
+      → (eqb (getD xs 0 0) 68 && eqb (getD xs 1 0) 76 && eqb (getD xs 2 0) 84 && eqb v 1 && leb (getD xs 17 0) 1) ≡ isHeader xs
+  unfolding isHeader
   mark-is e = rw e
 
   pub header-short : length xs < 24 → header.Short ≡ headerOf xs
   unfolding headerOf
   header-short h = rw (lt-ltb _ _ h)
 
-  pub header-good : {t : Bool} {r : HeaderRead} → 24 ≤ length xs → t ≡ isMarked xs → t ≡ true → r ≡ settingsIn xs → r ≡ headerOf xs
+  pub header-good : {t : Bool} {r : HeaderRead} → 24 ≤ length xs → t ≡ isHeader xs → t ≡ true → r ≡ settingsIn xs → r ≡ headerOf xs
   unfolding headerOf
   header-good h a b e = rw (le-ltb _ _ h, ← a, b) e
 
-  pub header-bad : {t : Bool} → 24 ≤ length xs → t ≡ isMarked xs → t ≡ false → header.Bad ≡ headerOf xs
+  pub header-bad : {t : Bool} → 24 ≤ length xs → t ≡ isHeader xs → t ≡ false → header.Bad ≡ headerOf xs
   unfolding headerOf
   header-bad h a b = rw (le-ltb _ _ h, ← a, b)
 
@@ -47,18 +47,18 @@ within (x ∷ l) (suc i) d e h = within l i d e (le-of-suc-le-suc h)
 abbrev sizes : List ℕ
 sizes = 1 ∷ 24 ∷ 9 ∷ 9 ∷ 9 ∷ 13 ∷ 9 ∷ 13 ∷ 1 ∷ []
 
-pub fixed-in : (kind : ℕ) → kind ≤ 8 → getD sizes kind 0 ≡ fixedOf kind
-unfolding fixedOf
+pub fixed-in : (kind : ℕ) → kind ≤ 8 → getD sizes kind 0 ≡ leastSize kind
+unfolding leastSize
 fixed-in kind h = within sizes kind 0 1 (omega arith)
 
-pub fixed-past : (kind : ℕ) → 8 < kind → 1 ≡ fixedOf kind
-unfolding fixedOf
+pub fixed-past : (kind : ℕ) → 8 < kind → 1 ≡ leastSize kind
+unfolding leastSize
 fixed-past kind h = sym (List·getD-eq-default sizes 1 {n = kind} (omega arith))
 
 -- the fixed part of a known kind is there
-pub fixed-room : {kind j n m : ℕ} → kind ≡ j → fixedOf kind ≤ n → T (leb m (getD sizes j 1)) → m ≤ n
-unfolding fixedOf
-fixed-room {j = j} {m = m} e h t = let a = leb→le m (fixedOf j) t in let b = ap fixedOf e in omega arith
+pub fixed-room : {kind j n m : ℕ} → kind ≡ j → leastSize kind ≤ n → T (leb m (getD sizes j 1)) → m ≤ n
+unfolding leastSize
+fixed-room {j = j} {m = m} e h t = let a = leb→le m (leastSize j) t in let b = ap leastSize e in omega arith
 
 module _ (xs : List ℕ) {n : ℕ} (a : n ≡ field xs 22 2) where
   pub data-bad : 1456 < n → Bad ≡ dataOf xs
@@ -116,24 +116,24 @@ module _ (xs : List ℕ) (kind : ℕ) where
 module _ (xs : List ℕ) where
   -- no bytes have no kind byte either, and it is read as 0
   pub record-none : length xs < 1 → Short ≡ recordOf xs
-  unfolding recordOf fixedOf
+  unfolding recordOf leastSize
   record-none h =
       let z : getD xs 0 0 ≡ 0 = List·getD-eq-default xs 0 {n = 0} (omega arith) in
       rw (z, lt-ltb _ _ h)
 
-  pub record-short : {f : ℕ} → f ≡ fixedOf (byteAt xs 0) → length xs < f → Short ≡ recordOf xs
+  pub record-short : {f : ℕ} → f ≡ leastSize (byteAt xs 0) → length xs < f → Short ≡ recordOf xs
   unfolding recordOf
   record-short e h = rw (← e, lt-ltb _ _ h)
 
-  pub record-is : {f : ℕ} {r : RecordRead} → f ≡ fixedOf (byteAt xs 0) → f ≤ length xs → r ≡ fieldsOf (byteAt xs 0) xs → r ≡ recordOf xs
+  pub record-is : {f : ℕ} {r : RecordRead} → f ≡ leastSize (byteAt xs 0) → f ≤ length xs → r ≡ fieldsOf (byteAt xs 0) xs → r ≡ recordOf xs
   unfolding recordOf
   record-is e h k = rw (← e, le-ltb _ _ h) k
 
-  pub record-room : {f : ℕ} → f ≡ fixedOf (byteAt xs 0) → f ≤ length xs → fixedOf (byteAt xs 0) ≤ length xs
+  pub record-room : {f : ℕ} → f ≡ leastSize (byteAt xs 0) → f ≤ length xs → leastSize (byteAt xs 0) ≤ length xs
   record-room e h = omega arith
 
   pub record-past : (at : ℕ) → length xs ≤ at → Short ≡ recordOf (drop at xs)
-  unfolding recordOf fixedOf
+  unfolding recordOf leastSize
   record-past at h = rw (drop-of-length-le xs h)
 
 -- the part from the cursor to the end

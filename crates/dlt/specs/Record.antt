@@ -11,8 +11,8 @@ use Rattle.dlt.specs.declared.record.RecordRead.the-variants.{Short, Bad
 
 -- the bytes of a record with its kind byte and without its payload, by kind from 0 on; no record has kind 0 or one over 8, and there the kind
 -- byte is enough to tell
-unfoldable pub fixedOf : ℕ → ℕ
-fixedOf kind = getD (1 ∷ 24 ∷ 9 ∷ 9 ∷ 9 ∷ 13 ∷ 9 ∷ 13 ∷ 1 ∷ []) kind 1
+unfoldable pub leastSize : ℕ → ℕ
+leastSize kind = getD (1 ∷ 24 ∷ 9 ∷ 9 ∷ 9 ∷ 13 ∷ 9 ∷ 13 ∷ 1 ∷ []) kind 1
 
 abbrev pub dataIn : List ℕ → ℕ → RecordRead
 dataIn xs n = Data (timeAt xs 1) (field xs 9 4) (field xs 13 4) (byteAt xs 17) (field xs 18 4) n
@@ -38,7 +38,7 @@ fieldsOf kind xs =
 
 -- the record that bytes start with; they go on to the end of the file, or as far as it was read
 unfoldable pub recordOf : List ℕ → RecordRead
-recordOf xs = cond (ltb (length xs) (fixedOf (byteAt xs 0))) Short (fieldsOf (byteAt xs 0) xs)
+recordOf xs = cond (ltb (length xs) (leastSize (byteAt xs 0))) Short (fieldsOf (byteAt xs 0) xs)
 
 -- the bytes that it takes, its payload too
 abbrev pub sizeOf : RecordRead → ℕ

@@ -2,7 +2,7 @@
 ghost use mathlib.Core.Path.{_≡_};
 ghost use Prim.Native.Nat.{_≤_};
 ghost use lib.ListN.{length};
-ghost use Rattle.dlt.specs.Header.{isMarked, settingsIn, headerOf};
+ghost use Rattle.dlt.specs.Header.{isHeader, settingsIn, headerOf};
 use crate::bytes::half;
 use crate::bytes::time;
 use crate::bytes::word;
@@ -23,7 +23,7 @@ pub enum HeaderRead {
 
 fn marked(piece: &[u8]) -> bool
     requires { ⌜ 24 ≤ length (now piece) ⌝ }
-    ensures { λ r. ⌜ r ≡ isMarked (now (piece .entry)) ⌝ }
+    ensures { λ r. ⌜ r ≡ isHeader (now (piece .entry)) ⌝ }
 {
     let version = half(piece, 3);
     (piece[0] == b'D') & (piece[1] == b'L') & (piece[2] == b'T') & (version == 1) & (piece[17] <= 1)

@@ -2,7 +2,7 @@
 ghost use mathlib.Core.Path.{_≡_};
 ghost use Prim.Native.Nat.{_≤_};
 ghost use lib.ListN.{length, drop};
-ghost use Rattle.dlt.specs.Record.{fixedOf, dataIn, dataOf, fieldsOf, recordOf, sizeOf};
+ghost use Rattle.dlt.specs.Record.{leastSize, dataIn, dataOf, fieldsOf, recordOf, sizeOf};
 use crate::bytes::half;
 use crate::bytes::time;
 use crate::bytes::wide;
@@ -49,7 +49,7 @@ pub enum RecordRead {
 const FIXED: [usize; 9] = [1, 24, 9, 9, 9, 13, 9, 13, 1];
 
 fn fixed(kind: u8) -> usize
-    ensures { λ r. ⌜ r ≡ fixedOf kind ⌝ }
+    ensures { λ r. ⌜ r ≡ leastSize kind ⌝ }
 {
     if 8 < kind {
         return 1;
@@ -87,7 +87,7 @@ fn data(rest: &[u8]) -> RecordRead
 }
 
 fn fields(rest: &[u8], kind: u8) -> RecordRead
-    requires { ⌜ fixedOf kind ≤ length (now rest) ⌝ }
+    requires { ⌜ leastSize kind ≤ length (now rest) ⌝ }
     ensures { λ r. ⌜ r ≡ fieldsOf kind (now (rest .entry)) ⌝ }
 {
     match kind {

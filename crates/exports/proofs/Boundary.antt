@@ -16,13 +16,13 @@ use Rattle.head.specs.Head.{madeOf}
 use Rattle.head.specs.declared.state.Head.{Head}
 use Rattle.head.specs.declared.state.Made.{Made}
 use Rattle.receiver.specs.Paper.{dataLine, messageLine, fullAckLine, rttLine, dropLine, clearLine, roomLine, shownLine, clockLine}
-use Rattle.receiver.specs.Acking.{fullAckEnded, fullAckEventOf, ack2Ended, ack2PacketOf}
-use Rattle.receiver.specs.Data.{DataOutcome, dataOf}
-use Rattle.receiver.specs.Loss.{lossEnded, lossOf}
-use Rattle.receiver.specs.Message.{messageOf}
-use Rattle.receiver.specs.Request.{dropEnded, dropCallOf, clearEnded, clearOf, roomEnded, roomCallOf}
+use Rattle.receiver.specs.Acking.{fullAckEnded, fullAckCallOf, ack2Ended, ack2CallOf}
+use Rattle.receiver.specs.Data.{DataOutcome, dataCallOf}
+use Rattle.receiver.specs.Loss.{lossEnded, reportCallOf}
+use Rattle.receiver.specs.Message.{popCallOf}
+use Rattle.receiver.specs.Request.{dropEnded, dropCallOf, clearEnded, clearCallOf, roomEnded, roomCallOf}
 use Rattle.receiver.specs.Show.{shownEnded, shownCallOf, placeCallOf}
-use Rattle.receiver.specs.Sync.{clockEnded, clockOf}
+use Rattle.receiver.specs.Sync.{clockEnded, clockCallOf}
 use Rattle.receiver.specs.declared.acking.FullAcked.{FullAcked}
 use Rattle.receiver.specs.declared.acking.Ack2ed.{Ack2ed}
 use Rattle.receiver.specs.declared.data.DataAnswer.{DataAnswer}
@@ -67,7 +67,7 @@ module _ (ws : List ℕ) {c : List ℤ} {n : ℕ} {k : List ℕ} where
       → left n k c (o ∷ []) ≡ messageExportOf ws slots payloads output now
   unfolding messageExportOf
   message-ends slots payloads output now {a} {o} e z i l =
-      let x = messageOf (unpackOf ws) slots payloads output now in
+      let x = popCallOf (unpackOf ws) slots payloads output now in
       let f : popIn a k o ≡ messageIn ws slots payloads output now = e ∙ rw z in
       rw (i, l)
       (ap (λ (y : PopIn). left (y .line .refusal) (y .words) (cellsOf (y .line)) (y .output ∷ [])) f
@@ -76,7 +76,7 @@ module _ (ws : List ℕ) {c : List ℤ} {n : ℕ} {k : List ℕ} where
   module _ (slots payloads : List ℕ) (now : ℤ) (p : Packet) (payload : List ℕ) {a : DataAnswer} {s b : List ℕ} {z : ℤ}
       (e : dataLeft a k s b ≡ dataIn ws slots payloads z p payload) (q : z ≡ now) (i : n ≡ dataLine a .refusal) (l : c ≡ cellsOf (dataLine a)) where
     abbrev outcome : DataOutcome
-    outcome = dataOf (unpackOf ws) slots payloads now p payload
+    outcome = dataCallOf (unpackOf ws) slots payloads now p payload
 
     same : dataLeft a k s b ≡ dataAfter ws outcome
     same = e ∙ rw q
@@ -105,35 +105,35 @@ module _ (ws : List ℕ) {c : List ℤ} where
 
   module _ {n : ℕ} {h : Head} (u : h ≡ unpackOf ws) where
     pub loss-ends : (slots list : List ℕ) (now : ℤ) {r : Reported} {s o : List ℕ} {z : ℤ} {k : List ℕ}
-        → lossEnded r s o ≡ lossOf h slots list z → z ≡ now
+        → lossEnded r s o ≡ reportCallOf h slots list z → z ≡ now
         → n ≡ countLine (r .answer) .refusal → k ≡ kept ws n (r .head) → unpackOf k ≡ saying ws n (r .head) → c ≡ lossCells (r .answer)
         → left n k c (s ∷ o ∷ []) ≡ lossExportOf ws slots list now
     unfolding lossExportOf
     loss-ends slots list now {r} {s} {o} e z i j g l = rw (g, j, i ∙ count-refusal (r .answer) o, l) (ap (fromLoss ws) (rw (u, z) at e))
 
     pub full-ack-ends : (history : List ℕ) (now : ℤ) {r : FullAcked} {a : List ℕ} {z : ℤ} {k : List ℕ}
-        → fullAckEnded r a ≡ fullAckEventOf h history z → z ≡ now
+        → fullAckEnded r a ≡ fullAckCallOf h history z → z ≡ now
         → n ≡ fullAckLine (r .answer) .refusal → k ≡ kept ws n (r .head) → unpackOf k ≡ saying ws n (r .head) → c ≡ cellsOf (fullAckLine (r .answer))
         → left n k c (a ∷ []) ≡ fullAckExportOf ws history now
     unfolding fullAckExportOf
     full-ack-ends history now e z i j g l = rw (g, j, i, l) (ap (fromFullAck ws) (rw (u, z) at e))
 
     pub ack2-ends : (history : List ℕ) (now : ℤ) (number : ℕ) {r : Ack2ed} {z : ℤ} {k : List ℕ}
-        → ack2Ended r ≡ ack2PacketOf h history z number → z ≡ now
+        → ack2Ended r ≡ ack2CallOf h history z number → z ≡ now
         → n ≡ rttLine (r .answer) .refusal → k ≡ kept ws n (r .head) → unpackOf k ≡ saying ws n (r .head) → c ≡ cellsOf (rttLine (r .answer))
         → left n k c [] ≡ ack2ExportOf ws history now number
     unfolding ack2ExportOf
     ack2-ends history now number e z i j g l = rw (g, j, i, l) (ap (fromAck2 ws) (rw (u, z) at e))
 
     pub clock-ends : (now : ℤ) (stamp : ℕ) {r : Clocked} {z : ℤ} {k : List ℕ}
-        → clockEnded r ≡ clockOf h z stamp → z ≡ now
+        → clockEnded r ≡ clockCallOf h z stamp → z ≡ now
         → n ≡ clockLine (r .answer) .refusal → k ≡ kept ws n (r .head) → unpackOf k ≡ saying ws n (r .head) → c ≡ cellsOf (clockLine (r .answer))
         → left n k c [] ≡ clockExportOf ws now stamp
     unfolding clockExportOf
     clock-ends now stamp e z i j g l = rw (g, j, i, l) (ap (fromClock ws) (rw (u, z) at e))
 
     pub clear-ends : {r : Cleared} {k : List ℕ}
-        → clearEnded r ≡ clearOf h
+        → clearEnded r ≡ clearCallOf h
         → n ≡ clearLine (r .answer) .refusal → k ≡ kept ws n (r .head) → unpackOf k ≡ saying ws n (r .head) → c ≡ cellsOf (clearLine (r .answer))
         → left n k c [] ≡ clearExportOf ws
     unfolding clearExportOf

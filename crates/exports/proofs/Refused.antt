@@ -10,13 +10,13 @@ use Rattle.window.specs.declared.push.Packet.{Packet}
 use Rattle.head.specs.Head.{freshHead, headOk}
 use Rattle.head.specs.Rules.{thenOf}
 use Rattle.head.specs.declared.state.Head.{Head}
-use Rattle.receiver.specs.Acking.{fullAckEventOf, ack2PacketOf}
-use Rattle.receiver.specs.Data.{dataOf}
-use Rattle.receiver.specs.Loss.{lossOf}
-use Rattle.receiver.specs.Message.{messageOf}
-use Rattle.receiver.specs.Request.{dropCallOf, clearOf, roomCallOf}
+use Rattle.receiver.specs.Acking.{fullAckCallOf, ack2CallOf}
+use Rattle.receiver.specs.Data.{dataCallOf}
+use Rattle.receiver.specs.Loss.{reportCallOf}
+use Rattle.receiver.specs.Message.{popCallOf}
+use Rattle.receiver.specs.Request.{dropCallOf, clearCallOf, roomCallOf}
 use Rattle.receiver.specs.Show.{shownCallOf, placeCallOf}
-use Rattle.receiver.specs.Sync.{clockOf}
+use Rattle.receiver.specs.Sync.{clockCallOf}
 use Rattle.packing.specs.Packed.{formed, unpackOf}
 use Rattle.packing.specs.Tally.{countersWords, countersOf}
 use Rattle.cells.specs.Cells.{cellsOf}
@@ -86,23 +86,23 @@ tally cs = countersWords (countersOf cs)
 
 module _ (ws : List ℕ) (e : formed ws ≡ false) where
   pub data-unformed : (slots payloads : List ℕ) (now : ℤ) (p : Packet) (payload : List ℕ) → dataExportOf ws slots payloads now p payload ≡ left 1 ws headBad (slots ∷ payloads ∷ [])
-  unfolding dataExportOf dataOf thenOf
+  unfolding dataExportOf dataCallOf thenOf
   data-unformed slots payloads now p payload = rw (unformed ws e)
 
   pub message-unformed : (slots payloads output : List ℕ) (now : ℤ) → messageExportOf ws slots payloads output now ≡ left 1 ws headBad (output ∷ [])
-  unfolding messageExportOf messageOf thenOf
+  unfolding messageExportOf popCallOf thenOf
   message-unformed slots payloads output now = rw (unformed ws e)
 
   pub loss-unformed : (slots list : List ℕ) (now : ℤ) → lossExportOf ws slots list now ≡ left 1 ws headBad (slots ∷ list ∷ [])
-  unfolding lossExportOf lossOf thenOf
+  unfolding lossExportOf reportCallOf thenOf
   loss-unformed slots list now = rw (unformed ws e)
 
   pub full-ack-unformed : (history : List ℕ) (now : ℤ) → fullAckExportOf ws history now ≡ left 1 ws headBad (history ∷ [])
-  unfolding fullAckExportOf fullAckEventOf thenOf
+  unfolding fullAckExportOf fullAckCallOf thenOf
   full-ack-unformed history now = rw (unformed ws e)
 
   pub ack2-unformed : (history : List ℕ) (now : ℤ) (number : ℕ) → ack2ExportOf ws history now number ≡ left 1 ws headBad []
-  unfolding ack2ExportOf ack2PacketOf thenOf
+  unfolding ack2ExportOf ack2CallOf thenOf
   ack2-unformed history now number = rw (unformed ws e)
 
   pub drop-unformed : (slots : List ℕ) (first last : ℕ) → dropExportOf ws slots first last ≡ left 1 ws headBad (slots ∷ [])
@@ -110,11 +110,11 @@ module _ (ws : List ℕ) (e : formed ws ≡ false) where
   drop-unformed slots first last = rw (unformed ws e)
 
   pub clock-unformed : (now : ℤ) (stamp : ℕ) → clockExportOf ws now stamp ≡ left 1 ws headBad []
-  unfolding clockExportOf clockOf thenOf
+  unfolding clockExportOf clockCallOf thenOf
   clock-unformed now stamp = rw (unformed ws e)
 
   pub clear-unformed : clearExportOf ws ≡ left 1 ws headBad []
-  unfolding clearExportOf clearOf thenOf
+  unfolding clearExportOf clearCallOf thenOf
   clear-unformed = rw (unformed ws e)
 
   pub room-unformed : roomExportOf ws ≡ left 1 ws headBad []
@@ -126,11 +126,11 @@ module _ (ws : List ℕ) (e : formed ws ≡ false) where
   show-unformed slots payloads number = rw (unformed ws e)
 
   pub data-counted-unformed : (cs slots payloads : List ℕ) (now : ℤ) (p : Packet) (payload : List ℕ) → dataCountedOf ws cs slots payloads now p payload ≡ left 1 ws headBad (tally cs ∷ slots ∷ payloads ∷ [])
-  unfolding dataCountedOf dataOf thenOf
+  unfolding dataCountedOf dataCallOf thenOf
   data-counted-unformed cs slots payloads now p payload = rw (unformed ws e)
 
   pub ack2-counted-unformed : (cs history : List ℕ) (now : ℤ) (number : ℕ) → ack2CountedOf ws cs history now number ≡ left 1 ws headBad (tally cs ∷ [])
-  unfolding ack2CountedOf ack2PacketOf thenOf
+  unfolding ack2CountedOf ack2CallOf thenOf
   ack2-counted-unformed cs history now number = rw (unformed ws e)
 
   pub drop-counted-unformed : (cs slots : List ℕ) (first last : ℕ) → dropCountedOf ws cs slots first last ≡ left 1 ws headBad (tally cs ∷ slots ∷ [])
@@ -138,5 +138,5 @@ module _ (ws : List ℕ) (e : formed ws ≡ false) where
   drop-counted-unformed cs slots first last = rw (unformed ws e)
 
   pub clock-counted-unformed : (cs : List ℕ) (now : ℤ) (stamp : ℕ) → clockCountedOf ws cs now stamp ≡ left 1 ws headBad (tally cs ∷ [])
-  unfolding clockCountedOf clockOf thenOf
+  unfolding clockCountedOf clockCallOf thenOf
   clock-counted-unformed cs now stamp = rw (unformed ws e)

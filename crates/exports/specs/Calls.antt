@@ -10,13 +10,13 @@ use Rattle.window.specs.declared.show.Place.{Place}
 use Rattle.head.specs.Head.{madeOf}
 use Rattle.head.specs.declared.state.Head.{Head}
 use Rattle.head.specs.declared.state.Made.{Made}
-use Rattle.receiver.specs.Acking.{FullAckOutcome, fullAckEventOf, Ack2Outcome, ack2PacketOf}
-use Rattle.receiver.specs.Data.{DataOutcome, dataOf}
-use Rattle.receiver.specs.Loss.{LossOutcome, lossOf}
-use Rattle.receiver.specs.Message.{GivenOutcome, messageOf}
-use Rattle.receiver.specs.Request.{DropOutcome, dropCallOf, ClearOutcome, clearOf, RoomOutcome, roomCallOf}
+use Rattle.receiver.specs.Acking.{FullAckOutcome, fullAckCallOf, Ack2Outcome, ack2CallOf}
+use Rattle.receiver.specs.Data.{DataOutcome, dataCallOf}
+use Rattle.receiver.specs.Loss.{LossOutcome, reportCallOf}
+use Rattle.receiver.specs.Message.{MessageOutcome, popCallOf}
+use Rattle.receiver.specs.Request.{DropOutcome, dropCallOf, ClearOutcome, clearCallOf, RoomOutcome, roomCallOf}
 use Rattle.receiver.specs.Show.{ShownOutcome, shownCallOf, placeCallOf}
-use Rattle.receiver.specs.Sync.{ClockOutcome, clockOf}
+use Rattle.receiver.specs.Sync.{ClockOutcome, clockCallOf}
 use Rattle.counters.specs.Calls.{Counted, dataCounted, ack2Counted, dropCounted, clockCounted}
 use Rattle.packing.specs.Packed.{packOf, unpackOf}
 use Rattle.packing.specs.Tally.{countersWords, countersOf}
@@ -51,7 +51,7 @@ module _ (ws : List ℕ) where
   abbrev pub fromData : DataOutcome → Left
   fromData o = after ws (o .line .refusal) (o .handled .head) (cellsOf (o .line)) (o .slots ∷ o .payloads ∷ [])
 
-  abbrev pub fromMessage : GivenOutcome → Left
+  abbrev pub fromMessage : MessageOutcome → Left
   fromMessage o = after ws (o .line .refusal) (o .given .head) (cellsOf (o .line)) (o .output ∷ [])
 
   -- the words of a report lie in the lent list; its answer has their count
@@ -92,28 +92,28 @@ module _ (ws : List ℕ) where
   newOf start latency dropping first capacity = fromMade ws (madeOf start latency dropping first capacity)
 
   unfoldable pub dataExportOf : List ℕ → List ℕ → ℤ → Packet → List ℕ → Left
-  dataExportOf slots payloads now p payload = fromData ws (dataOf (unpackOf ws) slots payloads now p payload)
+  dataExportOf slots payloads now p payload = fromData ws (dataCallOf (unpackOf ws) slots payloads now p payload)
 
   unfoldable pub messageExportOf : List ℕ → List ℕ → List ℕ → ℤ → Left
-  messageExportOf slots payloads output now = fromMessage ws (messageOf (unpackOf ws) slots payloads output now)
+  messageExportOf slots payloads output now = fromMessage ws (popCallOf (unpackOf ws) slots payloads output now)
 
   unfoldable pub lossExportOf : List ℕ → List ℕ → ℤ → Left
-  lossExportOf slots list now = fromLoss ws (lossOf (unpackOf ws) slots list now)
+  lossExportOf slots list now = fromLoss ws (reportCallOf (unpackOf ws) slots list now)
 
   unfoldable pub fullAckExportOf : List ℕ → ℤ → Left
-  fullAckExportOf history now = fromFullAck ws (fullAckEventOf (unpackOf ws) history now)
+  fullAckExportOf history now = fromFullAck ws (fullAckCallOf (unpackOf ws) history now)
 
   unfoldable pub ack2ExportOf : List ℕ → ℤ → ℕ → Left
-  ack2ExportOf history now number = fromAck2 ws (ack2PacketOf (unpackOf ws) history now number)
+  ack2ExportOf history now number = fromAck2 ws (ack2CallOf (unpackOf ws) history now number)
 
   unfoldable pub dropExportOf : List ℕ → ℕ → ℕ → Left
   dropExportOf slots first last = fromDrop ws (dropCallOf (unpackOf ws) slots first last)
 
   unfoldable pub clockExportOf : ℤ → ℕ → Left
-  clockExportOf now stamp = fromClock ws (clockOf (unpackOf ws) now stamp)
+  clockExportOf now stamp = fromClock ws (clockCallOf (unpackOf ws) now stamp)
 
   unfoldable pub clearExportOf : Left
-  clearExportOf = fromClear ws (clearOf (unpackOf ws))
+  clearExportOf = fromClear ws (clearCallOf (unpackOf ws))
 
   unfoldable pub roomExportOf : Left
   roomExportOf = fromRoom ws (roomCallOf (unpackOf ws))

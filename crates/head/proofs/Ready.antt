@@ -17,7 +17,7 @@ use Rattle.clock.specs.Ranges.{clockOk}
 use Rattle.clock.proofs.Ranges.{ready, ranges, reference-size}
 use Rattle.acks.specs.Rtt.{rttOk}
 use Rattle.acks.specs.Rates.{arrivalsOk, linksOk}
-use Rattle.acks.specs.History.{historyOk, newestOf, Right}
+use Rattle.acks.specs.History.{historyOk, newestOf, HistoryReady}
 use Rattle.window.specs.Window.{Good, Bytes}
 use Rattle.window.specs.Push as push
 use Rattle.window.specs.declared.Window.{Window}
@@ -25,20 +25,11 @@ use Rattle.window.specs.declared.push.Packet.{Packet}
 use Rattle.window_pop.specs.Pop.{PopReady}
 use Rattle.head.specs.Rules.{Rule, firstRefusal, pushRules, popRules, timedRules, dropRules, showRules, clockRules, headRules}
 use Rattle.head.specs.Head.{windowOk, headOk}
+use Rattle.head.specs.Ready.{InRange, InWindow, Timed, PushReady}
 use Rattle.head.specs.declared.state.Head.{Head}
 use Rattle.head.proofs.Gates.{Clear, clear}
 
 -- the parts of a head in range
-pub record InRange (h : Head) : Type 0 where
-  pub window : windowOk (h .window) ≡ true
-  pub latency : h .latency ≤ 65535000
-  pub clock : clockOk (h .clock) ≡ true
-  pub rtt : rttOk (h .rtt) ≡ true
-  pub arrivals : arrivalsOk (h .arrivals) ≡ true
-  pub links : linksOk (h .links) ≡ true
-  pub history : historyOk (h .history) ≡ true
-  pub latest : isReading (h .latest) ≡ true
-
 pub in-parts : (h : Head) → headOk h ≡ true → InRange h
 unfolding headOk
 in-parts h e =
@@ -67,14 +58,6 @@ in-parts h e =
     }
 
 -- the parts of a window in range
-pub record InWindow (w : Window) : Type 0 where
-  pub some : 0 < w .capacity
-  pub most : w .capacity ≤ 8192
-  pub starts : w .start < w .capacity
-  pub holds : w .held ≤ w .capacity
-  pub first : w .seqno0 < 2 ^ 31
-  pub next : w .lrsn < 2 ^ 31
-
 pub in-window : (w : Window) → windowOk w ≡ true → InWindow w
 in-window w e =
     let a = leb 1 (w .capacity) in
@@ -102,18 +85,12 @@ pub head-ready : (h : Head) → firstRefusal (headRules (headOk h)) ≡ 0 → In
 head-ready h e = let c = clear (headRules (headOk h)) (lit< tt, tt) e in in-parts h (not-false (headOk h) (c .0))
 
 module _ (h : Head) (now : ℤ) where
-  -- what every call with a reading has
-  pub record Timed : Type 0 where
-    pub head : InRange h
-    pub reading : isReading now ≡ true
-    pub later : ltZ now (h .latest) ≡ false
-
-  pub clock-ready : firstRefusal (clockRules (headOk h) now (h .latest)) ≡ 0 → Timed
+  pub clock-ready : firstRefusal (clockRules (headOk h) now (h .latest)) ≡ 0 → Timed h now
   clock-ready e =
       let c = clear (clockRules (headOk h) now (h .latest)) (lit< tt, (lit< tt, (lit< tt, tt))) e in
       record { head = in-parts h (not-false (headOk h) (c .0)); reading = not-false (isReading now) (c .1 .0); later = c .1 .1 .0 }
 
-  pub timed-ready : (len need : ℕ) → firstRefusal (timedRules (headOk h) len need now (h .latest)) ≡ 0 → Timed × (need ≤ len)
+  pub timed-ready : (len need : ℕ) → firstRefusal (timedRules (headOk h) len need now (h .latest)) ≡ 0 → Timed h now × (need ≤ len)
   timed-ready len need e =
       let c = clear (timedRules (headOk h) len need now (h .latest)) (lit< tt, (lit< tt, (lit< tt, (lit< tt, tt)))) e in
       (record { head = in-parts h (not-false (headOk h) (c .0)); reading = not-false (isReading now) (c .1 .1 .0); later = c .1 .1 .1 .0 }, ltb-false len need (c .1 .0))
@@ -132,13 +109,6 @@ module _ (h : Head) (now : ℤ) where
       }
 
 -- a push that nothing refused
-pub record PushReady (h : Head) (ws bs : List ℕ) (now : ℤ) (p : Packet) (payload : List ℕ) : Type 0 where
-  pub head : InRange h
-  pub reading : isReading now ≡ true
-  pub good : Good (h .window) ws
-  pub payloads : Bytes (h .window) bs
-  pub right : push.Right p payload
-
 pub push-ready : (h : Head) (ws bs : List ℕ) (now : ℤ) (p : Packet) (payload : List ℕ)
     → firstRefusal (pushRules (headOk h) (h .window .capacity) (length ws) (length bs) now (h .latest) p (length payload)) ≡ 0 → PushReady h ws bs now p payload
 push-ready h ws bs now p payload e =

@@ -2,3 +2,4 @@
 pub mod Rules
 pub mod Head
 pub mod Parts
+pub mod Ready

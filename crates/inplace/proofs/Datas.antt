@@ -23,7 +23,7 @@ use Rattle.acks.specs.declared.history.LightAcked.{LightAcked}
 use Rattle.acks.specs.declared.rates.Arrivals.{Arrivals}
 use Rattle.acks.specs.declared.rates.Links.{Links}
 use Rattle.window.specs.Window.{Good, Bytes}
-use Rattle.window.specs.Push.{Right, PushOutcome, pushEnded, pushOf}
+use Rattle.window.specs.Push.{PacketRight, PushOutcome, pushEnded, pushOf}
 use Rattle.window.specs.declared.Window.{Window}
 use Rattle.window.proofs.push.PushAnswer.{the-type}
 use Rattle.window.specs.declared.push.Packet.{Packet}
@@ -35,8 +35,9 @@ use Rattle.head.specs.Rules.{firstRefusal, judged, pushRules}
 use Rattle.head.specs.Head.{headOk}
 use Rattle.head.specs.Parts.{withRates}
 use Rattle.head.specs.declared.state.Head.{Head}
-use Rattle.head.proofs.Ready.{PushReady, push-ready}
-use Rattle.receiver.specs.Data.{refusedBy, gotAnswer, placedOf, ackedOf, ratedOf, gotOf, afterPush, takenOf, dataOf, packet}
+use Rattle.head.specs.Ready.{PushReady}
+use Rattle.head.proofs.Ready.{push-ready}
+use Rattle.receiver.specs.Data.{pushRefused, gotAnswer, placedOf, ackedOf, ratedOf, gotOf, afterPush, takenOf, dataCallOf, packet}
 use Rattle.receiver.proofs.Datas.{arrivals-fit, links-fit}
 use Rattle.receiver.specs.Paper.{dataLine}
 use Rattle.receiver.specs.declared.data.DataAnswer.{DataAnswer}
@@ -119,7 +120,7 @@ module _ (ws : List ℕ) (w : Window) (a : PushAnswer) (now : ℤ) (number size 
   pub after-loss : {first last : ℕ} {vs : List ℕ} {z : ℤ} → a ≡ pushes.Loss first last → vs ≡ putPlaced ws w z → z ≡ now → heard (answers.Loss first last) vs ≡ afterPushIn ws w a now number size
   after-loss e f g = rw (f, g, e)
 
-  others : (b : PushAnswer) → OneOf (1 ∷ 2 ∷ 3 ∷ 4 ∷ 5 ∷ []) (tagOf the-type b) → OneOf (0 ∷ 2 ∷ 3 ∷ 4 ∷ 5 ∷ []) (tagOf the-type b) → heard (refusedBy b) ws ≡ afterPushIn ws w b now number size
+  others : (b : PushAnswer) → OneOf (1 ∷ 2 ∷ 3 ∷ 4 ∷ 5 ∷ []) (tagOf the-type b) → OneOf (0 ∷ 2 ∷ 3 ∷ 4 ∷ 5 ∷ []) (tagOf the-type b) → heard (pushRefused b) ws ≡ afterPushIn ws w b now number size
   others (pushes.Got lrsn recovered) p q = absurd (miss (1 ∷ 2 ∷ 3 ∷ 4 ∷ 5 ∷ []) 0 tt p)
   others (pushes.Loss first last) p q = absurd (miss (0 ∷ 2 ∷ 3 ∷ 4 ∷ 5 ∷ []) 1 tt q)
   others pushes.BufferFull p q = refl
@@ -127,7 +128,7 @@ module _ (ws : List ℕ) (w : Window) (a : PushAnswer) (now : ℤ) (number size 
   others pushes.PacketTooLate p q = refl
   others pushes.DiscardedDuplicate p q = refl
 
-  pub after-refused : {b : DataAnswer} → OneOf (1 ∷ 2 ∷ 3 ∷ 4 ∷ 5 ∷ []) (tagOf the-type a) → OneOf (0 ∷ 2 ∷ 3 ∷ 4 ∷ 5 ∷ []) (tagOf the-type a) → b ≡ refusedBy a
+  pub after-refused : {b : DataAnswer} → OneOf (1 ∷ 2 ∷ 3 ∷ 4 ∷ 5 ∷ []) (tagOf the-type a) → OneOf (0 ∷ 2 ∷ 3 ∷ 4 ∷ 5 ∷ []) (tagOf the-type a) → b ≡ pushRefused a
       → heard b ws ≡ afterPushIn ws w a now number size
   after-refused p q e = rw e (others a p q)
 
@@ -304,14 +305,14 @@ module _ (ws slots bs : List ℕ) (now : ℤ) (p : Packet) (payload : List ℕ) 
       record { says = f; ready = ready-in (rw (says-head ws f) at r) }
 
   pub call-taken : {n : ℕ} {x : DataLeft} {t t₁ : ℤ} → n ≡ refusal t₁ → t₁ ≡ now → n ≡ 0 → x ≡ dataTaken ws slots bs t p payload → t ≡ now → x ≡ dataIn ws slots bs now p payload
-  unfolding dataOf
+  unfolding dataCallOf
   call-taken {n} a b z x q =
       let e : n ≡ refusal now = a ∙ rw b in
       let f = says (sym e ∙ z) in
       x ∙ rw (q, sym same-refusal ∙ sym e ∙ z, says-head ws f)
 
   pub call-refused : {n : ℕ} {t : ℤ} → n ≡ refusal t → t ≡ now → (n ≡ 0 → ⊥) → dataLeft (answers.Refused n) ws slots bs ≡ dataIn ws slots bs now p payload
-  unfolding dataOf
+  unfolding dataCallOf
   call-refused {n} a b z =
       let e : n ≡ refusal now = a ∙ rw b in
       rw (← same-refusal, ← e, ne-eqb n 0 z, ne-eqb n 0 z)

@@ -24,7 +24,7 @@ use Rattle.head.specs.Rules.{firstRefusal, judged, popRules}
 use Rattle.head.specs.Head.{headOk, freshHead}
 use Rattle.head.specs.declared.state.Head.{Head}
 use Rattle.head.proofs.Ready.{pop-ready}
-use Rattle.receiver.specs.Message.{poppedOf, answerOf, headAfter, popped, takenOf, messageOf, givenEnded}
+use Rattle.receiver.specs.Message.{poppedOf, answerOf, headAfter, popped, takenOf, popCallOf, messageEnded}
 use Rattle.receiver.specs.Paper.{messageLine}
 use Rattle.receiver.specs.declared.message.MessageAnswer.{MessageAnswer}
 use Rattle.receiver.specs.declared.message.MessageAnswer.the-variants as answers
@@ -142,14 +142,14 @@ module _ (ws slots bs out : List ℕ) (now : ℤ) where
   take-ready p q = rw q (p .ready)
 
   pub call-taken : {n : ℕ} {x : PopIn} {t t₁ : ℤ} → n ≡ popRefusal ws (length slots) (length bs) t₁ → t₁ ≡ now → n ≡ 0 → x ≡ messageTaken ws slots bs out t → t ≡ now → x ≡ messageIn ws slots bs out now
-  unfolding messageOf
+  unfolding popCallOf
   call-taken {n} a b z x q =
       let e : n ≡ popRefusal ws (length slots) (length bs) now = a ∙ rw b in
       let f = says (sym e ∙ z) in
       x ∙ rw (q, sym same-refusal ∙ sym e ∙ z, says-head ws f)
 
   pub call-refused : {n : ℕ} {t : ℤ} → n ≡ popRefusal ws (length slots) (length bs) t → t ≡ now → (n ≡ 0 → ⊥) → popIn (answers.Refused n) ws out ≡ messageIn ws slots bs out now
-  unfolding messageOf
+  unfolding popCallOf
   call-refused {n} a b z =
       let e : n ≡ popRefusal ws (length slots) (length bs) now = a ∙ rw b in
       rw (← same-refusal, ← e, ne-eqb n 0 z, ne-eqb n 0 z)

@@ -54,8 +54,8 @@ use Rattle.clock.specs.Base as bases
 use Rattle.clock.specs.Samples as samples
 use Rattle.clock.specs.Sync as syncs
 use Rattle.acks.specs.History as histories
-use Rattle.receiver.specs.Data.{DataOutcome, placedOf, ratedOf, gotOf, ackedOf, afterPush, takenOf as dataTakenOf, dataOf}
-use Rattle.receiver.specs.Message.{GivenOutcome, headAfter, takenOf, messageOf}
+use Rattle.receiver.specs.Data.{DataOutcome, placedOf, ratedOf, gotOf, ackedOf, afterPush, takenOf as dataTakenOf, dataCallOf}
+use Rattle.receiver.specs.Message.{MessageOutcome, headAfter, takenOf, popCallOf}
 use Rattle.kept.proofs.DataKept.{data-kept}
 use Rattle.kept.proofs.Parts.{from-parts}
 use Rattle.kept.proofs.TimedKept.{message-kept}
@@ -211,30 +211,30 @@ module _ (h : Head) (slots bs out : List ℕ) (now : ℤ) where
   abbrev pop-refusal : ℕ
   pop-refusal = firstRefusal (popRules (headOk h) (h .window .capacity) (length slots) (length bs) now (h .latest))
 
-  rest-message : Rest h → Rest (messageOf h slots bs out now .given .head)
-  unfolding messageOf takenOf
+  rest-message : Rest h → Rest (popCallOf h slots bs out now .given .head)
+  unfolding popCallOf takenOf
   rest-message r =
       let o = popOf (h .clock) (h .latency) (h .dropping) (h .window) slots now bs out in
       let s = pop-same (h .clock) (h .latency) (h .dropping) (h .window) slots now bs out in
-      by-test (λ (x : GivenOutcome). Rest (x .given .head)) (eqb pop-refusal 0) _ _
+      by-test (λ (x : MessageOutcome). Rest (x .given .head)) (eqb pop-refusal 0) _ _
       (λ z. rest-after-pop h (o .popped .window) (o .popped .clock) now (s .0) (s .1) r (o .popped .answer))
       (λ z. r)
 
-  message-open : messageOf h slots bs out now .line .refusal ≡ 0 → pop-refusal ≡ 0
-  unfolding messageOf
-  message-open = by-test (λ (x : GivenOutcome). x .line .refusal ≡ 0 → pop-refusal ≡ 0) (eqb pop-refusal 0) _ _ (λ z e. eqb-true pop-refusal 0 z) (λ z e. e)
+  message-open : popCallOf h slots bs out now .line .refusal ≡ 0 → pop-refusal ≡ 0
+  unfolding popCallOf
+  message-open = by-test (λ (x : MessageOutcome). x .line .refusal ≡ 0 → pop-refusal ≡ 0) (eqb pop-refusal 0) _ _ (λ z e. eqb-true pop-refusal 0 z) (λ z e. e)
 
-  message-ranged : messageOf h slots bs out now .line .refusal ≡ 0 → headOk h ≡ true
+  message-ranged : popCallOf h slots bs out now .line .refusal ≡ 0 → headOk h ≡ true
   message-ranged e =
       not-false (headOk h)
       (clear (popRules (headOk h) (h .window .capacity) (length slots) (length bs) now (h .latest)) (lit< tt, (lit< tt, (lit< tt, (lit< tt, (lit< tt, tt))))) (message-open e) .0)
 
 pub message-says : (ws slots bs out : List ℕ) (now : ℤ)
-    → let o = messageOf (unpackOf ws) slots bs out now in o .line .refusal ≡ 0 → unpackOf (packOf (o .given .head)) ≡ o .given .head
+    → let o = popCallOf (unpackOf ws) slots bs out now in o .line .refusal ≡ 0 → unpackOf (packOf (o .given .head)) ≡ o .given .head
 message-says ws slots bs out now e =
     let h = unpackOf ws in
-    unpack-pack (messageOf h slots bs out now .given .head)
-    (holds-from (messageOf h slots bs out now .given .head) (message-kept h slots bs out now (message-ranged h slots bs out now e)) (rest-message h slots bs out now (rest-said ws)))
+    unpack-pack (popCallOf h slots bs out now .given .head)
+    (holds-from (popCallOf h slots bs out now .given .head) (message-kept h slots bs out now (message-ranged h slots bs out now e)) (rest-message h slots bs out now (rest-said ws)))
 
 -- a data packet: one interval and size enter a window
 rest-rated : (h : Head) (now : ℤ) (number size : ℕ) → size < 2 ^ 32 → Rest h → Rest (ratedOf h now number size)
@@ -287,8 +287,8 @@ module _ (h : Head) (slots bs : List ℕ) (now : ℤ) (p : Packet) (payload : Li
   abbrev push-refusal : ℕ
   push-refusal = firstRefusal (pushRules (headOk h) (h .window .capacity) (length slots) (length bs) now (h .latest) p (length payload))
 
-  rest-data : Rest h → Rest (dataOf h slots bs now p payload .handled .head)
-  unfolding dataOf dataTakenOf
+  rest-data : Rest h → Rest (dataCallOf h slots bs now p payload .handled .head)
+  unfolding dataCallOf dataTakenOf
   rest-data r =
       let o = pushOf (h .window) slots bs (natAbs now) p payload in
       by-test (λ (x : DataOutcome). Rest (x .handled .head)) (eqb push-refusal 0) _ _
@@ -297,16 +297,16 @@ module _ (h : Head) (slots bs : List ℕ) (now : ℤ) (p : Packet) (payload : Li
       rest-after-push h (o .pushed .window) now (p .number) (length payload) (let b = d .right .bytes in omega arith) r (o .pushed .answer))
       (λ z. r)
 
-  data-open : dataOf h slots bs now p payload .line .refusal ≡ 0 → push-refusal ≡ 0
-  unfolding dataOf
+  data-open : dataCallOf h slots bs now p payload .line .refusal ≡ 0 → push-refusal ≡ 0
+  unfolding dataCallOf
   data-open = by-test (λ (x : DataOutcome). x .line .refusal ≡ 0 → push-refusal ≡ 0) (eqb push-refusal 0) _ _ (λ z e. eqb-true push-refusal 0 z) (λ z e. e)
 
-  data-ranged : dataOf h slots bs now p payload .line .refusal ≡ 0 → headOk h ≡ true
+  data-ranged : dataCallOf h slots bs now p payload .line .refusal ≡ 0 → headOk h ≡ true
   data-ranged e = from-parts h (push-ready h slots bs now p payload (data-open e) .head)
 
 pub data-says : (ws slots bs : List ℕ) (now : ℤ) (p : Packet) (payload : List ℕ)
-    → let o = dataOf (unpackOf ws) slots bs now p payload in o .line .refusal ≡ 0 → unpackOf (packOf (o .handled .head)) ≡ o .handled .head
+    → let o = dataCallOf (unpackOf ws) slots bs now p payload in o .line .refusal ≡ 0 → unpackOf (packOf (o .handled .head)) ≡ o .handled .head
 data-says ws slots bs now p payload e =
     let h = unpackOf ws in
-    unpack-pack (dataOf h slots bs now p payload .handled .head)
-    (holds-from (dataOf h slots bs now p payload .handled .head) (data-kept h slots bs now p payload (data-ranged h slots bs now p payload e)) (rest-data h slots bs now p payload (rest-said ws)))
+    unpack-pack (dataCallOf h slots bs now p payload .handled .head)
+    (holds-from (dataCallOf h slots bs now p payload .handled .head) (data-kept h slots bs now p payload (data-ranged h slots bs now p payload e)) (rest-data h slots bs now p payload (rest-said ws)))

@@ -6,9 +6,9 @@ use Prim.Native.Nat.{ℕ}
 use lib.Dec.{eqb}
 use lib.IntN.{ℤ}
 use Rattle.window.specs.declared.push.Packet.{Packet}
-use Rattle.receiver.specs.Data.{DataOutcome, dataOf}
+use Rattle.receiver.specs.Data.{DataOutcome, dataCallOf}
 use Rattle.receiver.specs.declared.data.DataAnswer.{DataAnswer}
-use Rattle.receiver.specs.Message.{GivenOutcome, messageOf}
+use Rattle.receiver.specs.Message.{MessageOutcome, popCallOf}
 use Rattle.receiver.specs.Paper.{Line, dataLine, messageLine}
 use Rattle.receiver.specs.declared.message.MessageAnswer.{MessageAnswer}
 use Rattle.packing.specs.Packed.{packOf, unpackOf}
@@ -27,11 +27,11 @@ pub record PopIn : Type 0 where
 abbrev pub popIn : MessageAnswer → List ℕ → List ℕ → PopIn
 popIn a ws out = record { answer = a; line = messageLine a; words = ws; output = out }
 
-abbrev pub messageLeft : List ℕ → GivenOutcome → PopIn
+abbrev pub messageLeft : List ℕ → MessageOutcome → PopIn
 messageLeft ws o = record { answer = o .given .answer; line = o .line; words = keptOr (o .line .refusal) (packOf (o .given .head)) ws; output = o .output }
 
 abbrev pub messageIn : List ℕ → List ℕ → List ℕ → List ℕ → ℤ → PopIn
-messageIn ws slots bs out now = messageLeft ws (messageOf (unpackOf ws) slots bs out now)
+messageIn ws slots bs out now = messageLeft ws (popCallOf (unpackOf ws) slots bs out now)
 
 -- all that a data packet leaves: the answer, its line, the head's words, the slot area and the payload area
 pub record DataLeft : Type 0 where
@@ -49,4 +49,4 @@ dataAfter ws o =
     record { answer = o .handled .answer; line = o .line; words = keptOr (o .line .refusal) (packOf (o .handled .head)) ws; slots = o .slots; payloads = o .payloads }
 
 abbrev pub dataIn : List ℕ → List ℕ → List ℕ → ℤ → Packet → List ℕ → DataLeft
-dataIn ws slots bs now p payload = dataAfter ws (dataOf (unpackOf ws) slots bs now p payload)
+dataIn ws slots bs now p payload = dataAfter ws (dataCallOf (unpackOf ws) slots bs now p payload)

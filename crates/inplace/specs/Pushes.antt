@@ -13,14 +13,14 @@ use Rattle.acks.specs.Rates.{sinceTime, nextPlace, oneMore}
 use Rattle.acks.specs.History.{lightAckOf}
 use Rattle.acks.specs.declared.history.History.{History}
 use Rattle.window.specs.Window.{Good, Bytes}
-use Rattle.window.specs.Push.{Right, pushOf}
+use Rattle.window.specs.Push.{PacketRight, pushOf}
 use Rattle.window.specs.declared.Window.{Window}
 use Rattle.window.specs.declared.push.Packet.{Packet}
 use Rattle.window.specs.declared.push.PushAnswer.{PushAnswer}
 use Rattle.window.specs.declared.push.PushAnswer.the-variants as pushes
 use Rattle.head.specs.Rules.{firstRefusal, pushRules}
 use Rattle.head.specs.Head.{headOk}
-use Rattle.receiver.specs.Data.{refusedBy, gotAnswer, takenOf}
+use Rattle.receiver.specs.Data.{pushRefused, gotAnswer, takenOf}
 use Rattle.receiver.specs.declared.data.DataAnswer.{DataAnswer}
 use Rattle.receiver.specs.declared.data.DataAnswer.the-variants as answers
 use Rattle.packing.specs.Words.{wordOf, wholeOf, momentOf}
@@ -97,7 +97,7 @@ pub record TakeReady (ws : List ℕ) (w : Window) (slots bs : List ℕ) (now : �
   pub reading : isReading now ≡ true
   pub good : Good w slots
   pub payloads : Bytes w bs
-  pub right : Right p payload
+  pub right : PacketRight p payload
 
 -- the words say a head as well
 pub record Pushing (ws slots bs : List ℕ) (now : ℤ) (p : Packet) (payload : List ℕ) : Type 0 where

@@ -29,10 +29,11 @@ use Rattle.head.specs.Parts.{withLatest}
 use Rattle.head.specs.declared.state.Head.{Head}
 use Rattle.head.specs.declared.state.Made.{Made}
 use Rattle.head.proofs.Gates.{clear}
-use Rattle.head.proofs.Ready.{InRange, in-parts, in-window, timed-ready, PushReady, push-ready}
-use Rattle.receiver.specs.Data.{DataOutcome, placedOf, ackedOf, ratedOf, gotOf, afterPush, takenOf, dataOf}
-use Rattle.receiver.specs.Loss.{LossOutcome, headAfter, reportedOf, lossOf}
-use Rattle.receiver.specs.Request.{ClearOutcome, clearedOf, clearOf}
+use Rattle.head.specs.Ready.{InRange, PushReady}
+use Rattle.head.proofs.Ready.{in-parts, in-window, timed-ready, push-ready}
+use Rattle.receiver.specs.Data.{DataOutcome, placedOf, ackedOf, ratedOf, gotOf, afterPush, takenOf, dataCallOf}
+use Rattle.receiver.specs.Loss.{LossOutcome, headAfter, reportedOf, reportCallOf}
+use Rattle.receiver.specs.Request.{ClearOutcome, clearedOf, clearCallOf}
 use Rattle.kept.proofs.Parts.{from-parts, from-window, from-good}
 use Rattle.kept.proofs.Says.{Says, push-says}
 
@@ -67,8 +68,8 @@ made-kept start latency dropping first capacity =
     (fresh-in (pos 0) 0 false 0 1 refl (omega arith) (omega arith) (omega arith) (omega arith))
 
 -- clear
-pub cleared-kept : (h : Head) → headOk h ≡ true → headOk (clearOf h .cleared .head) ≡ true
-unfolding clearOf clearedOf
+pub cleared-kept : (h : Head) → headOk h ≡ true → headOk (clearCallOf h .cleared .head) ≡ true
+unfolding clearCallOf clearedOf
 cleared-kept h e =
     by-refusal (λ (o : ClearOutcome). headOk (o .cleared .head) ≡ true) (firstRefusal (headRules (headOk h))) _ _
     (λ z.
@@ -93,8 +94,8 @@ latest-kept h now r n =
     from-parts (withLatest h now)
     (record { window = r .window; latency = r .latency; clock = r .clock; rtt = r .rtt; arrivals = r .arrivals; links = r .links; history = r .history; latest = n })
 
-pub loss-kept : (h : Head) (ws list : List ℕ) (now : ℤ) → headOk h ≡ true → headOk (lossOf h ws list now .reported .head) ≡ true
-unfolding lossOf reportedOf
+pub loss-kept : (h : Head) (ws list : List ℕ) (now : ℤ) → headOk h ≡ true → headOk (reportCallOf h ws list now .reported .head) ≡ true
+unfolding reportCallOf reportedOf
 loss-kept h ws list now e =
     by-refusal (λ (o : LossOutcome). headOk (o .reported .head) ≡ true) (firstRefusal (timedRules (headOk h) (length ws) (3 * h .window .capacity) now (h .latest))) _ _
     (λ z. go (timed-ready h now (length ws) (3 * h .window .capacity) z .0 .reading) (reportOf (h .window) ws (natAbs now) (h .rtt .mean) list .answer))
@@ -166,8 +167,8 @@ module _ (h : Head) (ws bs : List ℕ) (now : ℤ) (p : Packet) (payload : List 
       after-in h (d .head) now (d .reading) (p .number) (length payload) (d .right .bytes) (o .pushed .window) (from-good (o .pushed .window) (o .slots) g) (o .pushed .answer)
       (push-says (h .window) ws bs (natAbs now) p payload)
 
-  pub data-kept : headOk h ≡ true → headOk (dataOf h ws bs now p payload .handled .head) ≡ true
-  unfolding dataOf
+  pub data-kept : headOk h ≡ true → headOk (dataCallOf h ws bs now p payload .handled .head) ≡ true
+  unfolding dataCallOf
   data-kept e =
       by-refusal (λ (o : DataOutcome). headOk (o .handled .head) ≡ true)
       (firstRefusal (pushRules (headOk h) (h .window .capacity) (length ws) (length bs) now (h .latest) p (length payload))) _ _

@@ -8,7 +8,7 @@ use Rattle.window.specs.Window.{Good}
 use Rattle.window.specs.declared.Window.{Window}
 use Rattle.head.specs.Head.{windowOk, headOk}
 use Rattle.head.specs.declared.state.Head.{Head}
-use Rattle.head.proofs.Ready.{InRange, InWindow}
+use Rattle.head.specs.Ready.{InRange, InWindow}
 
 pub from-parts : (h : Head) → InRange h → headOk h ≡ true
 unfolding headOk

@@ -36,10 +36,11 @@ use Rattle.head.specs.Head.{windowOk, headOk}
 use Rattle.head.specs.Parts.{withRtt, withHistory, withLatest}
 use Rattle.head.specs.declared.state.Head.{Head}
 use Rattle.head.proofs.Gates.{clear}
-use Rattle.head.proofs.Ready.{InRange, in-parts, in-window, timed-ready, clock-ready, pop-ready}
-use Rattle.receiver.specs.Acking.{afterAck, FullAckOutcome, roomyAck, dueAck, fullAckEventOf, afterAck2, heldAck2, Ack2Outcome, ack2PacketOf}
-use Rattle.receiver.specs.Message.{GivenOutcome, poppedOf, headAfter, takenOf, messageOf}
-use Rattle.receiver.specs.Sync.{afterSync, syncOf, ClockOutcome, clockOf}
+use Rattle.head.specs.Ready.{InRange}
+use Rattle.head.proofs.Ready.{in-parts, in-window, timed-ready, clock-ready, pop-ready}
+use Rattle.receiver.specs.Acking.{afterAck, FullAckOutcome, roomyAck, dueAck, fullAckCallOf, afterAck2, heldAck2, Ack2Outcome, ack2CallOf}
+use Rattle.receiver.specs.Message.{MessageOutcome, poppedOf, headAfter, takenOf, popCallOf}
+use Rattle.receiver.specs.Sync.{afterSync, syncOf, ClockOutcome, clockCallOf}
 use Rattle.kept.proofs.Parts.{from-parts, from-good}
 
 -- the head with other parts in range, and a reading as its latest
@@ -97,8 +98,8 @@ module _ (h : Head) (now : ℤ) (i : InRange h) (r : isReading now ≡ true) whe
   after-pop w k (pops.Late s l d) o e f = pop-set w k e f
   after-pop w k pops.OutShort o e f = o
 
-pub ack2-kept : (h : Head) (a : List ℕ) (now : ℤ) (number : ℕ) → headOk h ≡ true → headOk (ack2PacketOf h a now number .acked2 .head) ≡ true
-unfolding ack2PacketOf heldAck2
+pub ack2-kept : (h : Head) (a : List ℕ) (now : ℤ) (number : ℕ) → headOk h ≡ true → headOk (ack2CallOf h a now number .acked2 .head) ≡ true
+unfolding ack2CallOf heldAck2
 ack2-kept h a now number o =
     let n = firstRefusal (timedRules (headOk h) (length a) 2048 now (h .latest)) in
     by-test (λ (x : Ack2Outcome). headOk (x .acked2 .head) ≡ true) (eqb n 0) _ _
@@ -109,8 +110,8 @@ ack2-kept h a now number o =
     (λ m e. histories.ack2-small (h .history) a (natAbs now) number e))
     (λ z. o)
 
-pub full-ack-kept : (h : Head) (a : List ℕ) (now : ℤ) → headOk h ≡ true → headOk (fullAckEventOf h a now .acked .head) ≡ true
-unfolding fullAckEventOf dueAck roomyAck
+pub full-ack-kept : (h : Head) (a : List ℕ) (now : ℤ) → headOk h ≡ true → headOk (fullAckCallOf h a now .acked .head) ≡ true
+unfolding fullAckCallOf dueAck roomyAck
 full-ack-kept h a now o =
     let n = firstRefusal (timedRules (headOk h) (length a) 2048 now (h .latest)) in
     by-test (λ (x : FullAckOutcome). headOk (x .acked .head) ≡ true) (eqb n 0) _ _
@@ -125,8 +126,8 @@ full-ack-kept h a now o =
     (histories.full-ack-kept (h .history) (t .head .history) a (natAbs now) (h .rtt .mean) (h .latency) (h .window .lrsn) (w .next))))
     (λ z. o)
 
-pub clock-kept : (h : Head) (now : ℤ) (stamp : ℕ) → headOk h ≡ true → headOk (clockOf h now stamp .clocked .head) ≡ true
-unfolding clockOf syncOf
+pub clock-kept : (h : Head) (now : ℤ) (stamp : ℕ) → headOk h ≡ true → headOk (clockCallOf h now stamp .clocked .head) ≡ true
+unfolding clockCallOf syncOf
 clock-kept h now stamp o =
     let n = firstRefusal (clockRules (headOk h) now (h .latest)) in
     by-test (λ (x : ClockOutcome). headOk (x .clocked .head) ≡ true) (eqb n 0) _ _
@@ -136,11 +137,11 @@ clock-kept h now stamp o =
     after-sync h now (t .head) (t .reading) (s .clock) (s .answer) o (synchronized-kept (h .clock) now stamp (t .head .clock)))
     (λ z. o)
 
-pub message-kept : (h : Head) (ws bs out : List ℕ) (now : ℤ) → headOk h ≡ true → headOk (messageOf h ws bs out now .given .head) ≡ true
-unfolding messageOf takenOf
+pub message-kept : (h : Head) (ws bs out : List ℕ) (now : ℤ) → headOk h ≡ true → headOk (popCallOf h ws bs out now .given .head) ≡ true
+unfolding popCallOf takenOf
 message-kept h ws bs out now o =
     let n = firstRefusal (popRules (headOk h) (h .window .capacity) (length ws) (length bs) now (h .latest)) in
-    by-test (λ (x : GivenOutcome). headOk (x .given .head) ≡ true) (eqb n 0) _ _
+    by-test (λ (x : MessageOutcome). headOk (x .given .head) ≡ true) (eqb n 0) _ _
     (λ z.
     let c = clear (popRules (headOk h) (h .window .capacity) (length ws) (length bs) now (h .latest)) (lit< tt, (lit< tt, (lit< tt, (lit< tt, (lit< tt, tt))))) (eqb-true n 0 z) in
     let i = in-parts h o in

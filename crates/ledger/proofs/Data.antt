@@ -17,7 +17,7 @@ use Rattle.window.specs.Push.{grown}
 use Rattle.window.specs.declared.Window.{Window}
 use Rattle.window.specs.declared.push.Packet.{Packet}
 use Rattle.head.specs.declared.state.Head.{Head}
-use Rattle.receiver.specs.Data.{gotAnswer, dataOf}
+use Rattle.receiver.specs.Data.{gotAnswer, dataCallOf}
 use Rattle.receiver.specs.declared.data.DataAnswer.{DataAnswer}
 use Rattle.views.specs.View as views
 use Rattle.views.specs.View.{Seen, entries, LrsnRight, packetSeen}
@@ -143,7 +143,7 @@ module _ (S : ℕ → List ℕ → Type 0) (l : Ledger) (h : Head) (ws bs : List
   abbrev pub Kept : Window → List Seen → DataAnswer → Type 0
   Kept v fs answer = Moved S l (enterData l (p .number) payload answer) v fs (dataPlaces answer) []
 
-  pub data-stands : Said h ws bs now p payload hs (a .right) Kept (dataOf h ws bs now p payload)
+  pub data-stands : Said h ws bs now p payload hs (a .right) Kept (dataCallOf h ws bs now p payload)
   data-stands =
       data-moves h ws bs now p payload hs (a .right) Kept
       (λ n q x y. same)

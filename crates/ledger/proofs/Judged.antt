@@ -25,7 +25,7 @@ use Rattle.window.specs.declared.push.Packet.{Packet}
 use Rattle.head.specs.Rules.{firstRefusal, pushRules}
 use Rattle.head.specs.Head.{headOk}
 use Rattle.head.specs.declared.state.Head.{Head}
-use Rattle.receiver.specs.Data.{gotAnswer, dataOf}
+use Rattle.receiver.specs.Data.{gotAnswer, dataCallOf}
 use Rattle.receiver.specs.Paper.{dataLine}
 use Rattle.receiver.specs.declared.data.DataAnswer.{DataAnswer}
 use Rattle.receiver.specs.declared.data.DataAnswer.the-variants as datas
@@ -271,7 +271,7 @@ module _ (S : ℕ → List ℕ → Type 0) (l : Ledger) (h : Head) (ws bs : List
         gap = λ t. m;
       }
 
-  pub data-judged : Said h ws bs time p payload hs (a .right) (λ v fs x. Judged x) (dataOf h ws bs time p payload)
+  pub data-judged : Said h ws bs time p payload hs (a .right) (λ v fs x. Judged x) (dataCallOf h ws bs time p payload)
   data-judged =
       data-moves h ws bs time p payload hs (a .right) (λ v fs x. Judged x)
       refused

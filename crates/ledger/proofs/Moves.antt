@@ -22,7 +22,7 @@ use Rattle.slots.specs.Words.{writeAt}
 use Rattle.slots.specs.Ring.{withPayload}
 use Rattle.window.specs.Window.{Good, Bytes, slotIn, entryIn, nextOf, numberIn, withLrsn, roomOf}
 use Rattle.window.specs.Push as push
-use Rattle.window.specs.Push.{PushOutcome, pushEnded, Right, grown, movedPast, withLost, recoveredLrsn, appendNextOf, appendWithLossOf, recoveredOf, recoverOf, pushOf}
+use Rattle.window.specs.Push.{PushOutcome, pushEnded, PacketRight, grown, movedPast, withLost, recoveredLrsn, appendNextOf, appendWithLossOf, recoveredOf, recoverOf, pushOf}
 use Rattle.window.specs.declared.Window.{Window}
 use Rattle.window.specs.declared.push.Packet.{Packet}
 use Rattle.window.specs.declared.push.PushAnswer.{PushAnswer}
@@ -31,7 +31,7 @@ use Rattle.head.specs.Rules.{Rule, thenOf, firstFrom, firstRefusal, pushRules}
 use Rattle.head.specs.Head.{headOk}
 use Rattle.head.specs.declared.state.Head.{Head}
 use Rattle.head.proofs.Ready.{push-ready}
-use Rattle.receiver.specs.Data.{DataOutcome, dataEnded, refusedBy, gotAnswer, ackedOf, gotOf, takenOf, dataOf}
+use Rattle.receiver.specs.Data.{DataOutcome, dataEnded, pushRefused, gotAnswer, ackedOf, gotOf, takenOf, dataCallOf}
 use Rattle.receiver.specs.Data as receiving
 use Rattle.receiver.specs.declared.data.DataAnswer.{DataAnswer}
 use Rattle.receiver.specs.declared.data.DataAnswer.the-variants as datas
@@ -59,7 +59,7 @@ refusal-under m k (r ∷ rs) a u = refusal-under m (thenOf k (r .bad) (r .number
 pub record Admitted (h : Head) (ws bs : List ℕ) (time : ℤ) (p : Packet) (payload : List ℕ) : Type 0 where
   pub tests : firstRefusal (pushRules (headOk h) (h .window .capacity) (length ws) (length bs) time (h .latest) p (length payload)) ≡ 0
   pub good : Good (h .window) ws
-  pub right : Right p payload
+  pub right : PacketRight p payload
 
 -- by the refusal of a call: what it does if nothing refuses, else the refusal
 pub by-refusal : {A : Type 0} (P : A → Type 0) (n : ℕ) (a b : A) → (n ≡ 0 → P a) → ((n ≡ 0 → ⊥) → P b) → P (cond (eqb n 0) a b)
@@ -151,8 +151,8 @@ module _ (h : Head) (ws bs : List ℕ) (now : ℤ) (p : Packet) (payload : List 
       → P (grown w p (missing + 1)) (es ++ replicate missing (lost 2 (natAbs now)) ++ (packetSeen p payload ∷ [])) (datas.Loss (nextOf w) (sum 31 (p .number) (2 ^ 31 - 1))))
       → (Admitted h ws bs now p payload → (light : Bool) (lrsn : ℕ) → at < w .held → words.isLost (entryIn w ws at) ≡ true → LrsnRight (withLrsn w lrsn) (set es at (packetSeen p payload))
       → P (withLrsn w lrsn) (set es at (packetSeen p payload)) (gotAnswer light lrsn true))
-      → Said P (dataOf h ws bs now p payload)
-  unfolding dataOf takenOf gotOf ackedOf recoveredOf
+      → Said P (dataCallOf h ws bs now p payload)
+  unfolding dataCallOf takenOf gotOf ackedOf recoveredOf
   data-moves P refused full early late duplicate next loss recovered =
       by-refusal (Said P) (firstRefusal (pushRules (headOk h) (w .capacity) (length ws) (length bs) now (h .latest) p (length payload))) _ _
       (λ z.

@@ -31,10 +31,10 @@ use Rattle.head.specs.Rules.{firstRefusal, timedRules, dropRules, clockRules}
 use Rattle.head.specs.Head.{headOk}
 use Rattle.head.specs.declared.state.Head.{Head}
 use Rattle.head.proofs.Ready.{good, timed-ready, drop-ready}
-use Rattle.receiver.specs.Acking.{FullAckOutcome, Ack2Outcome, afterAck, afterAck2, roomyAck, dueAck, fullAckEventOf, heldAck2, ack2PacketOf}
-use Rattle.receiver.specs.Loss.{LossOutcome, headAfter, ending, reportedOf, lossOf}
+use Rattle.receiver.specs.Acking.{FullAckOutcome, Ack2Outcome, afterAck, afterAck2, roomyAck, dueAck, fullAckCallOf, heldAck2, ack2CallOf}
+use Rattle.receiver.specs.Loss.{LossOutcome, headAfter, ending, reportedOf, reportCallOf}
 use Rattle.receiver.specs.Request.{DropOutcome, goneOf, dropCallOf}
-use Rattle.receiver.specs.Sync.{ClockOutcome, afterSync, syncOf, clockOf}
+use Rattle.receiver.specs.Sync.{ClockOutcome, afterSync, syncOf, clockCallOf}
 use Rattle.views.specs.View as views
 use Rattle.views.specs.View.{Seen, entries, LrsnRight}
 use Rattle.views.proofs.Lists.{entries-length}
@@ -72,8 +72,8 @@ module _ (S : ℕ → List ℕ → Type 0) (l : Ledger) (h : Head) (ws bs : List
   report-window now (reports.Report words) = refl
   report-window now reports.ListShort = refl
 
-  pub report-stands : (list : List ℕ) (now : ℤ) → Reported (lossOf h ws list now)
-  unfolding lossOf reportedOf
+  pub report-stands : (list : List ℕ) (now : ℤ) → Reported (reportCallOf h ws list now)
+  unfolding reportCallOf reportedOf
   report-stands list now =
       by-refusal Reported (firstRefusal (timedRules (headOk h) (length ws) (3 * w .capacity) now (h .latest))) _ _
       (λ z.
@@ -150,8 +150,8 @@ module _ (S : ℕ → List ℕ → Type 0) (l : Ledger) (h : Head) (ws bs : List
   alike : (v : Window) → v ≡ w → Alike v
   alike v e = subst Alike (sym e) same
 
-  pub full-ack-stands : (b : List ℕ) (now : ℤ) → Alike (fullAckEventOf h b now .acked .head .window)
-  unfolding fullAckEventOf dueAck roomyAck
+  pub full-ack-stands : (b : List ℕ) (now : ℤ) → Alike (fullAckCallOf h b now .acked .head .window)
+  unfolding fullAckCallOf dueAck roomyAck
   full-ack-stands b now =
       by-refusal (λ (o : FullAckOutcome). Alike (o .acked .head .window)) (firstRefusal (timedRules (headOk h) (length b) 2048 now (h .latest))) _ _
       (λ z.
@@ -167,8 +167,8 @@ module _ (S : ℕ → List ℕ → Type 0) (l : Ledger) (h : Head) (ws bs : List
       go y acks.Worn = refl
       go y (acks.Ack n) = refl
 
-  pub ack2-stands : (b : List ℕ) (now : ℤ) (number : ℕ) → Alike (ack2PacketOf h b now number .acked2 .head .window)
-  unfolding ack2PacketOf heldAck2
+  pub ack2-stands : (b : List ℕ) (now : ℤ) (number : ℕ) → Alike (ack2CallOf h b now number .acked2 .head .window)
+  unfolding ack2CallOf heldAck2
   ack2-stands b now number =
       by-refusal (λ (o : Ack2Outcome). Alike (o .acked2 .head .window)) (firstRefusal (timedRules (headOk h) (length b) 2048 now (h .latest))) _ _
       (λ z.
@@ -180,8 +180,8 @@ module _ (S : ℕ → List ℕ → Type 0) (l : Ledger) (h : Head) (ws bs : List
       go y acks2.NotHeld = refl
       go y (acks2.Held r) = refl
 
-  pub clock-stands : (now : ℤ) (stamp : ℕ) → Alike (clockOf h now stamp .clocked .head .window)
-  unfolding clockOf syncOf
+  pub clock-stands : (now : ℤ) (stamp : ℕ) → Alike (clockCallOf h now stamp .clocked .head .window)
+  unfolding clockCallOf syncOf
   clock-stands now stamp =
       by-refusal (λ (o : ClockOutcome). Alike (o .clocked .head .window)) (firstRefusal (clockRules (headOk h) now (h .latest))) _ _
       (λ z.

@@ -19,7 +19,7 @@ use Rattle.head.specs.Rules.{firstRefusal, popRules}
 use Rattle.head.specs.Head.{headOk}
 use Rattle.head.specs.declared.state.Head.{Head}
 use Rattle.head.proofs.Ready.{pop-ready}
-use Rattle.receiver.specs.Message.{GivenOutcome, popped, takenOf, messageOf}
+use Rattle.receiver.specs.Message.{MessageOutcome, popped, takenOf, popCallOf}
 use Rattle.receiver.specs.declared.message.MessageAnswer.{MessageAnswer}
 use Rattle.views.specs.View as views
 use Rattle.views.specs.View.{Seen, entries, LrsnRight, gapIn, joined}
@@ -52,11 +52,11 @@ module _ (S : ℕ → List ℕ → Type 0) (l : Ledger) (h : Head) (ws bs out : 
   o = popOf (h .clock) (h .latency) (h .dropping) w ws now bs out
 
   -- what the call leaves
-  abbrev pub Kept : GivenOutcome → Type 0
+  abbrev pub Kept : MessageOutcome → Type 0
   Kept g =
       Moved S l (enterPop l (g .given .answer)) (g .given .head .window) (entries (g .given .head .window) ws bs) 0 (popBytes (g .given .answer) (g .output))
 
-  abbrev pub Told : GivenOutcome → Type 0
+  abbrev pub Told : MessageOutcome → Type 0
   Told g = Tells l (g .given .answer) (g .output)
 
   abbrev Front : PopOutcome → Type 0
@@ -182,15 +182,15 @@ module _ (S : ℕ → List ℕ → Type 0) (l : Ledger) (h : Head) (ws bs out : 
     tells pops.OutShort e = rw e tt
 
   -- the call
-  pub pop-stands : Kept (messageOf h ws bs out now)
-  unfolding messageOf takenOf
+  pub pop-stands : Kept (popCallOf h ws bs out now)
+  unfolding popCallOf takenOf
   pop-stands =
       by-refusal Kept (firstRefusal (popRules (headOk h) (w .capacity) (length ws) (length bs) now (h .latest))) _ _
       (λ z. by-answer (pop-ready h now ws bs z) (o .popped .answer) refl)
       (λ z. same)
 
-  pub pop-tells : Told (messageOf h ws bs out now)
-  unfolding messageOf takenOf
+  pub pop-tells : Told (popCallOf h ws bs out now)
+  unfolding popCallOf takenOf
   pop-tells =
       by-refusal Told (firstRefusal (popRules (headOk h) (w .capacity) (length ws) (length bs) now (h .latest))) _ _
       (λ z. tells (pop-ready h now ws bs z) (o .popped .answer) refl)

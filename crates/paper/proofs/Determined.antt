@@ -11,13 +11,13 @@ use Rattle.window.specs.declared.push.Packet.{Packet}
 use Rattle.head.specs.Head.{madeOf}
 use Rattle.head.specs.declared.state.Head.{Head}
 use Rattle.head.specs.declared.state.Made.{Made}
-use Rattle.receiver.specs.Acking.{fullAckEnded, fullAckEventOf, ack2Ended, ack2PacketOf}
-use Rattle.receiver.specs.Data.{dataEnded, dataOf}
-use Rattle.receiver.specs.Loss.{lossEnded, lossOf}
-use Rattle.receiver.specs.Message.{givenEnded, messageOf}
-use Rattle.receiver.specs.Request.{dropEnded, dropCallOf, clearEnded, clearOf, roomEnded, roomCallOf}
+use Rattle.receiver.specs.Acking.{fullAckEnded, fullAckCallOf, ack2Ended, ack2CallOf}
+use Rattle.receiver.specs.Data.{dataEnded, dataCallOf}
+use Rattle.receiver.specs.Loss.{lossEnded, reportCallOf}
+use Rattle.receiver.specs.Message.{messageEnded, popCallOf}
+use Rattle.receiver.specs.Request.{dropEnded, dropCallOf, clearEnded, clearCallOf, roomEnded, roomCallOf}
 use Rattle.receiver.specs.Show.{placeCallOf, shownEnded, shownCallOf}
-use Rattle.receiver.specs.Sync.{clockEnded, clockOf}
+use Rattle.receiver.specs.Sync.{clockEnded, clockCallOf}
 use Rattle.receiver.specs.declared.acking.FullAcked.{FullAcked}
 use Rattle.receiver.specs.declared.acking.Ack2ed.{Ack2ed}
 use Rattle.receiver.specs.declared.data.Handled.{Handled}
@@ -36,19 +36,19 @@ made-determined start latency dropping first capacity r s p q = p ∙ sym q
 module _ (h : Head) where
   -- the head and the answer, the slot area and the payload area
   pub data-determined : (ws bs : List ℕ) (now : ℤ) (k : Packet) (payload : List ℕ) (r s : Handled) (ws₁ ws₂ bs₁ bs₂ : List ℕ)
-      → dataEnded r ws₁ bs₁ ≡ dataOf h ws bs now k payload → dataEnded s ws₂ bs₂ ≡ dataOf h ws bs now k payload → (r ≡ s) × ((ws₁ ≡ ws₂) × (bs₁ ≡ bs₂))
+      → dataEnded r ws₁ bs₁ ≡ dataCallOf h ws bs now k payload → dataEnded s ws₂ bs₂ ≡ dataCallOf h ws bs now k payload → (r ≡ s) × ((ws₁ ≡ ws₂) × (bs₁ ≡ bs₂))
   data-determined ws bs now k payload r s ws₁ ws₂ bs₁ bs₂ p q =
       let e = p ∙ sym q in
       (ap (λ o. o .handled) e, (ap (λ o. o .slots) e, ap (λ o. o .payloads) e))
 
   -- the head, the answer and the output
   pub message-determined : (ws bs out : List ℕ) (now : ℤ) (r s : Given) (out₁ out₂ : List ℕ)
-      → givenEnded r out₁ ≡ messageOf h ws bs out now → givenEnded s out₂ ≡ messageOf h ws bs out now → (r ≡ s) × (out₁ ≡ out₂)
+      → messageEnded r out₁ ≡ popCallOf h ws bs out now → messageEnded s out₂ ≡ popCallOf h ws bs out now → (r ≡ s) × (out₁ ≡ out₂)
   message-determined ws bs out now r s out₁ out₂ p q = let e = p ∙ sym q in (ap (λ o. o .given) e, ap (λ o. o .output) e)
 
   -- the head, the answer, the slot area and the list of loss words
   pub loss-determined : (ws list : List ℕ) (now : ℤ) (r s : Reported) (ws₁ ws₂ list₁ list₂ : List ℕ)
-      → lossEnded r ws₁ list₁ ≡ lossOf h ws list now → lossEnded s ws₂ list₂ ≡ lossOf h ws list now → (r ≡ s) × ((ws₁ ≡ ws₂) × (list₁ ≡ list₂))
+      → lossEnded r ws₁ list₁ ≡ reportCallOf h ws list now → lossEnded s ws₂ list₂ ≡ reportCallOf h ws list now → (r ≡ s) × ((ws₁ ≡ ws₂) × (list₁ ≡ list₂))
   loss-determined ws list now r s ws₁ ws₂ list₁ list₂ p q =
       let e = p ∙ sym q in
       (ap (λ o. o .reported) e, (ap (λ o. o .slots) e, ap (λ o. o .list) e))
@@ -58,7 +58,7 @@ module _ (h : Head) where
       → dropEnded r ws₁ ≡ dropCallOf h ws first last → dropEnded s ws₂ ≡ dropCallOf h ws first last → (r ≡ s) × (ws₁ ≡ ws₂)
   drop-determined ws first last r s ws₁ ws₂ p q = let e = p ∙ sym q in (ap (λ o. o .answer) e, ap (λ o. o .slots) e)
 
-  pub clear-determined : (r s : Cleared) → clearEnded r ≡ clearOf h → clearEnded s ≡ clearOf h → r ≡ s
+  pub clear-determined : (r s : Cleared) → clearEnded r ≡ clearCallOf h → clearEnded s ≡ clearCallOf h → r ≡ s
   clear-determined r s p q = ap (λ o. o .cleared) (p ∙ sym q)
 
   pub room-determined : (r s : RoomAnswer) → roomEnded r ≡ roomCallOf h → roomEnded s ≡ roomCallOf h → r ≡ s
@@ -73,13 +73,13 @@ module _ (h : Head) where
   pub shown-determined : (ws : List ℕ) (bytes number : ℕ) (r s : ShowAnswer) → shownEnded r ≡ shownCallOf h ws bytes number → shownEnded s ≡ shownCallOf h ws bytes number → r ≡ s
   shown-determined ws bytes number r s p q = ap (λ o. o .answer) (p ∙ sym q)
 
-  pub clock-determined : (now : ℤ) (stamp : ℕ) (r s : Clocked) → clockEnded r ≡ clockOf h now stamp → clockEnded s ≡ clockOf h now stamp → r ≡ s
+  pub clock-determined : (now : ℤ) (stamp : ℕ) (r s : Clocked) → clockEnded r ≡ clockCallOf h now stamp → clockEnded s ≡ clockCallOf h now stamp → r ≡ s
   clock-determined now stamp r s p q = ap (λ o. o .clocked) (p ∙ sym q)
 
   -- the head, the answer and the history area
   pub full-ack-determined : (a : List ℕ) (now : ℤ) (r s : FullAcked) (a₁ a₂ : List ℕ)
-      → fullAckEnded r a₁ ≡ fullAckEventOf h a now → fullAckEnded s a₂ ≡ fullAckEventOf h a now → (r ≡ s) × (a₁ ≡ a₂)
+      → fullAckEnded r a₁ ≡ fullAckCallOf h a now → fullAckEnded s a₂ ≡ fullAckCallOf h a now → (r ≡ s) × (a₁ ≡ a₂)
   full-ack-determined a now r s a₁ a₂ p q = let e = p ∙ sym q in (ap (λ o. o .acked) e, ap (λ o. o .area) e)
 
-  pub ack2-determined : (a : List ℕ) (now : ℤ) (number : ℕ) (r s : Ack2ed) → ack2Ended r ≡ ack2PacketOf h a now number → ack2Ended s ≡ ack2PacketOf h a now number → r ≡ s
+  pub ack2-determined : (a : List ℕ) (now : ℤ) (number : ℕ) (r s : Ack2ed) → ack2Ended r ≡ ack2CallOf h a now number → ack2Ended s ≡ ack2CallOf h a now number → r ≡ s
   ack2-determined a now number r s p q = ap (λ o. o .acked2) (p ∙ sym q)

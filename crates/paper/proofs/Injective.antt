@@ -21,7 +21,7 @@ use Rattle.head.specs.Rules.{firstRefusal, timedRules}
 use Rattle.head.specs.Head.{headOk}
 use Rattle.head.specs.declared.state.Head.{Head}
 use Rattle.head.specs.declared.state.Made.{Made}
-use Rattle.receiver.specs.Loss.{LossOutcome, answerOf, reportedOf, lossOf}
+use Rattle.receiver.specs.Loss.{LossOutcome, answerOf, reportedOf, reportCallOf}
 use Rattle.receiver.specs.declared.data.DataAnswer.{DataAnswer}
 use Rattle.receiver.specs.declared.data.DataAnswer.the-variants as datas
 use Rattle.receiver.specs.declared.message.MessageAnswer.{MessageAnswer}
@@ -167,8 +167,8 @@ words-fit w ws time mean list =
     (λ t. tt)
     (λ t. by-test P (ltb (length list) (needed w ws time mean)) _ _ (λ u. tt) (λ u. ltb-false (length list) (needed w ws time mean) u))
 
-pub loss-fits : (h : Head) (ws list : List ℕ) (now : ℤ) → Fits (lossOf h ws list now .reported .answer) (length (lossOf h ws list now .list))
-unfolding lossOf reportedOf
+pub loss-fits : (h : Head) (ws list : List ℕ) (now : ℤ) → Fits (reportCallOf h ws list now .reported .answer) (length (reportCallOf h ws list now .list))
+unfolding reportCallOf reportedOf
 loss-fits h ws list now =
     let m = h .rtt .mean in
     by-test (λ (x : LossOutcome). Fits (x .reported .answer) (length (x .list))) (eqb (firstRefusal (timedRules (headOk h) (length ws) (3 * h .window .capacity) now (h .latest))) 0) _ _

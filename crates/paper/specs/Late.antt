@@ -13,5 +13,5 @@ abbrev pub madeLine : Made → Line
 madeLine m = record { word = cond (eqb (m .refusal) 0) made refused; refusal = m .refusal; values = []; exact = [] }
 
 -- what a call can still answer once 1 to 6 cannot occur: no refusal, or 7 to 14
-abbrev pub Late : Line → Type 0
-Late l = (l .refusal ≡ 0) ⊎ ((7 ≤ l .refusal) × (l .refusal ≤ 14))
+abbrev pub OnlyLater : Line → Type 0
+OnlyLater l = (l .refusal ≡ 0) ⊎ ((7 ≤ l .refusal) × (l .refusal ≤ 14))

@@ -10,7 +10,7 @@ use lib.Dec.{leb, ltb}
 use lib.IntN.{ℤ, natAbs}
 use lib.ListN.{length}
 use Rattle.numbers.proofs.Flags.{and-left, and-right}
-use Rattle.acks.specs.History.{Right, AckOutcome, ackEnded, noneDue, isWorn, fullAckOf, ack2Of}
+use Rattle.acks.specs.History.{HistoryReady, AckOutcome, ackEnded, noneDue, isWorn, fullAckOf, ack2Of}
 use Rattle.acks.specs.History as history
 use Rattle.acks.specs.Rates.{speedOf, capacityOf}
 use Rattle.acks.specs.Rtt.{updated}
@@ -34,8 +34,9 @@ use Rattle.head.specs.Head.{windowOk, headOk}
 use Rattle.head.specs.Parts.{withRtt, withHistory, withLatest}
 use Rattle.head.specs.declared.state.Head.{Head}
 use Rattle.head.proofs.Gates.{taken, refused}
-use Rattle.head.proofs.Ready.{InRange, timed-ready}
-use Rattle.receiver.specs.Acking.{AckReady, figuresOf, afterAck, fullAckEnded, ofHistory, roomyAck, dueAck, fullAckEventOf, FullAckOutcome, afterAck2, heldAck2, Ack2Outcome, ack2Ended, ack2PacketOf}
+use Rattle.head.specs.Ready.{InRange}
+use Rattle.head.proofs.Ready.{timed-ready}
+use Rattle.receiver.specs.Acking.{AckReady, figuresOf, afterAck, fullAckEnded, ofHistory, roomyAck, dueAck, fullAckCallOf, FullAckOutcome, afterAck2, heldAck2, Ack2Outcome, ack2Ended, ack2CallOf}
 use Rattle.receiver.specs.declared.acking.FullAcked.{FullAcked}
 use Rattle.receiver.specs.declared.acking.FullAckAnswer.{FullAckAnswer}
 use Rattle.receiver.specs.declared.acking.FullAckAnswer.the-variants as answers
@@ -68,7 +69,7 @@ module _ (h : Head) where
   pub room-ready : InRange h → h .window .held ≤ h .window .capacity
   room-ready i = room-holds (h .window) (i .window)
 
-  pub history-ready : (a : List ℕ) → InRange h → 2048 ≤ length a → Right (h .history) a
+  pub history-ready : (a : List ℕ) → InRange h → 2048 ≤ length a → HistoryReady (h .history) a
   history-ready a i l = right (h .history) a (i .history) l
 
 -- after_ack
@@ -130,24 +131,24 @@ module _ (h : Head) (a : List ℕ) (now : ℤ) {t : ℤ} {n : ℕ} (b : n ≡ fi
   stays : ℕ → FullAckOutcome
   stays k = fullAckEnded (record { head = h; answer = answers.Refused k }) a
 
-  pub event-taken : {m : ℤ} {r : FullAcked} {a₁ : List ℕ} → n ≡ 0 → fullAckEnded r a₁ ≡ dueAck h a m → m ≡ now → fullAckEnded r a₁ ≡ fullAckEventOf h a now
-  unfolding fullAckEventOf stays
+  pub event-taken : {m : ℤ} {r : FullAcked} {a₁ : List ℕ} → n ≡ 0 → fullAckEnded r a₁ ≡ dueAck h a m → m ≡ now → fullAckEnded r a₁ ≡ fullAckCallOf h a now
+  unfolding fullAckCallOf stays
   event-taken z f e = f ∙ rw e (sym (taken (dueAck h a now) stays same z))
 
-  pub event-refused : (n ≡ 0 → ⊥) → fullAckEnded (record { head = h; answer = answers.Refused n }) a ≡ fullAckEventOf h a now
-  unfolding fullAckEventOf stays
+  pub event-refused : (n ≡ 0 → ⊥) → fullAckEnded (record { head = h; answer = answers.Refused n }) a ≡ fullAckCallOf h a now
+  unfolding fullAckCallOf stays
   event-refused z = sym (refused (dueAck h a now) stays same z)
 
   -- handle_ack2_packet
   stays2 : ℕ → Ack2Outcome
   stays2 k = ack2Ended (record { head = h; answer = rtts.Refused k })
 
-  pub packet-taken : (number : ℕ) {m : ℤ} {r : Ack2ed} → n ≡ 0 → r ≡ heldAck2 h a m number → m ≡ now → ack2Ended r ≡ ack2PacketOf h a now number
-  unfolding ack2PacketOf stays2
+  pub packet-taken : (number : ℕ) {m : ℤ} {r : Ack2ed} → n ≡ 0 → r ≡ heldAck2 h a m number → m ≡ now → ack2Ended r ≡ ack2CallOf h a now number
+  unfolding ack2CallOf stays2
   packet-taken number z f e = ap ack2Ended f ∙ rw e (sym (taken (ack2Ended (heldAck2 h a now number)) stays2 same z))
 
-  pub packet-refused : (number : ℕ) → (n ≡ 0 → ⊥) → ack2Ended (record { head = h; answer = rtts.Refused n }) ≡ ack2PacketOf h a now number
-  unfolding ack2PacketOf stays2
+  pub packet-refused : (number : ℕ) → (n ≡ 0 → ⊥) → ack2Ended (record { head = h; answer = rtts.Refused n }) ≡ ack2CallOf h a now number
+  unfolding ack2CallOf stays2
   packet-refused number z = sym (refused (ack2Ended (heldAck2 h a now number)) stays2 same z)
 
 -- when no ACK is due, or the last number is given, the head keeps its history and the area every word

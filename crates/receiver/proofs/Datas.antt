@@ -29,8 +29,9 @@ use Rattle.head.specs.Head.{headOk}
 use Rattle.head.specs.Parts.{withWindow, withRates, withHistory, withLatest}
 use Rattle.head.specs.declared.state.Head.{Head}
 use Rattle.head.proofs.Gates.{taken, refused}
-use Rattle.head.proofs.Ready.{PushReady, push-ready}
-use Rattle.receiver.specs.Data.{placedOf, refusedBy, refusedOf, ackedOf, ratedOf, gotOf, afterPush, DataOutcome, dataEnded, takenOf, dataOf}
+use Rattle.head.specs.Ready.{PushReady}
+use Rattle.head.proofs.Ready.{push-ready}
+use Rattle.receiver.specs.Data.{placedOf, pushRefused, refusedOf, ackedOf, ratedOf, gotOf, afterPush, DataOutcome, dataEnded, takenOf, dataCallOf}
 use Rattle.receiver.specs.declared.data.Handled.{Handled}
 use Rattle.receiver.specs.declared.data.DataAnswer.{DataAnswer}
 use Rattle.receiver.specs.declared.data.DataAnswer.the-variants as answers
@@ -40,7 +41,7 @@ pub put-in : (h : Head) (w : Window) (now : ℤ) {f g : Head} {n : ℤ} → f �
 put-in h w now a b c = rw (b, a, c)
 
 -- refused_by: the case that has numbers
-pub too-early : {a : PushAnswer} {room need : ℕ} → a ≡ pushes.PacketTooEarly room need → answers.PacketTooEarly room need ≡ refusedBy a
+pub too-early : {a : PushAnswer} {room need : ℕ} → a ≡ pushes.PacketTooEarly room need → answers.PacketTooEarly room need ≡ pushRefused a
 too-early e = rw e
 
 -- rate
@@ -97,7 +98,7 @@ others h w pushes.PacketTooLate now number size p q = refl
 others h w pushes.DiscardedDuplicate now number size p q = refl
 
 pub after-refused : (h : Head) (w : Window) (a : PushAnswer) (now : ℤ) (number size : ℕ) {b : DataAnswer}
-    → OneOf (1 ∷ 2 ∷ 3 ∷ 4 ∷ 5 ∷ []) (tagOf the-type a) → OneOf (0 ∷ 2 ∷ 3 ∷ 4 ∷ 5 ∷ []) (tagOf the-type a) → b ≡ refusedBy a
+    → OneOf (1 ∷ 2 ∷ 3 ∷ 4 ∷ 5 ∷ []) (tagOf the-type a) → OneOf (0 ∷ 2 ∷ 3 ∷ 4 ∷ 5 ∷ []) (tagOf the-type a) → b ≡ pushRefused a
     → _≡_ {A = Handled} (record { head = h; answer = b }) (afterPush h w a now number size)
 after-refused h w a now number size p q e = rw e (others h w a now number size p q)
 
@@ -129,12 +130,12 @@ module _ (h : Head) (ws bs : List ℕ) (now : ℤ) (p : Packet) (payload : List 
     same : n ≡ firstRefusal (pushRules (headOk h) (h .window .capacity) (length ws) (length bs) now (h .latest) p (length payload))
     same = b ∙ rw q
 
-    pub data-taken : {m : ℤ} {o : DataOutcome} → n ≡ 0 → o ≡ takenOf h ws bs m p payload → m ≡ now → o ≡ dataOf h ws bs now p payload
-    unfolding dataOf
+    pub data-taken : {m : ℤ} {o : DataOutcome} → n ≡ 0 → o ≡ takenOf h ws bs m p payload → m ≡ now → o ≡ dataCallOf h ws bs now p payload
+    unfolding dataCallOf
     data-taken z f e = f ∙ rw e (sym (taken (takenOf h ws bs now p payload) (λ n. dataEnded (record { head = h; answer = answers.Refused n }) ws bs) same z))
 
-    pub data-refused : (n ≡ 0 → ⊥) → dataEnded (record { head = h; answer = answers.Refused n }) ws bs ≡ dataOf h ws bs now p payload
-    unfolding dataOf
+    pub data-refused : (n ≡ 0 → ⊥) → dataEnded (record { head = h; answer = answers.Refused n }) ws bs ≡ dataCallOf h ws bs now p payload
+    unfolding dataCallOf
     data-refused z = sym (refused (takenOf h ws bs now p payload) (λ n. dataEnded (record { head = h; answer = answers.Refused n }) ws bs) same z)
 
 pub ruleset datas = (put-in, too-early, arrivals-fit, links-fit, rated, acked-light, acked, got-recovered, got-appended, after-got, after-loss, after-refused, reading-under, pushed-at, taken-up, data-ready, data-taken, data-refused, needs)

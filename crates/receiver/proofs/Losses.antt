@@ -26,7 +26,7 @@ use Rattle.head.specs.Parts.{withLatest}
 use Rattle.head.specs.declared.state.Head.{Head}
 use Rattle.head.proofs.Gates.{taken, refused}
 use Rattle.head.proofs.Ready.{timed-ready, good}
-use Rattle.receiver.specs.Loss.{ReportReady, lossEnded, answerOf, afterReport, ending, reportedOf, lossOf}
+use Rattle.receiver.specs.Loss.{ReportReady, lossEnded, answerOf, afterReport, ending, reportedOf, reportCallOf}
 use Rattle.receiver.specs.declared.loss.Reported.{Reported}
 use Rattle.receiver.specs.declared.loss.LossAnswer.{LossAnswer}
 use Rattle.receiver.specs.declared.loss.LossAnswer.the-variants as answers
@@ -77,14 +77,14 @@ module _ (h : Head) (ws list : List ℕ) (now : ℤ) where
         record { good = good (h .window) ws (r .0 .head .window) (r .1); mean = mean-under (h .rtt) (r .0 .head .rtt) }
 
     pub loss-taken : {m : ℤ} {ws₁ list₁ : List ℕ} {r : Reported} → n ≡ 0 → lossEnded r ws₁ list₁ ≡ reportedOf h ws list m → m ≡ now
-        → lossEnded r ws₁ list₁ ≡ lossOf h ws list now
-    unfolding lossOf
+        → lossEnded r ws₁ list₁ ≡ reportCallOf h ws list now
+    unfolding reportCallOf
     loss-taken z f e =
         f
         ∙ rw e (sym (taken (reportedOf h ws list now) (λ n. lossEnded (record { head = h; answer = answers.Refused n }) ws list) same z))
 
-    pub loss-refused : (n ≡ 0 → ⊥) → lossEnded (record { head = h; answer = answers.Refused n }) ws list ≡ lossOf h ws list now
-    unfolding lossOf
+    pub loss-refused : (n ≡ 0 → ⊥) → lossEnded (record { head = h; answer = answers.Refused n }) ws list ≡ reportCallOf h ws list now
+    unfolding reportCallOf
     loss-refused z = sym (refused (reportedOf h ws list now) (λ n. lossEnded (record { head = h; answer = answers.Refused n }) ws list) same z)
 
 -- the size of a reading is the reading

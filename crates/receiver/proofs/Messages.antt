@@ -21,7 +21,7 @@ use Rattle.head.specs.Parts.{withWindow, withClock, withLatest}
 use Rattle.head.specs.declared.state.Head.{Head}
 use Rattle.head.proofs.Gates.{taken, refused}
 use Rattle.head.proofs.Ready.{pop-ready}
-use Rattle.receiver.specs.Message.{givenEnded, poppedOf, answerOf, afterPop, popped, takenOf, messageOf}
+use Rattle.receiver.specs.Message.{messageEnded, poppedOf, answerOf, afterPop, popped, takenOf, popCallOf}
 use Rattle.receiver.specs.declared.message.Given.{Given}
 use Rattle.receiver.specs.declared.message.MessageAnswer.{MessageAnswer}
 use Rattle.receiver.specs.declared.message.MessageAnswer.the-variants as answers
@@ -63,7 +63,7 @@ module _ (h : Head) (ws bs out : List ℕ) (now : ℤ) where
   pub released : {n n₁ : ℤ} {o : Popped} {out₁ : List ℕ} {r : Given}
       → popEnded o out₁ ≡ popOf (h .clock) (h .latency) (h .dropping) (h .window) ws n bs out → n ≡ now
       → r ≡ afterPop h (o .window) (o .clock) (o .answer) n₁ → n₁ ≡ now
-      → givenEnded r out₁ ≡ takenOf h ws bs out now
+      → messageEnded r out₁ ≡ takenOf h ws bs out now
   unfolding takenOf
   released {o = o} {out₁ = out₁} e p f q =
       let d : popEnded o out₁ ≡ popOf (h .clock) (h .latency) (h .dropping) (h .window) ws now bs out = e ∙ rw p in
@@ -78,14 +78,14 @@ module _ (h : Head) (ws bs out : List ℕ) (now : ℤ) where
     same : n ≡ firstRefusal (popRules (headOk h) (h .window .capacity) (length ws) (length bs) now (h .latest))
     same = b ∙ rw p
 
-    pub message-taken : {m : ℤ} {out₁ : List ℕ} {r : Given} → n ≡ 0 → givenEnded r out₁ ≡ takenOf h ws bs out m → m ≡ now → givenEnded r out₁ ≡ messageOf h ws bs out now
-    unfolding messageOf
+    pub message-taken : {m : ℤ} {out₁ : List ℕ} {r : Given} → n ≡ 0 → messageEnded r out₁ ≡ takenOf h ws bs out m → m ≡ now → messageEnded r out₁ ≡ popCallOf h ws bs out now
+    unfolding popCallOf
     message-taken z f e =
         f
-        ∙ rw e (sym (taken (takenOf h ws bs out now) (λ n. givenEnded (record { head = h; answer = answers.Refused n }) out) same z))
+        ∙ rw e (sym (taken (takenOf h ws bs out now) (λ n. messageEnded (record { head = h; answer = answers.Refused n }) out) same z))
 
-    pub message-refused : (n ≡ 0 → ⊥) → givenEnded (record { head = h; answer = answers.Refused n }) out ≡ messageOf h ws bs out now
-    unfolding messageOf
-    message-refused z = sym (refused (takenOf h ws bs out now) (λ n. givenEnded (record { head = h; answer = answers.Refused n }) out) same z)
+    pub message-refused : (n ≡ 0 → ⊥) → messageEnded (record { head = h; answer = answers.Refused n }) out ≡ popCallOf h ws bs out now
+    unfolding popCallOf
+    message-refused z = sym (refused (takenOf h ws bs out now) (λ n. messageEnded (record { head = h; answer = answers.Refused n }) out) same z)
 
 pub ruleset messages = (taken-out, answer-message, answer-late, out-short, not-short, release-ready, released, message-ready, message-taken, message-refused, needs)

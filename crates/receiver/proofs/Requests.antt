@@ -15,7 +15,7 @@ use Rattle.head.specs.Parts.{withWindow, withHistory}
 use Rattle.head.specs.declared.state.Head.{Head}
 use Rattle.head.proofs.Gates.{taken, refused}
 use Rattle.head.proofs.Ready.{head-ready, in-window, drop-ready}
-use Rattle.receiver.specs.Request.{dropEnded, goneOf, dropCallOf, clearedOf, clearEnded, clearOf, roomEnded, roomCallOf}
+use Rattle.receiver.specs.Request.{dropEnded, goneOf, dropCallOf, clearedOf, clearEnded, clearCallOf, roomEnded, roomCallOf}
 use Rattle.receiver.specs.declared.request.DropAnswer.the-variants as drops
 use Rattle.receiver.specs.declared.request.ClearAnswer.the-variants as clears
 use Rattle.receiver.specs.declared.request.RoomAnswer.the-variants as rooms
@@ -40,12 +40,12 @@ unfolding clearedOf
 empties h a b c = rw (c, a, b)
 
 module _ (h : Head) {n : ℕ} (b : n ≡ firstRefusal (headRules (headOk h))) where
-  pub clear-taken : {g : Head} → n ≡ 0 → g ≡ clearedOf h → clearEnded (record { head = g; answer = clears.Cleared }) ≡ clearOf h
-  unfolding clearOf
+  pub clear-taken : {g : Head} → n ≡ 0 → g ≡ clearedOf h → clearEnded (record { head = g; answer = clears.Cleared }) ≡ clearCallOf h
+  unfolding clearCallOf
   clear-taken z e = rw e (sym (taken (clearEnded (record { head = clearedOf h; answer = clears.Cleared })) (λ n. clearEnded (record { head = h; answer = clears.Refused n })) b z))
 
-  pub clear-refused : (n ≡ 0 → ⊥) → clearEnded (record { head = h; answer = clears.Refused n }) ≡ clearOf h
-  unfolding clearOf
+  pub clear-refused : (n ≡ 0 → ⊥) → clearEnded (record { head = h; answer = clears.Refused n }) ≡ clearCallOf h
+  unfolding clearCallOf
   clear-refused z = sym (refused (clearEnded (record { head = clearedOf h; answer = clears.Cleared })) (λ n. clearEnded (record { head = h; answer = clears.Refused n })) b z)
 
   pub room-holds : n ≡ 0 → h .window .held ≤ h .window .capacity

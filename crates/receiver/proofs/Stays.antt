@@ -54,17 +54,17 @@ module _ (h : Head) (ws list : List ℕ) (now : ℤ) where
       (λ e. absurd (e refl))
       (report-by (ltb (length list) n) short done (λ e. refl) (λ e. absurd (e refl)))
 
-  pub loss-stays : LossStays (loss.lossOf h ws list now)
-  unfolding loss.lossOf
+  pub loss-stays : LossStays (loss.reportCallOf h ws list now)
+  unfolding loss.reportCallOf
   loss-stays =
       let n = firstRefusal (timedRules (headOk h) (length ws) (3 * h .window .capacity) now (h .latest)) in
       loss-by (eqb n 0) (loss.reportedOf h ws list now) (loss.lossEnded (record { head = h; answer = losses.Refused n }) ws list) reported-stays (λ e. refl)
 
 module _ (h : Head) (ws bs out : List ℕ) (now : ℤ) where
-  abbrev pub MessageStays : message.GivenOutcome → Type 0
-  MessageStays x = (x .line .refusal ≡ 0 → ⊥) → x ≡ message.givenEnded (record { head = h; answer = x .given .answer }) out
+  abbrev pub MessageStays : message.MessageOutcome → Type 0
+  MessageStays x = (x .line .refusal ≡ 0 → ⊥) → x ≡ message.messageEnded (record { head = h; answer = x .given .answer }) out
 
-  given-by : (t : Bool) (x y : message.GivenOutcome) → MessageStays x → MessageStays y → MessageStays (cond t x y)
+  given-by : (t : Bool) (x y : message.MessageOutcome) → MessageStays x → MessageStays y → MessageStays (cond t x y)
   given-by true x y p q = p
   given-by false x y p q = q
 
@@ -136,8 +136,8 @@ module _ (h : Head) (ws bs out : List ℕ) (now : ℤ) where
       (front-stays (h .clock) (h .latency) (h .dropping) w (stampIn e))
       (late-stays (h .clock) (h .latency) (h .dropping) w)
 
-  pub message-stays : MessageStays (message.messageOf h ws bs out now)
-  unfolding message.messageOf
+  pub message-stays : MessageStays (message.popCallOf h ws bs out now)
+  unfolding message.popCallOf
   message-stays =
       let n = firstRefusal (popRules (headOk h) (h .window .capacity) (length ws) (length bs) now (h .latest)) in
-      given-by (eqb n 0) (message.takenOf h ws bs out now) (message.givenEnded (record { head = h; answer = messages.Refused n }) out) taken-stays (λ e. refl)
+      given-by (eqb n 0) (message.takenOf h ws bs out now) (message.messageEnded (record { head = h; answer = messages.Refused n }) out) taken-stays (λ e. refl)

@@ -16,8 +16,9 @@ use Rattle.head.specs.Head.{headOk}
 use Rattle.head.specs.Parts.{withClock, withLatest}
 use Rattle.head.specs.declared.state.Head.{Head}
 use Rattle.head.proofs.Gates.{taken, refused}
-use Rattle.head.proofs.Ready.{Timed, clock-ready}
-use Rattle.receiver.specs.Sync.{afterSync, syncOf, ClockOutcome, clockEnded, clockOf}
+use Rattle.head.specs.Ready.{Timed}
+use Rattle.head.proofs.Ready.{clock-ready}
+use Rattle.receiver.specs.Sync.{afterSync, syncOf, ClockOutcome, clockEnded, clockCallOf}
 use Rattle.receiver.specs.declared.sync.Clocked.{Clocked}
 use Rattle.receiver.specs.declared.sync.ClockAnswer.the-variants as answers
 
@@ -57,12 +58,12 @@ module _ (h : Head) (now : ℤ) where
     stays : ℕ → ClockOutcome
     stays k = clockEnded (record { head = h; answer = answers.Refused k })
 
-    pub clock-taken : (stamp : ℕ) {m : ℤ} {r : Clocked} → n ≡ 0 → r ≡ syncOf h m stamp → m ≡ now → clockEnded r ≡ clockOf h now stamp
-    unfolding clockOf stays
+    pub clock-taken : (stamp : ℕ) {m : ℤ} {r : Clocked} → n ≡ 0 → r ≡ syncOf h m stamp → m ≡ now → clockEnded r ≡ clockCallOf h now stamp
+    unfolding clockCallOf stays
     clock-taken stamp z f e = ap clockEnded f ∙ rw e (sym (taken (clockEnded (syncOf h now stamp)) stays same z))
 
-    pub clock-refused : (stamp : ℕ) → (n ≡ 0 → ⊥) → clockEnded (record { head = h; answer = answers.Refused n }) ≡ clockOf h now stamp
-    unfolding clockOf stays
+    pub clock-refused : (stamp : ℕ) → (n ≡ 0 → ⊥) → clockEnded (record { head = h; answer = answers.Refused n }) ≡ clockCallOf h now stamp
+    unfolding clockCallOf stays
     clock-refused stamp z = sym (refused (clockEnded (syncOf h now stamp)) stays same z)
 
 pub ruleset syncs = (clock-set, sync-nothing, sync-adjusted, sync-unsteady, sync-refused, sync-ready, synced, sync-timed, clock-taken, clock-refused, needs)

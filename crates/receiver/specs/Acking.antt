@@ -22,7 +22,7 @@ use Rattle.head.specs.Rules.{firstRefusal, judged, timedRules}
 use Rattle.head.specs.Head.{headOk}
 use Rattle.head.specs.Parts.{withRtt, withHistory, withLatest}
 use Rattle.head.specs.declared.state.Head.{Head}
-use Rattle.head.proofs.Ready.{InRange}
+use Rattle.head.specs.Ready.{InRange}
 use Rattle.receiver.specs.Paper.{Line, fullAckLine, rttLine}
 use Rattle.receiver.specs.declared.acking.FullAcked.{FullAcked}
 use Rattle.receiver.specs.declared.acking.FullAckAnswer.{FullAckAnswer}
@@ -66,8 +66,8 @@ unfoldable pub dueAck : Head → List ℕ → ℤ → FullAckOutcome
 dueAck h a now =
     cond (eqb (roomOf (h .window)) 0) (fullAckEnded (record { head = withLatest h now; answer = answers.Nothing }) a) (roomyAck h a now)
 
-unfoldable pub fullAckEventOf : Head → List ℕ → ℤ → FullAckOutcome
-fullAckEventOf h a now =
+unfoldable pub fullAckCallOf : Head → List ℕ → ℤ → FullAckOutcome
+fullAckCallOf h a now =
     judged (firstRefusal (timedRules (headOk h) (length a) 2048 now (h .latest)))
     (dueAck h a now)
     (λ n. fullAckEnded (record { head = h; answer = answers.Refused n }) a)
@@ -91,8 +91,8 @@ pub record Ack2Outcome : Type 0 where
 abbrev pub ack2Ended : Ack2ed → Ack2Outcome
 ack2Ended r = record { acked2 = r; line = rttLine (r .answer) }
 
-unfoldable pub ack2PacketOf : Head → List ℕ → ℤ → ℕ → Ack2Outcome
-ack2PacketOf h a now number =
+unfoldable pub ack2CallOf : Head → List ℕ → ℤ → ℕ → Ack2Outcome
+ack2CallOf h a now number =
     judged (firstRefusal (timedRules (headOk h) (length a) 2048 now (h .latest)))
     (ack2Ended (heldAck2 h a now number))
     (λ n. ack2Ended (record { head = h; answer = rtts.Refused n }))

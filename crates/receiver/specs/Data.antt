@@ -38,13 +38,13 @@ abbrev pub placedOf : Head → Window → ℤ → Head
 placedOf h w now = withLatest (withWindow h w) now
 
 -- the window's refusals, 7 to 10; 8 returns both of its numbers; 0 for an answer that is none
-abbrev pub refusedBy : PushAnswer → DataAnswer
-refusedBy (pushes.Got lrsn recovered) = answers.Refused 0
-refusedBy (pushes.Loss first last) = answers.Refused 0
-refusedBy pushes.BufferFull = answers.Refused 7
-refusedBy (pushes.PacketTooEarly room need) = answers.PacketTooEarly room need
-refusedBy pushes.PacketTooLate = answers.Refused 9
-refusedBy pushes.DiscardedDuplicate = answers.Refused 10
+abbrev pub pushRefused : PushAnswer → DataAnswer
+pushRefused (pushes.Got lrsn recovered) = answers.Refused 0
+pushRefused (pushes.Loss first last) = answers.Refused 0
+pushRefused pushes.BufferFull = answers.Refused 7
+pushRefused (pushes.PacketTooEarly room need) = answers.PacketTooEarly room need
+pushRefused pushes.PacketTooLate = answers.Refused 9
+pushRefused pushes.DiscardedDuplicate = answers.Refused 10
 
 -- light ACK: lrsn at last_ack_dsn + 64 or after; it sets last_ack_dsn
 abbrev pub gotAnswer : Bool → ℕ → Bool → DataAnswer
@@ -65,7 +65,7 @@ gotOf h w lrsn recovered now number size = ackedOf (placedOf (cond recovered h (
 
 -- a refusal leaves the head
 abbrev pub refusedOf : Head → PushAnswer → Handled
-refusedOf h a = record { head = h; answer = refusedBy a }
+refusedOf h a = record { head = h; answer = pushRefused a }
 
 -- the window's answer as the call's
 abbrev pub afterPush : Head → Window → PushAnswer → ℤ → ℕ → ℕ → Handled
@@ -83,8 +83,8 @@ module _ (h : Head) (ws bs : List ℕ) (now : ℤ) (p : Packet) (payload : List 
       let o = pushOf (h .window) ws bs (natAbs now) p payload in
       dataEnded (afterPush h (o .pushed .window) (o .pushed .answer) now (p .number) (length payload)) (o .slots) (o .payloads)
 
-  unfoldable pub dataOf : DataOutcome
-  dataOf =
+  unfoldable pub dataCallOf : DataOutcome
+  dataCallOf =
       judged (firstRefusal (pushRules (headOk h) (h .window .capacity) (length ws) (length bs) now (h .latest) p (length payload)))
       takenOf
       (λ n. dataEnded (record { head = h; answer = answers.Refused n }) ws bs)

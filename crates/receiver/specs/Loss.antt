@@ -49,8 +49,8 @@ ending h now o = lossEnded (afterReport h (o .answer) now) (o .slots) (o .list)
 unfoldable pub reportedOf : Head → List ℕ → List ℕ → ℤ → LossOutcome
 reportedOf h ws list now = ending h now (reportOf (h .window) ws (natAbs now) (h .rtt .mean) list)
 
-unfoldable pub lossOf : Head → List ℕ → List ℕ → ℤ → LossOutcome
-lossOf h ws list now =
+unfoldable pub reportCallOf : Head → List ℕ → List ℕ → ℤ → LossOutcome
+reportCallOf h ws list now =
     judged (firstRefusal (timedRules (headOk h) (length ws) (3 * h .window .capacity) now (h .latest)))
     (reportedOf h ws list now)
     (λ n. lossEnded (record { head = h; answer = answers.Refused n }) ws list)

@@ -18,13 +18,13 @@ use Rattle.receiver.specs.declared.message.MessageAnswer.{MessageAnswer}
 use Rattle.receiver.specs.declared.message.MessageAnswer.the-variants as answers
 
 -- all that the call leaves: the head and the answer, its line on paper, and the output
-pub record GivenOutcome : Type 0 where
+pub record MessageOutcome : Type 0 where
   pub given : Given
   pub line : Line
   pub output : List ℕ
 
-abbrev pub givenEnded : Given → List ℕ → GivenOutcome
-givenEnded r out = record { given = r; line = messageLine (r .answer); output = out }
+abbrev pub messageEnded : Given → List ℕ → MessageOutcome
+messageEnded r out = record { given = r; line = messageLine (r .answer); output = out }
 
 -- the head with the window and clock after a pop, and the reading as its latest
 abbrev pub poppedOf : Head → Window → SynchronizedRemoteClock → ℤ → Head
@@ -48,14 +48,14 @@ abbrev pub afterPop : Head → Window → SynchronizedRemoteClock → PopAnswer 
 afterPop h w k a now = record { head = headAfter h w k a now; answer = answerOf a }
 
 -- the window's outcome as the call's; on refusal 11 the window leaves the output
-abbrev pub popped : Head → ℤ → PopOutcome → GivenOutcome
-popped h now o = givenEnded (afterPop h (o .popped .window) (o .popped .clock) (o .popped .answer) now) (o .output)
+abbrev pub popped : Head → ℤ → PopOutcome → MessageOutcome
+popped h now o = messageEnded (afterPop h (o .popped .window) (o .popped .clock) (o .popped .answer) now) (o .output)
 
-unfoldable pub takenOf : Head → List ℕ → List ℕ → List ℕ → ℤ → GivenOutcome
+unfoldable pub takenOf : Head → List ℕ → List ℕ → List ℕ → ℤ → MessageOutcome
 takenOf h ws bs out now = popped h now (popOf (h .clock) (h .latency) (h .dropping) (h .window) ws now bs out)
 
-unfoldable pub messageOf : Head → List ℕ → List ℕ → List ℕ → ℤ → GivenOutcome
-messageOf h ws bs out now =
+unfoldable pub popCallOf : Head → List ℕ → List ℕ → List ℕ → ℤ → MessageOutcome
+popCallOf h ws bs out now =
     judged (firstRefusal (popRules (headOk h) (h .window .capacity) (length ws) (length bs) now (h .latest)))
     (takenOf h ws bs out now)
-    (λ n. givenEnded (record { head = h; answer = answers.Refused n }) out)
+    (λ n. messageEnded (record { head = h; answer = answers.Refused n }) out)

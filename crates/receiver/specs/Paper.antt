@@ -104,22 +104,22 @@ clockLine (clocks.Adjusted mean deviation) = said adjusted (whole mean ∷ plain
 clockLine (clocks.Unsteady deviation v) = record { word = unsteady; refusal = 0; values = plain deviation ∷ []; exact = v ∷ [] }
 clockLine (clocks.Refused n) = refusedBy n []
 
-abbrev pub packetsOf : Speed → Value
-packetsOf speeds.Unknown = dash
-packetsOf (speeds.Known packets bytes) = plain packets
+abbrev pub packetsValue : Speed → Value
+packetsValue speeds.Unknown = dash
+packetsValue (speeds.Known packets bytes) = plain packets
 
-abbrev pub bytesOf : Speed → Value
-bytesOf speeds.Unknown = dash
-bytesOf (speeds.Known packets bytes) = plain bytes
+abbrev pub bytesValue : Speed → Value
+bytesValue speeds.Unknown = dash
+bytesValue (speeds.Known packets bytes) = plain bytes
 
-abbrev pub linkOf : Link → Value
-linkOf links.Unknown = dash
-linkOf (links.Known n) = plain n
+abbrev pub linkValue : Link → Value
+linkValue links.Unknown = dash
+linkValue (links.Known n) = plain n
 
 abbrev pub fullAckLine : FullAckAnswer → Line
 fullAckLine acks.Nothing = said none []
 fullAckLine (acks.Ack number lrsn mean variance places speed link) =
-    said ack (plain number ∷ plain lrsn ∷ plain mean ∷ plain variance ∷ plain places ∷ packetsOf speed ∷ bytesOf speed ∷ linkOf link ∷ [])
+    said ack (plain number ∷ plain lrsn ∷ plain mean ∷ plain variance ∷ plain places ∷ packetsValue speed ∷ bytesValue speed ∷ linkValue link ∷ [])
 fullAckLine (acks.Refused n) = refusedBy n []
 
 abbrev pub rttLine : RttAnswer → Line

@@ -50,8 +50,8 @@ pub record ClearOutcome : Type 0 where
 abbrev pub clearEnded : Cleared → ClearOutcome
 clearEnded r = record { cleared = r; line = clearLine (r .answer) }
 
-unfoldable pub clearOf : Head → ClearOutcome
-clearOf h =
+unfoldable pub clearCallOf : Head → ClearOutcome
+clearCallOf h =
     judged (firstRefusal (headRules (headOk h)))
     (clearEnded (record { head = clearedOf h; answer = clears.Cleared }))
     (λ n. clearEnded (record { head = h; answer = clears.Refused n }))

@@ -31,8 +31,8 @@ afterSync h k clocks.DriftRange now = record { head = h; answer = answers.Refuse
 unfoldable pub syncOf : Head → ℤ → ℕ → Clocked
 syncOf h now stamp = afterSync h (synchronized (h .clock) now stamp .clock) (synchronized (h .clock) now stamp .answer) now
 
-unfoldable pub clockOf : Head → ℤ → ℕ → ClockOutcome
-clockOf h now stamp =
+unfoldable pub clockCallOf : Head → ℤ → ℕ → ClockOutcome
+clockCallOf h now stamp =
     judged (firstRefusal (clockRules (headOk h) now (h .latest)))
     (clockEnded (syncOf h now stamp))
     (λ n. clockEnded (record { head = h; answer = answers.Refused n }))

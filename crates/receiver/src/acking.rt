@@ -3,9 +3,9 @@ ghost use mathlib.Core.Path.{_≡_};
 ghost use mathlib.Core.Bool.{true};
 ghost use Prim.Native.Nat.{_≤_};
 ghost use Rattle.acks.specs.Rates.{arrivalsOk};
-ghost use Rattle.head.proofs.Ready.{InRange};
+ghost use Rattle.head.specs.Ready.{InRange};
 ghost use Rattle.head.specs.Parts.{withRtt, withHistory, withLatest};
-ghost use Rattle.receiver.specs.Acking.{AckReady, figuresOf, afterAck, roomyAck, dueAck, fullAckEnded, fullAckEventOf, afterAck2, heldAck2, ack2Ended, ack2PacketOf};
+ghost use Rattle.receiver.specs.Acking.{AckReady, figuresOf, afterAck, roomyAck, dueAck, fullAckEnded, fullAckCallOf, afterAck2, heldAck2, ack2Ended, ack2CallOf};
 use acks::history::Ack2Answer;
 use acks::history::AckAnswer;
 use acks::history::History;
@@ -134,7 +134,7 @@ fn due_ack(h: Head, area: &mut [u64], time: i64) -> FullAcked
 }
 
 pub fn on_full_ack_event(h: Head, area: &mut [u64], time: i64) -> FullAcked
-    ensures { λ r. ⌜ fullAckEnded r (now (area .exit)) ≡ fullAckEventOf h (now (area .entry)) time ⌝ }
+    ensures { λ r. ⌜ fullAckEnded r (now (area .exit)) ≡ fullAckCallOf h (now (area .entry)) time ⌝ }
 {
     let n = head::refuse::history(h, area.len(), time);
     if n == 0 {
@@ -181,7 +181,7 @@ fn held_ack2(h: Head, area: &[u64], time: i64, number: u32) -> Ack2ed
 }
 
 pub fn handle_ack2_packet(h: Head, area: &[u64], time: i64, number: u32) -> Ack2ed
-    ensures { λ r. ⌜ ack2Ended r ≡ ack2PacketOf h (now (area .entry)) time number ⌝ }
+    ensures { λ r. ⌜ ack2Ended r ≡ ack2CallOf h (now (area .entry)) time number ⌝ }
 {
     let n = head::refuse::history(h, area.len(), time);
     if n == 0 {

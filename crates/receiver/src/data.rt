@@ -5,9 +5,9 @@ ghost use lib.IntN.{natAbs};
 ghost use Rattle.numbers.specs.Whole.{isReading};
 ghost use Rattle.acks.specs.Rates.{arrivalsOk, linksOk};
 ghost use Rattle.window.specs.Window.{Good, Bytes};
-ghost use Rattle.window.specs.Push.{Right, pushEnded, pushOf};
-ghost use Rattle.head.proofs.Ready.{PushReady};
-ghost use Rattle.receiver.specs.Data.{placedOf, refusedBy, ratedOf, ackedOf, gotOf, afterPush, takenOf, dataEnded, packet, dataOf};
+ghost use Rattle.window.specs.Push.{PacketRight, pushEnded, pushOf};
+ghost use Rattle.head.specs.Ready.{PushReady};
+ghost use Rattle.receiver.specs.Data.{placedOf, pushRefused, ratedOf, ackedOf, gotOf, afterPush, takenOf, dataEnded, packet, dataCallOf};
 use head::state::Head;
 use window::Window;
 use window::push::Packet;
@@ -37,7 +37,7 @@ fn placed(h: Head, window: Window, time: i64) -> Head
 
 // The window's refusal as the call's; refusal 0 for an answer that is none.
 pub fn refused_by(answer: PushAnswer) -> DataAnswer
-    ensures { λ r. ⌜ r ≡ refusedBy answer ⌝ }
+    ensures { λ r. ⌜ r ≡ pushRefused answer ⌝ }
 {
     match answer {
         PushAnswer::Got { .. } => DataAnswer::Refused(0),
@@ -132,7 +132,7 @@ pub fn push_at(
     p: Packet,
     payload: &[u8],
 ) -> Pushed
-    requires { ⌜ Good w (now words) × Bytes w (now bytes) × Right p (now payload) × (isReading time ≡ true) ⌝ }
+    requires { ⌜ Good w (now words) × Bytes w (now bytes) × PacketRight p (now payload) × (isReading time ≡ true) ⌝ }
     ensures { λ r. ⌜ pushEnded r (now (words .exit)) (now (bytes .exit)) ≡ pushOf w (now (words .entry)) (now (bytes .entry)) (natAbs time) p (now (payload .entry)) ⌝ }
 {
     let t = numbers::instant::size(time);
@@ -169,7 +169,7 @@ pub fn handle_data_packet(
     stamp: u32,
     payload: &[u8],
 ) -> Handled
-    ensures { λ r. ⌜ dataEnded r (now (words .exit)) (now (bytes .exit)) ≡ dataOf h (now (words .entry)) (now (bytes .entry)) time (packet number message location stamp) (now (payload .entry)) ⌝ }
+    ensures { λ r. ⌜ dataEnded r (now (words .exit)) (now (bytes .exit)) ≡ dataCallOf h (now (words .entry)) (now (bytes .entry)) time (packet number message location stamp) (now (payload .entry)) ⌝ }
 {
     let p = Packet {
         number,

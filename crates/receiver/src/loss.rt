@@ -1,6 +1,6 @@
 // The loss report call, arq.rs `on_nak_event`: 01, "Window", with refusals 1 to 4 and 12.
 ghost use mathlib.Core.Path.{_≡_};
-ghost use Rattle.receiver.specs.Loss.{ReportReady, lossEnded, answerOf, afterReport, reportedOf, lossOf};
+ghost use Rattle.receiver.specs.Loss.{ReportReady, lossEnded, answerOf, afterReport, reportedOf, reportCallOf};
 use head::state::Head;
 use window_report::report::ReportAnswer;
 
@@ -54,7 +54,7 @@ fn report(h: Head, words: &mut [u64], list: &mut [u32], time: i64) -> Reported
 }
 
 pub fn on_nak_event(h: Head, words: &mut [u64], list: &mut [u32], time: i64) -> Reported
-    ensures { λ r. ⌜ lossEnded r (now (words .exit)) (now (list .exit)) ≡ lossOf h (now (words .entry)) (now (list .entry)) time ⌝ }
+    ensures { λ r. ⌜ lossEnded r (now (words .exit)) (now (list .exit)) ≡ reportCallOf h (now (words .entry)) (now (list .entry)) time ⌝ }
 {
     let n = head::refuse::report(h, words.len(), time);
     if n == 0 {

@@ -1,6 +1,6 @@
 // The pop call, arq.rs `pop_next_message`: 01, "Window", with refusals 1 to 4 and 11.
 ghost use mathlib.Core.Path.{_≡_};
-ghost use Rattle.receiver.specs.Message.{givenEnded, poppedOf, answerOf, afterPop, takenOf, messageOf};
+ghost use Rattle.receiver.specs.Message.{messageEnded, poppedOf, answerOf, afterPop, takenOf, popCallOf};
 ghost use Rattle.window_pop.specs.Pop.{PopReady};
 use clock::time::SynchronizedRemoteClock;
 use head::state::Head;
@@ -81,7 +81,7 @@ fn after_pop(
 // The call, once nothing refuses it.
 fn release(h: Head, words: &[u64], bytes: &[u8], out: &mut [u8], time: i64) -> Given
     requires { ⌜ PopReady (h .clock) (h .latency) (h .window) (now words) (now bytes) time ⌝ }
-    ensures { λ r. ⌜ givenEnded r (now (out .exit)) ≡ takenOf h (now (words .entry)) (now (bytes .entry)) (now (out .entry)) time ⌝ }
+    ensures { λ r. ⌜ messageEnded r (now (out .exit)) ≡ takenOf h (now (words .entry)) (now (bytes .entry)) (now (out .entry)) time ⌝ }
 {
     let w = h.window;
     let k = h.clock;
@@ -93,7 +93,7 @@ fn release(h: Head, words: &[u64], bytes: &[u8], out: &mut [u8], time: i64) -> G
 }
 
 pub fn pop_next_message(h: Head, words: &[u64], bytes: &[u8], out: &mut [u8], time: i64) -> Given
-    ensures { λ r. ⌜ givenEnded r (now (out .exit)) ≡ messageOf h (now (words .entry)) (now (bytes .entry)) (now (out .entry)) time ⌝ }
+    ensures { λ r. ⌜ messageEnded r (now (out .exit)) ≡ popCallOf h (now (words .entry)) (now (bytes .entry)) (now (out .entry)) time ⌝ }
 {
     let n = head::refuse::pop(h, words.len(), bytes.len(), time);
     if n == 0 {

@@ -1,6 +1,6 @@
 // The drop request, clear and room, arq.rs `handle_drop_request`, `clear` and `buffer_available`: 01, "Window".
 ghost use mathlib.Core.Path.{_≡_};
-ghost use Rattle.receiver.specs.Request.{dropEnded, dropCallOf, clearedOf, clearEnded, clearOf, roomEnded, roomCallOf};
+ghost use Rattle.receiver.specs.Request.{dropEnded, dropCallOf, clearedOf, clearEnded, clearCallOf, roomEnded, roomCallOf};
 use head::state::Head;
 
 pub enum DropAnswer {
@@ -48,7 +48,7 @@ fn emptied(h: Head) -> Head
 }
 
 pub fn clear(h: Head) -> Cleared
-    ensures { λ r. ⌜ clearEnded r ≡ clearOf h ⌝ }
+    ensures { λ r. ⌜ clearEnded r ≡ clearCallOf h ⌝ }
 {
     let n = head::refuse::head(h);
     if n == 0 {

@@ -1,7 +1,7 @@
 // The clock call, arq.rs `synchronize_clock`: 01, "Clock".
 ghost use mathlib.Core.Path.{_≡_};
-ghost use Rattle.receiver.specs.Sync.{afterSync, syncOf, clockEnded, clockOf};
-ghost use Rattle.head.proofs.Ready.{Timed};
+ghost use Rattle.receiver.specs.Sync.{afterSync, syncOf, clockEnded, clockCallOf};
+ghost use Rattle.head.specs.Ready.{Timed};
 ghost use Rattle.head.specs.Parts.{withClock, withLatest};
 use clock::time::Step;
 use clock::time::Synchronized;
@@ -72,7 +72,7 @@ fn synchronize(h: Head, time: i64, stamp: u32) -> Clocked
 }
 
 pub fn synchronize_clock(h: Head, time: i64, stamp: u32) -> Clocked
-    ensures { λ r. ⌜ clockEnded r ≡ clockOf h time stamp ⌝ }
+    ensures { λ r. ⌜ clockEnded r ≡ clockCallOf h time stamp ⌝ }
 {
     let n = head::refuse::clock(h, time);
     if n == 0 {

@@ -9,7 +9,7 @@ use lib.ListN.{length}
 use mir.Syntax.{w64}
 use mir.Val.{SFits}
 use Rattle.text.specs.Decimal as decimals
-use Rattle.text.specs.Decimal.{decimal, signed}
+use Rattle.text.specs.Decimal.{decimal, signedDecimal}
 use Rattle.text.specs.Put.{putEnded, putOf}
 use Rattle.text.proofs.Numerals.{decimal-short}
 use Rattle.text.proofs.Puts.{put-cursor, put-then, put-room}
@@ -21,8 +21,8 @@ alone : (v : Value) → 32 ∷ valueBytes v ≡ spaced (v ∷ [])
 unfolding spaced
 alone v = ap (λ (l : List ℕ). 32 ∷ l) (sym (append-nil (valueBytes v)))
 
-signed-short : (z : ℤ) → SFits w64 z → length (signed z) ≤ 21
-unfolding decimals.signed
+signed-short : (z : ℤ) → SFits w64 z → length (signedDecimal z) ≤ 21
+unfolding decimals.signedDecimal
 signed-short (pos n) f = omega (arith, decimal-short n (omega (arith, f .sfits)))
 signed-short (negsuc n) f = omega (arith, decimal-short (suc n) (omega (arith, f .sfits)))
 
@@ -30,7 +30,7 @@ module _ (out : List ℕ) (at : ℕ) {p : ℕ} {out₁ : List ℕ} (e : putEnded
   -- number
   module _ (n : ℕ) {r : ℕ} {out₂ : List ℕ} (f : putEnded r out₂ ≡ putOf out₁ p (decimal n)) where
     pub number-bytes : at + 21 ≤ length out → putEnded r out₂ ≡ putOf out at (spaced (plain n ∷ []))
-    unfolding decimals.signed
+    unfolding decimals.signedDecimal
     number-bytes h = put-then out at (32 ∷ []) (decimal n) e f (omega arith) ∙ ap (putOf out at) (alone (plain n))
 
     pub number-within : n < 2 ^ 64 → r ≤ at + 21
@@ -43,16 +43,16 @@ module _ (out : List ℕ) (at : ℕ) {p : ℕ} {out₁ : List ℕ} (e : putEnded
   number-room h = put-room out at (32 ∷ []) 20 e h
 
   -- whole
-  module _ (z : ℤ) {z₁ : ℤ} {r : ℕ} {out₂ : List ℕ} (f : putEnded r out₂ ≡ putOf out₁ p (signed z₁)) (q : z₁ ≡ z) where
+  module _ (z : ℤ) {z₁ : ℤ} {r : ℕ} {out₂ : List ℕ} (f : putEnded r out₂ ≡ putOf out₁ p (signedDecimal z₁)) (q : z₁ ≡ z) where
     pub whole-bytes : at + 22 ≤ length out → putEnded r out₂ ≡ putOf out at (spaced (whole z ∷ []))
     whole-bytes h =
-        put-then out at (32 ∷ []) (signed z) e (f ∙ ap (λ (x : ℤ). putOf out₁ p (signed x)) q) (omega arith)
+        put-then out at (32 ∷ []) (signedDecimal z) e (f ∙ ap (λ (x : ℤ). putOf out₁ p (signedDecimal x)) q) (omega arith)
         ∙ ap (putOf out at) (alone (whole z))
 
     pub whole-within : SFits w64 z → r ≤ at + 22
     whole-within h =
         let a = put-cursor out at (32 ∷ []) e in
-        let b = put-cursor out₁ p (signed z) (f ∙ ap (λ (x : ℤ). putOf out₁ p (signed x)) q) in
+        let b = put-cursor out₁ p (signedDecimal z) (f ∙ ap (λ (x : ℤ). putOf out₁ p (signedDecimal x)) q) in
         omega (arith, signed-short z h)
 
   pub whole-room : at + 22 ≤ length out → p + 21 ≤ length out₁

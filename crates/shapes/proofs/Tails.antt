@@ -15,7 +15,7 @@ use Rattle.acks.specs.declared.rates.Speed.{Speed}
 use Rattle.acks.specs.declared.rates.Speed.the-variants as speeds
 use Rattle.acks.specs.declared.rates.Link.{Link}
 use Rattle.acks.specs.declared.rates.Link.the-variants as links
-use Rattle.receiver.specs.Paper.{Value, whole, plain, packetsOf, bytesOf, linkOf}
+use Rattle.receiver.specs.Paper.{Value, whole, plain, packetsValue, bytesValue, linkValue}
 use Rattle.shapes.specs.Shapes.{valueBytes, spaced, closed}
 
 spaced-join : (us vs : List Value) → spaced (us ++ vs) ≡ spaced us ++ spaced vs
@@ -68,24 +68,24 @@ pair-spaced out at m k u v e w h t f = then-spaced out at m k (u ∷ []) e w h t
 
 -- rates
 module _ (out : List ℕ) (at : ℕ) {r : ℕ} {out₁ : List ℕ} where
-  pub no-speed : (s : Speed) → s ≡ speeds.Unknown → putEnded r out₁ ≡ putOf out at (32 ∷ 45 ∷ 32 ∷ 45 ∷ []) → putEnded r out₁ ≡ putOf out at (spaced (packetsOf s ∷ bytesOf s ∷ []))
+  pub no-speed : (s : Speed) → s ≡ speeds.Unknown → putEnded r out₁ ≡ putOf out at (32 ∷ 45 ∷ 32 ∷ 45 ∷ []) → putEnded r out₁ ≡ putOf out at (spaced (packetsValue s ∷ bytesValue s ∷ []))
   unfolding spaced
   no-speed s h e = rw h e
 
   pub no-speed-within : putEnded r out₁ ≡ putOf out at (32 ∷ 45 ∷ 32 ∷ 45 ∷ []) → r ≤ at + 42
   no-speed-within e = omega (arith, put-cursor out at (32 ∷ 45 ∷ 32 ∷ 45 ∷ []) e)
 
-  pub some-speed : (s : Speed) {a b : ℕ} → s ≡ speeds.Known a b → putEnded r out₁ ≡ putOf out at (spaced (plain a ∷ plain b ∷ [])) → putEnded r out₁ ≡ putOf out at (spaced (packetsOf s ∷ bytesOf s ∷ []))
+  pub some-speed : (s : Speed) {a b : ℕ} → s ≡ speeds.Known a b → putEnded r out₁ ≡ putOf out at (spaced (plain a ∷ plain b ∷ [])) → putEnded r out₁ ≡ putOf out at (spaced (packetsValue s ∷ bytesValue s ∷ []))
   some-speed s h e = rw h e
 
-  pub no-link : (l : Link) → l ≡ links.Unknown → putEnded r out₁ ≡ putOf out at (32 ∷ 45 ∷ 10 ∷ []) → putEnded r out₁ ≡ putOf out at (closed (linkOf l ∷ []))
+  pub no-link : (l : Link) → l ≡ links.Unknown → putEnded r out₁ ≡ putOf out at (32 ∷ 45 ∷ 10 ∷ []) → putEnded r out₁ ≡ putOf out at (closed (linkValue l ∷ []))
   unfolding closed spaced
   no-link l h e = rw h e
 
   pub no-link-within : putEnded r out₁ ≡ putOf out at (32 ∷ 45 ∷ 10 ∷ []) → r ≤ at + 22
   no-link-within e = omega (arith, put-cursor out at (32 ∷ 45 ∷ 10 ∷ []) e)
 
-  pub some-link : (l : Link) {n : ℕ} → l ≡ links.Known n → putEnded r out₁ ≡ putOf out at (closed (plain n ∷ [])) → putEnded r out₁ ≡ putOf out at (closed (linkOf l ∷ []))
+  pub some-link : (l : Link) {n : ℕ} → l ≡ links.Known n → putEnded r out₁ ≡ putOf out at (closed (plain n ∷ [])) → putEnded r out₁ ≡ putOf out at (closed (linkValue l ∷ []))
   some-link l h e = rw h e
 
 -- the words of a report

@@ -5,13 +5,13 @@ use mathlib.Core.Bool.{Bool, cond}
 use mathlib.Core.List.{List, [], _∷_, _++_}
 use Prim.Native.Nat.{ℕ, _+_, _≤_}
 use lib.ListN.{length}
-use Rattle.text.specs.Decimal.{decimal, signed}
+use Rattle.text.specs.Decimal.{decimal, signedDecimal}
 use Rattle.text.specs.Put.{putEnded, putOf}
 use Rattle.receiver.specs.Paper.{Value, whole, dash}
 
 -- a value: a number, or `-`
 abbrev pub valueBytes : Value → List ℕ
-valueBytes (whole z) = signed z
+valueBytes (whole z) = signedDecimal z
 valueBytes dash = 45 ∷ []
 
 -- values, each after a space

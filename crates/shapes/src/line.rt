@@ -2,7 +2,7 @@
 ghost use mathlib.Core.List.{[], _∷_, map};
 ghost use Prim.Native.Nat.{_+_, _*_, _≤_};
 ghost use lib.ListN.{length, take};
-ghost use Rattle.receiver.specs.Paper.{whole, plain, packetsOf, bytesOf, linkOf};
+ghost use Rattle.receiver.specs.Paper.{whole, plain, packetsValue, bytesValue, linkValue};
 ghost use Rattle.shapes.specs.Shapes.{lineOf, Room, Piece};
 use crate::part::newline;
 use crate::part::open;
@@ -80,7 +80,7 @@ pub fn ack(
     link: Link,
 ) -> usize
     requires { ⌜ Room (now out) at (now word) ⌝ }
-    ensures { λ r. ⌜ Piece (now (out .entry)) at (lineOf nth (now (word .entry)) (plain number ∷ plain lrsn ∷ plain mean ∷ plain variance ∷ plain room ∷ packetsOf speed ∷ bytesOf speed ∷ linkOf link ∷ [])) 256 r (now (out .exit)) ⌝ }
+    ensures { λ r. ⌜ Piece (now (out .entry)) at (lineOf nth (now (word .entry)) (plain number ∷ plain lrsn ∷ plain mean ∷ plain variance ∷ plain room ∷ packetsValue speed ∷ bytesValue speed ∷ linkValue link ∷ [])) 256 r (now (out .exit)) ⌝ }
 {
     let p = open(out, at, nth, word);
     tail::ack(out, p, number, lrsn, mean, variance, room, speed, link)

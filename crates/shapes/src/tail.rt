@@ -3,7 +3,7 @@ ghost use mathlib.Core.Path.{_≡_};
 ghost use mathlib.Core.List.{[], _∷_, map};
 ghost use Prim.Native.Nat.{_+_, _*_, _≤_};
 ghost use lib.ListN.{length, take};
-ghost use Rattle.receiver.specs.Paper.{whole as Paper·whole, plain, packetsOf, bytesOf, linkOf};
+ghost use Rattle.receiver.specs.Paper.{whole as Paper·whole, plain, packetsValue, bytesValue, linkValue};
 ghost use Rattle.shapes.specs.Shapes.{spaced, closed, Piece};
 use crate::part::newline;
 use crate::part::number;
@@ -90,7 +90,7 @@ pub fn range(out: &mut [u8], at: usize, a: u64, b: u64, z: i64) -> usize
 // The figures of an ACK: `-` for no rate.
 fn speeds(out: &mut [u8], at: usize, speed: Speed) -> usize
     requires { ⌜ at + 42 ≤ length (now out) ⌝ }
-    ensures { λ r. ⌜ Piece (now (out .entry)) at (spaced (packetsOf speed ∷ bytesOf speed ∷ [])) 42 r (now (out .exit)) ⌝ }
+    ensures { λ r. ⌜ Piece (now (out .entry)) at (spaced (packetsValue speed ∷ bytesValue speed ∷ [])) 42 r (now (out .exit)) ⌝ }
 {
     match speed {
         Speed::Unknown => text::put_bytes(out, at, b" - -"),
@@ -100,7 +100,7 @@ fn speeds(out: &mut [u8], at: usize, speed: Speed) -> usize
 
 fn capacity(out: &mut [u8], at: usize, link: Link) -> usize
     requires { ⌜ at + 22 ≤ length (now out) ⌝ }
-    ensures { λ r. ⌜ Piece (now (out .entry)) at (closed (linkOf link ∷ [])) 22 r (now (out .exit)) ⌝ }
+    ensures { λ r. ⌜ Piece (now (out .entry)) at (closed (linkValue link ∷ [])) 22 r (now (out .exit)) ⌝ }
 {
     match link {
         Link::Unknown => text::put_bytes(out, at, b" -\n"),
@@ -110,7 +110,7 @@ fn capacity(out: &mut [u8], at: usize, link: Link) -> usize
 
 fn rates(out: &mut [u8], at: usize, speed: Speed, link: Link) -> usize
     requires { ⌜ at + 64 ≤ length (now out) ⌝ }
-    ensures { λ r. ⌜ Piece (now (out .entry)) at (closed (packetsOf speed ∷ bytesOf speed ∷ linkOf link ∷ [])) 64 r (now (out .exit)) ⌝ }
+    ensures { λ r. ⌜ Piece (now (out .entry)) at (closed (packetsValue speed ∷ bytesValue speed ∷ linkValue link ∷ [])) 64 r (now (out .exit)) ⌝ }
 {
     let p = speeds(out, at, speed);
     capacity(out, p, link)
@@ -118,7 +118,7 @@ fn rates(out: &mut [u8], at: usize, speed: Speed, link: Link) -> usize
 
 fn room_rates(out: &mut [u8], at: usize, room: u64, speed: Speed, link: Link) -> usize
     requires { ⌜ at + 85 ≤ length (now out) ⌝ }
-    ensures { λ r. ⌜ Piece (now (out .entry)) at (closed (plain room ∷ packetsOf speed ∷ bytesOf speed ∷ linkOf link ∷ [])) 85 r (now (out .exit)) ⌝ }
+    ensures { λ r. ⌜ Piece (now (out .entry)) at (closed (plain room ∷ packetsValue speed ∷ bytesValue speed ∷ linkValue link ∷ [])) 85 r (now (out .exit)) ⌝ }
 {
     let p = number(out, at, room);
     rates(out, p, speed, link)
@@ -134,7 +134,7 @@ fn figures(
     link: Link,
 ) -> usize
     requires { ⌜ at + 127 ≤ length (now out) ⌝ }
-    ensures { λ r. ⌜ Piece (now (out .entry)) at (closed (plain mean ∷ plain variance ∷ plain room ∷ packetsOf speed ∷ bytesOf speed ∷ linkOf link ∷ [])) 127 r (now (out .exit)) ⌝ }
+    ensures { λ r. ⌜ Piece (now (out .entry)) at (closed (plain mean ∷ plain variance ∷ plain room ∷ packetsValue speed ∷ bytesValue speed ∷ linkValue link ∷ [])) 127 r (now (out .exit)) ⌝ }
 {
     let p = pair(out, at, mean, variance);
     room_rates(out, p, room, speed, link)
@@ -152,7 +152,7 @@ pub fn ack(
     link: Link,
 ) -> usize
     requires { ⌜ at + 169 ≤ length (now out) ⌝ }
-    ensures { λ r. ⌜ Piece (now (out .entry)) at (closed (plain number ∷ plain lrsn ∷ plain mean ∷ plain variance ∷ plain room ∷ packetsOf speed ∷ bytesOf speed ∷ linkOf link ∷ [])) 169 r (now (out .exit)) ⌝ }
+    ensures { λ r. ⌜ Piece (now (out .entry)) at (closed (plain number ∷ plain lrsn ∷ plain mean ∷ plain variance ∷ plain room ∷ packetsValue speed ∷ bytesValue speed ∷ linkValue link ∷ [])) 169 r (now (out .exit)) ⌝ }
 {
     let p = pair(out, at, number, lrsn);
     figures(out, p, mean, variance, room, speed, link)

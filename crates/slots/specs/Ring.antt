@@ -14,11 +14,11 @@ abbrev pub nextSlot : ℕ → ℕ → ℕ
 nextSlot capacity s = cond (ltb (s + 1) capacity) (s + 1) 0
 
 -- the payload area has 1,456 bytes a slot
-abbrev pub placeOf : ℕ → ℕ
-placeOf s = 1456 * s
+abbrev pub payloadStart : ℕ → ℕ
+payloadStart s = 1456 * s
 
 abbrev pub payloadAt : List ℕ → ℕ → ℕ → List ℕ
-payloadAt bs s n = take n (drop (placeOf s) bs)
+payloadAt bs s n = take n (drop (payloadStart s) bs)
 
 abbrev pub withPayload : List ℕ → ℕ → List ℕ → List ℕ
-withPayload bs s p = paste bs (placeOf s) p (length p)
+withPayload bs s p = paste bs (payloadStart s) p (length p)

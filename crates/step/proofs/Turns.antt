@@ -7,12 +7,12 @@ use borrow.Author.Needs.{needs}
 use lib.IntN.{ℤ}
 use Rattle.window.specs.declared.push.Packet.{Packet}
 use Rattle.head.specs.declared.state.Head.{Head}
-use Rattle.receiver.specs.Acking.{FullAckOutcome, fullAckEnded, Ack2Outcome, ack2Ended, ack2PacketOf, fullAckEventOf}
-use Rattle.receiver.specs.Data.{DataOutcome, dataEnded, packet, dataOf}
-use Rattle.receiver.specs.Loss.{LossOutcome, lossEnded, lossOf}
-use Rattle.receiver.specs.Message.{GivenOutcome, givenEnded, messageOf}
-use Rattle.receiver.specs.Request.{DropOutcome, dropEnded, dropCallOf, ClearOutcome, clearEnded, clearOf}
-use Rattle.receiver.specs.Sync.{ClockOutcome, clockEnded, clockOf}
+use Rattle.receiver.specs.Acking.{FullAckOutcome, fullAckEnded, Ack2Outcome, ack2Ended, ack2CallOf, fullAckCallOf}
+use Rattle.receiver.specs.Data.{DataOutcome, dataEnded, packet, dataCallOf}
+use Rattle.receiver.specs.Loss.{LossOutcome, lossEnded, reportCallOf}
+use Rattle.receiver.specs.Message.{MessageOutcome, messageEnded, popCallOf}
+use Rattle.receiver.specs.Request.{DropOutcome, dropEnded, dropCallOf, ClearOutcome, clearEnded, clearCallOf}
+use Rattle.receiver.specs.Sync.{ClockOutcome, clockEnded, clockCallOf}
 use Rattle.receiver.specs.declared.acking.FullAcked.{FullAcked}
 use Rattle.receiver.specs.declared.acking.Ack2ed.{Ack2ed}
 use Rattle.receiver.specs.declared.data.Handled.{Handled}
@@ -29,28 +29,28 @@ use Rattle.step.specs.declared.Stepped.{Stepped}
 
 -- each call
 pub data-turned : (h : Head) (ws bs : List ℕ) (now : ℤ) (p : Packet) (payload : List ℕ) {r : Handled} {ws₁ bs₁ : List ℕ} {n : ℤ}
-    → dataEnded r ws₁ bs₁ ≡ dataOf h ws bs n p payload → n ≡ now
+    → dataEnded r ws₁ bs₁ ≡ dataCallOf h ws bs n p payload → n ≡ now
     → turn (stepped (r .head) (answers.Data (r .answer))) ws₁ bs₁ ≡ dataTurn h ws bs now p payload
 data-turned h ws bs now p payload e q =
     ap (λ (o : DataOutcome). turn (stepped (o .handled .head) (answers.Data (o .handled .answer))) (o .slots) (o .payloads)) e ∙ rw q
 
 pub pop-turned : (h : Head) (ws bs out : List ℕ) (now : ℤ) {r : Given} {out₁ : List ℕ} {n : ℤ}
-    → givenEnded r out₁ ≡ messageOf h ws bs out n → n ≡ now → popTurned (stepped (r .head) (answers.Pop (r .answer))) ws bs out₁ ≡ popTurn h ws bs out now
+    → messageEnded r out₁ ≡ popCallOf h ws bs out n → n ≡ now → popTurned (stepped (r .head) (answers.Pop (r .answer))) ws bs out₁ ≡ popTurn h ws bs out now
 pop-turned h ws bs out now e q =
-    ap (λ (o : GivenOutcome). popTurned (stepped (o .given .head) (answers.Pop (o .given .answer))) ws bs (o .output)) e ∙ rw q
+    ap (λ (o : MessageOutcome). popTurned (stepped (o .given .head) (answers.Pop (o .given .answer))) ws bs (o .output)) e ∙ rw q
 
 pub report-turned : (h : Head) (ws list : List ℕ) (now : ℤ) {r : Reported} {ws₁ list₁ : List ℕ} {n : ℤ}
-    → lossEnded r ws₁ list₁ ≡ lossOf h ws list n → n ≡ now → turn (stepped (r .head) (answers.Report (r .answer))) ws₁ list₁ ≡ reportTurn h ws list now
+    → lossEnded r ws₁ list₁ ≡ reportCallOf h ws list n → n ≡ now → turn (stepped (r .head) (answers.Report (r .answer))) ws₁ list₁ ≡ reportTurn h ws list now
 report-turned h ws list now e q =
     ap (λ (o : LossOutcome). turn (stepped (o .reported .head) (answers.Report (o .reported .answer))) (o .slots) (o .list)) e ∙ rw q
 
 pub full-ack-turned : (h : Head) (a : List ℕ) (now : ℤ) {r : FullAcked} {a₁ : List ℕ} {n : ℤ}
-    → fullAckEnded r a₁ ≡ fullAckEventOf h a n → n ≡ now → turn (stepped (r .head) (answers.FullAck (r .answer))) a₁ [] ≡ fullAckTurn h a now
+    → fullAckEnded r a₁ ≡ fullAckCallOf h a n → n ≡ now → turn (stepped (r .head) (answers.FullAck (r .answer))) a₁ [] ≡ fullAckTurn h a now
 full-ack-turned h a now e q =
     ap (λ (o : FullAckOutcome). turn (stepped (o .acked .head) (answers.FullAck (o .acked .answer))) (o .area) []) e ∙ rw q
 
 pub ack2-turned : (h : Head) (a : List ℕ) (now : ℤ) (number : ℕ) {r : Ack2ed} {n : ℤ}
-    → ack2Ended r ≡ ack2PacketOf h a n number → n ≡ now → turn (stepped (r .head) (answers.Ack2 (r .answer))) [] [] ≡ ack2Turn h a now number
+    → ack2Ended r ≡ ack2CallOf h a n number → n ≡ now → turn (stepped (r .head) (answers.Ack2 (r .answer))) [] [] ≡ ack2Turn h a now number
 ack2-turned h a now number e q = ap (λ (o : Ack2Outcome). turn (stepped (o .acked2 .head) (answers.Ack2 (o .acked2 .answer))) [] []) e ∙ rw q
 
 pub drop-turned : (h : Head) (ws : List ℕ) (first last : ℕ) {a : DropAnswer} {ws₁ : List ℕ}
@@ -58,10 +58,10 @@ pub drop-turned : (h : Head) (ws : List ℕ) (first last : ℕ) {a : DropAnswer}
 drop-turned h ws first last e = ap (λ (o : DropOutcome). turn (stepped h (answers.Drop (o .answer))) (o .slots) []) e
 
 pub clock-turned : (h : Head) (now : ℤ) (stamp : ℕ) {r : Clocked} {n : ℤ}
-    → clockEnded r ≡ clockOf h n stamp → n ≡ now → turn (stepped (r .head) (answers.Clock (r .answer))) [] [] ≡ clockTurn h now stamp
+    → clockEnded r ≡ clockCallOf h n stamp → n ≡ now → turn (stepped (r .head) (answers.Clock (r .answer))) [] [] ≡ clockTurn h now stamp
 clock-turned h now stamp e q = ap (λ (o : ClockOutcome). turn (stepped (o .clocked .head) (answers.Clock (o .clocked .answer))) [] []) e ∙ rw q
 
-pub clear-turned : (h : Head) {r : Cleared} → clearEnded r ≡ clearOf h → turn (stepped (r .head) (answers.Clear (r .answer))) [] [] ≡ clearTurn h
+pub clear-turned : (h : Head) {r : Cleared} → clearEnded r ≡ clearCallOf h → turn (stepped (r .head) (answers.Clear (r .answer))) [] [] ≡ clearTurn h
 clear-turned h e = ap (λ (o : ClearOutcome). turn (stepped (o .cleared .head) (answers.Clear (o .cleared .answer))) [] []) e
 
 -- the call by its case

@@ -4,13 +4,13 @@ use Prim.Native.Nat.{ℕ}
 use lib.IntN.{ℤ}
 use Rattle.window.specs.declared.push.Packet.{Packet}
 use Rattle.head.specs.declared.state.Head.{Head}
-use Rattle.receiver.specs.Acking.{ack2PacketOf, fullAckEventOf}
-use Rattle.receiver.specs.Data.{packet, dataOf}
-use Rattle.receiver.specs.Loss.{lossOf}
-use Rattle.receiver.specs.Message.{messageOf}
-use Rattle.receiver.specs.Request.{dropCallOf, clearOf}
+use Rattle.receiver.specs.Acking.{ack2CallOf, fullAckCallOf}
+use Rattle.receiver.specs.Data.{packet, dataCallOf}
+use Rattle.receiver.specs.Loss.{reportCallOf}
+use Rattle.receiver.specs.Message.{popCallOf}
+use Rattle.receiver.specs.Request.{dropCallOf, clearCallOf}
 use Rattle.receiver.specs.Paper.{Line, dataLine, messageLine, lossLine, dropLine, clearLine, clockLine, fullAckLine, rttLine}
-use Rattle.receiver.specs.Sync.{clockOf}
+use Rattle.receiver.specs.Sync.{clockCallOf}
 use Rattle.step.specs.declared.Call.{Call}
 use Rattle.step.specs.declared.Call.the-variants as calls
 use Rattle.step.specs.declared.Answer.{Answer}
@@ -50,7 +50,7 @@ stepped h a = record { head = h; answer = a }
 
 abbrev pub dataTurn : Head → List ℕ → List ℕ → ℤ → Packet → List ℕ → Turn
 dataTurn h ws bs now p payload =
-    let o = dataOf h ws bs now p payload in
+    let o = dataCallOf h ws bs now p payload in
     turn (stepped (o .handled .head) (answers.Data (o .handled .answer))) (o .slots) (o .payloads)
 
 -- of a pop, with the two areas that it only reads
@@ -65,26 +65,26 @@ popTurned r ws bs out = record { stepped = r; slots = ws; payloads = bs; output 
 
 abbrev pub popTurn : Head → List ℕ → List ℕ → List ℕ → ℤ → PopTurn
 popTurn h ws bs out now =
-    let o = messageOf h ws bs out now in
+    let o = popCallOf h ws bs out now in
     popTurned (stepped (o .given .head) (answers.Pop (o .given .answer))) ws bs (o .output)
 
 abbrev pub reportTurn : Head → List ℕ → List ℕ → ℤ → Turn
-reportTurn h ws list now = let o = lossOf h ws list now in turn (stepped (o .reported .head) (answers.Report (o .reported .answer))) (o .slots) (o .list)
+reportTurn h ws list now = let o = reportCallOf h ws list now in turn (stepped (o .reported .head) (answers.Report (o .reported .answer))) (o .slots) (o .list)
 
 abbrev pub fullAckTurn : Head → List ℕ → ℤ → Turn
-fullAckTurn h a now = let o = fullAckEventOf h a now in turn (stepped (o .acked .head) (answers.FullAck (o .acked .answer))) (o .area) []
+fullAckTurn h a now = let o = fullAckCallOf h a now in turn (stepped (o .acked .head) (answers.FullAck (o .acked .answer))) (o .area) []
 
 abbrev pub ack2Turn : Head → List ℕ → ℤ → ℕ → Turn
-ack2Turn h a now number = let o = ack2PacketOf h a now number in turn (stepped (o .acked2 .head) (answers.Ack2 (o .acked2 .answer))) [] []
+ack2Turn h a now number = let o = ack2CallOf h a now number in turn (stepped (o .acked2 .head) (answers.Ack2 (o .acked2 .answer))) [] []
 
 abbrev pub dropTurn : Head → List ℕ → ℕ → ℕ → Turn
 dropTurn h ws first last = let o = dropCallOf h ws first last in turn (stepped h (answers.Drop (o .answer))) (o .slots) []
 
 abbrev pub clockTurn : Head → ℤ → ℕ → Turn
-clockTurn h now stamp = let o = clockOf h now stamp in turn (stepped (o .clocked .head) (answers.Clock (o .clocked .answer))) [] []
+clockTurn h now stamp = let o = clockCallOf h now stamp in turn (stepped (o .clocked .head) (answers.Clock (o .clocked .answer))) [] []
 
 abbrev pub clearTurn : Head → Turn
-clearTurn h = let o = clearOf h in turn (stepped (o .cleared .head) (answers.Clear (o .cleared .answer))) [] []
+clearTurn h = let o = clearCallOf h in turn (stepped (o .cleared .head) (answers.Clear (o .cleared .answer))) [] []
 
 -- an answer on paper; the words of a report are the first of the list
 abbrev pub lineOf : Answer → List ℕ → Line

@@ -2,7 +2,7 @@
 use mathlib.Core.Path.{_≡_, refl}
 use mathlib.Core.List.{[], _∷_}
 use lib.IntN.{negsuc}
-use Rattle.text.specs.Decimal.{digits, decimal, signed}
+use Rattle.text.specs.Decimal.{digits, decimal, signedDecimal}
 use Rattle.text.specs.Put.{put}
 
 zero-digits : decimal 0 ≡ 48 ∷ []
@@ -15,8 +15,8 @@ unfolding decimal digits
 most-digits = refl
 
 -- A36's delay, -150
-below-zero : signed (negsuc 149) ≡ 45 ∷ 49 ∷ 53 ∷ 48 ∷ []
-unfolding signed decimal digits
+below-zero : signedDecimal (negsuc 149) ≡ 45 ∷ 49 ∷ 53 ∷ 48 ∷ []
+unfolding signedDecimal decimal digits
 below-zero = refl
 
 in-the-middle : put (1 ∷ 2 ∷ 3 ∷ 4 ∷ []) 1 (8 ∷ 9 ∷ []) ≡ 1 ∷ 8 ∷ 9 ∷ 4 ∷ []

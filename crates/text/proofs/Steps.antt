@@ -15,7 +15,7 @@ use mir.Syntax.{w8, w64}
 use mir.Val.{Fits}
 use lib.Seq.{paste, paste-zero, paste-suc, take-length, take-all, set-split, drop-cons, getD-set-same, drop-set-lt, append-snoc}
 use Rattle.numbers.proofs.Flags.{impossible}
-use Rattle.text.specs.Decimal.{decimal, signed}
+use Rattle.text.specs.Decimal.{decimal, signedDecimal}
 use Rattle.text.specs.Put.{put, putEnded, putOf}
 use Rattle.text.proofs.Numerals.{decimal-one, decimal-more, length-more, decimal-some, decimal-short}
 use Rattle.text.proofs.Puts.{put-then, puts, put-room}
@@ -110,15 +110,15 @@ decimal-put out at area i n e len d =
 -- put_signed; z₁ and z₂ are z as the machine reads it back
 pub signed-above : (out : List ℕ) (at : ℕ) (z : ℤ) {z₁ z₂ : ℤ} {n r : ℕ} {out₁ : List ℕ}
     → n ≡ natAbs z₁ → z₁ ≡ z → leZ (pos 0) z₂ ≡ true → z₂ ≡ z
-    → putEnded r out₁ ≡ putOf out at (decimal n) → putEnded r out₁ ≡ putOf out at (signed z)
-unfolding signed
+    → putEnded r out₁ ≡ putOf out at (decimal n) → putEnded r out₁ ≡ putOf out at (signedDecimal z)
+unfolding signedDecimal
 signed-above out at (pos m) size p h q e = e ∙ ap (λ (k : ℕ). putOf out at (decimal k)) (size ∙ ap natAbs p)
 signed-above out at (negsuc m) size p h q e = impossible (sym (rw q at h))
 
 pub signed-below : (out : List ℕ) (at : ℕ) (z : ℤ) {z₁ z₂ : ℤ} {n r s : ℕ} {out₁ out₂ : List ℕ}
     → n ≡ natAbs z₁ → z₁ ≡ z → leZ (pos 0) z₂ ≡ false → z₂ ≡ z → at + 21 ≤ length out
-    → putEnded r out₁ ≡ putOf out at (45 ∷ []) → putEnded s out₂ ≡ putOf out₁ r (decimal n) → putEnded s out₂ ≡ putOf out at (signed z)
-unfolding signed
+    → putEnded r out₁ ≡ putOf out at (45 ∷ []) → putEnded s out₂ ≡ putOf out₁ r (decimal n) → putEnded s out₂ ≡ putOf out at (signedDecimal z)
+unfolding signedDecimal
 signed-below out at (pos m) size p h q room e f = impossible (sym (leb·zero m) ∙ rw q at h)
 signed-below out at (negsuc m) {r = r} {out₁ = out₁} size p h q room e f =
     put-then out at (45 ∷ []) (decimal (suc m)) e (f ∙ ap (λ (k : ℕ). putOf out₁ r (decimal k)) (size ∙ ap natAbs p)) (omega arith)

@@ -14,6 +14,6 @@ digits (suc k) n = let more = digits k (n / 10) ++ ((48 + n % 10) ∷ []) in con
 unfoldable pub decimal : ℕ → List ℕ
 decimal n = digits (suc n) n
 
-unfoldable pub signed : ℤ → List ℕ
-signed (pos n) = decimal n
-signed (negsuc n) = 45 ∷ decimal (suc n)
+unfoldable pub signedDecimal : ℤ → List ℕ
+signedDecimal (pos n) = decimal n
+signedDecimal (negsuc n) = 45 ∷ decimal (suc n)

@@ -4,7 +4,7 @@ ghost use mathlib.Core.Path.{_≡_};
 ghost use mathlib.Core.List.{[], _∷_};
 ghost use Prim.Native.Nat.{_+_, _<_, _≤_};
 ghost use lib.ListN.{length, drop};
-ghost use Rattle.text.specs.Decimal.{decimal, signed};
+ghost use Rattle.text.specs.Decimal.{decimal, signedDecimal};
 ghost use Rattle.text.specs.Put.{putEnded, putOf};
 
 pub fn put_byte(out: &mut [u8], at: usize, b: u8) -> usize
@@ -55,7 +55,7 @@ pub fn put_decimal(out: &mut [u8], at: usize, n: u64) -> usize
 
 pub fn put_signed(out: &mut [u8], at: usize, z: i64) -> usize
     requires { ⌜ at + 21 ≤ length (now out) ⌝ }
-    ensures { λ r. ⌜ putEnded r (now (out .exit)) ≡ putOf (now (out .entry)) at (signed z) ⌝ }
+    ensures { λ r. ⌜ putEnded r (now (out .exit)) ≡ putOf (now (out .entry)) at (signedDecimal z) ⌝ }
 {
     let n = numbers::instant::size(z);
     if 0 <= z {

@@ -11,7 +11,7 @@ use lib.IntN.{ℤ}
 use lib.ListN.{length, take, drop, replicate, length-append, length-drop, length-replicate}
 use lib.Seq.{drop-append-le, take-append-le, take-at}
 use Rattle.numbers.proofs.Flags.{by-test, by-bool, by-order, impossible}
-use Rattle.dlt.specs.Record.{recordOf, sizeOf, fixedOf}
+use Rattle.dlt.specs.Record.{recordOf, sizeOf, leastSize}
 use Rattle.dlt.specs.declared.record.RecordRead.{RecordRead}
 use Rattle.dlt.specs.declared.record.RecordRead.the-variants as records
 use Rattle.dlt.specs.Header.{headerOf}
@@ -63,7 +63,7 @@ not-short (records.Clock time stamp) h = refl
 not-short records.Clear h = refl
 
 none-short : recordOf [] ≡ records.Short
-unfolding recordOf fixedOf
+unfolding recordOf leastSize
 none-short = refl
 
 whole-some : (xs : List ℕ) → (recordOf xs ≡ records.Short → ⊥) → 0 < length xs
@@ -260,7 +260,7 @@ turn-moves t a hand last line =
 
 -- the line of a file that is no trace
 pub bad-start : badBytes 0 ≡ 98 ∷ 97 ∷ 100 ∷ 32 ∷ 48 ∷ 10 ∷ []
-unfolding lines.badBytes shapes.closed shapes.spaced decimals.signed decimals.decimal decimals.digits
+unfolding lines.badBytes shapes.closed shapes.spaced decimals.signedDecimal decimals.decimal decimals.digits
 bad-start = refl
 
 -- there is such a run for every file: with a line that is long enough each turn gives a record's line or the last one, and each record has a byte at least

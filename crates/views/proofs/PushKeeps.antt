@@ -18,12 +18,12 @@ use Rattle.slots.specs.Ring.{withPayload}
 use Rattle.slots.proofs.Laws.{length-write, length-payload, slot-lt}
 use Rattle.window.specs.Window.{Good, Bytes, slotIn, entryIn, nextOf, roomOf, firstGap}
 use Rattle.window.specs.Push as push
-use Rattle.window.specs.Push.{PushOutcome, Right, withLost, movedPast, recoveredLrsn, appendNextOf, appendWithLossOf, recoveredOf, recoverOf, pushOf}
+use Rattle.window.specs.Push.{PushOutcome, PacketRight, withLost, movedPast, recoveredLrsn, appendNextOf, appendWithLossOf, recoveredOf, recoverOf, pushOf}
 use Rattle.window.specs.declared.Window.{Window}
 use Rattle.window.specs.declared.push.Packet.{Packet}
 use Rattle.window.proofs.Pushes.{length-lost}
 
-module _ (w : Window) (ws bs : List ℕ) (time : ℕ) (p : Packet) (payload : List ℕ) (g : Good w ws) (gb : Bytes w bs) (r : Right p payload) where
+module _ (w : Window) (ws bs : List ℕ) (time : ℕ) (p : Packet) (payload : List ℕ) (g : Good w ws) (gb : Bytes w bs) (r : PacketRight p payload) where
   abbrev Kept : PushOutcome → Type 0
   Kept o = Good (o .pushed .window) (o .slots) × Bytes (o .pushed .window) (o .payloads)
 

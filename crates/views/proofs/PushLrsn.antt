@@ -22,7 +22,7 @@ use Rattle.slots.specs.declared.entry.Entry.{Entry}
 use Rattle.slots.specs.declared.entry.Entry.the-variants.{Lost, Received, GivenUp}
 use Rattle.window.specs.Window.{Good, Bytes, slotIn, entryIn, nextOf, numberIn, roomOf, lrsnFrom}
 use Rattle.window.specs.Push as push
-use Rattle.window.specs.Push.{PushOutcome, Right, movedPast, appendNextOf, appendWithLossOf, recoveredOf, recoverOf, pushOf}
+use Rattle.window.specs.Push.{PushOutcome, PacketRight, movedPast, appendNextOf, appendWithLossOf, recoveredOf, recoverOf, pushOf}
 use Rattle.window.specs.declared.Window.{Window}
 use Rattle.window.specs.declared.push.Packet.{Packet}
 use Rattle.views.specs.View.{Seen, lost, givenUp, seenOf, seenAt, isReceived, entriesFrom, entries, gapIn, LrsnRight, packetSeen}
@@ -43,7 +43,7 @@ lost-behind es (suc n) k f fs h =
     (λ o. gap-append es (replicate (suc n) (lost k f) ++ fs) o)
     (λ o. let m = gap-most es in gap-whole es (replicate (suc n) (lost k f) ++ fs) (omega arith) ∙ omega arith)
 
-module _ (w : Window) (ws bs : List ℕ) (time : ℕ) (p : Packet) (payload : List ℕ) (g : Good w ws) (gb : Bytes w bs) (r : Right p payload) (ht : time < 2 ^ 60) (hs : p .stamp < 2 ^ 32) (l : LrsnRight w (entries w ws bs)) where
+module _ (w : Window) (ws bs : List ℕ) (time : ℕ) (p : Packet) (payload : List ℕ) (g : Good w ws) (gb : Bytes w bs) (r : PacketRight p payload) (ht : time < 2 ^ 60) (hs : p .stamp < 2 ^ 32) (l : LrsnRight w (entries w ws bs)) where
   abbrev es : List Seen
   es = entries w ws bs
 

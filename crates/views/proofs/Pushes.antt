@@ -25,7 +25,7 @@ use Rattle.slots.specs.declared.entry.Entry.the-variants.{Lost}
 use Rattle.slots.proofs.Laws.{read-same, payload-same, slot-lt, slot-apart}
 use Rattle.window.specs.Window.{Good, Bytes, slotIn, entryIn, nextOf, numberIn, roomOf}
 use Rattle.window.specs.Push as push
-use Rattle.window.specs.Push.{PushOutcome, Right, withLost, appendNextOf, appendWithLossOf, recoveredOf, recoverOf, pushOf}
+use Rattle.window.specs.Push.{PushOutcome, PacketRight, withLost, appendNextOf, appendWithLossOf, recoveredOf, recoverOf, pushOf}
 use Rattle.window.specs.declared.Window.{Window}
 use Rattle.window.specs.declared.push.Packet.{Packet}
 use Rattle.window.specs.declared.push.PushAnswer.the-variants as answers
@@ -33,7 +33,7 @@ use Rattle.window.proofs.Pushes.{length-lost}
 use Rattle.views.specs.View.{Seen, lost, seenAt, entriesFrom, entries, packetSeen, afterPush}
 use Rattle.views.proofs.Lists.{seen-other, seen-words, one-more, one-changed}
 
-module _ (w : Window) (ws bs : List ℕ) (time : ℕ) (p : Packet) (payload : List ℕ) (g : Good w ws) (gb : Bytes w bs) (r : Right p payload) (ht : time < 2 ^ 60) (hs : p .stamp < 2 ^ 32) where
+module _ (w : Window) (ws bs : List ℕ) (time : ℕ) (p : Packet) (payload : List ℕ) (g : Good w ws) (gb : Bytes w bs) (r : PacketRight p payload) (ht : time < 2 ^ 60) (hs : p .stamp < 2 ^ 32) where
   abbrev pub es : List Seen
   es = entries w ws bs
 

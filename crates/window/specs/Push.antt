@@ -29,7 +29,7 @@ abbrev pub pushEnded : Pushed → List ℕ → List ℕ → PushOutcome
 pushEnded r ws bs = record { pushed = r; slots = ws; payloads = bs }
 
 -- what refusals 5 and 6 have shown of a packet
-pub record Right (p : Packet) (payload : List ℕ) : Type 0 where
+pub record PacketRight (p : Packet) (payload : List ℕ) : Type 0 where
   pub number : p .number < 2 ^ 31
   pub message : p .message < 2 ^ 26
   pub location : p .location < 4

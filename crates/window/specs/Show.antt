@@ -8,7 +8,7 @@ use lib.Dec.{ltb}
 use lib.ListN.{take, drop}
 use Rattle.numbers.specs.Circular.{distance}
 use Rattle.slots.specs.Words.{isReceived, lengthIn}
-use Rattle.slots.specs.Ring.{placeOf}
+use Rattle.slots.specs.Ring.{payloadStart}
 use Rattle.window.specs.Window.{slotIn, entryIn}
 use Rattle.window.specs.declared.Window.{Window}
 use Rattle.window.specs.declared.show.Place.{Place}
@@ -31,5 +31,5 @@ unfoldable pub shownOf : Window → List ℕ → ℕ → Place
 shownOf w ws number =
     let i = distance 31 number (w .seqno0) in
     cond (ltb i (w .held) && isReceived (entryIn w ws i))
-    (record { received = true; at = placeOf (slotIn w i); len = lengthIn (entryIn w ws i) })
+    (record { received = true; at = payloadStart (slotIn w i); len = lengthIn (entryIn w ws i) })
     nowhere

@@ -7,7 +7,7 @@ ghost use Rattle.numbers.specs.Circular.{before};
 ghost use Rattle.slots.specs.Words.{writeAt};
 ghost use Rattle.slots.specs.Ring.{withPayload};
 ghost use Rattle.window.specs.Window.{Ring, Good, Bytes, nextOf};
-ghost use Rattle.window.specs.Push.{Right, pushEnded, received, movedPast, withLost, recoveredLrsn, appendNextOf, appendWithLossOf, recoveredOf, recoverOf, pushOf};
+ghost use Rattle.window.specs.Push.{PacketRight, pushEnded, received, movedPast, withLost, recoveredLrsn, appendNextOf, appendWithLossOf, recoveredOf, recoverOf, pushOf};
 use crate::Window;
 use numbers::seq::Order;
 use slots::entry::Entry;
@@ -74,7 +74,7 @@ fn append_lost(
 
 // Puts a packet into slot s of both areas.
 fn put_packet(words: &mut [u64], bytes: &mut [u8], s: usize, p: Packet, payload: &[u8])
-    requires { ⌜ (3 * s + 3 ≤ length (now words)) × (1456 * s + 1456 ≤ length (now bytes)) × Right p (now payload) ⌝ }
+    requires { ⌜ (3 * s + 3 ≤ length (now words)) × (1456 * s + 1456 ≤ length (now bytes)) × PacketRight p (now payload) ⌝ }
     ensures { λ _. ⌜ (now (words .exit) ≡ writeAt (now (words .entry)) s (received p (now (payload .entry))))
         × (now (bytes .exit) ≡ withPayload (now (bytes .entry)) s (now (payload .entry))) ⌝ }
 {
@@ -100,7 +100,7 @@ fn append_next(
     p: Packet,
     payload: &[u8],
 ) -> Pushed
-    requires { ⌜ Good w (now words) × Bytes w (now bytes) × Right p (now payload) ⌝ }
+    requires { ⌜ Good w (now words) × Bytes w (now bytes) × PacketRight p (now payload) ⌝ }
     ensures { λ r. ⌜ pushEnded r (now (words .exit)) (now (bytes .exit)) ≡ appendNextOf w (now (words .entry)) (now (bytes .entry)) time p (now (payload .entry)) ⌝ }
 {
     if w.held == w.capacity {
@@ -137,7 +137,7 @@ fn append_with_loss(
     payload: &[u8],
     gap: usize,
 ) -> Pushed
-    requires { ⌜ Good w (now words) × Bytes w (now bytes) × Right p (now payload) × (time < 2 ^ 60) × (gap < 2 ^ 31) ⌝ }
+    requires { ⌜ Good w (now words) × Bytes w (now bytes) × PacketRight p (now payload) × (time < 2 ^ 60) × (gap < 2 ^ 31) ⌝ }
     ensures { λ r. ⌜ pushEnded r (now (words .exit)) (now (bytes .exit)) ≡ appendWithLossOf w (now (words .entry)) (now (bytes .entry)) time p (now (payload .entry)) gap ⌝ }
 {
     let room = crate::room(w);
@@ -187,7 +187,7 @@ fn take_recovered(
     payload: &[u8],
     i: usize,
 ) -> Pushed
-    requires { ⌜ Good w (now words) × Bytes w (now bytes) × Right p (now payload) × (i ≤ w .held) ⌝ }
+    requires { ⌜ Good w (now words) × Bytes w (now bytes) × PacketRight p (now payload) × (i ≤ w .held) ⌝ }
     ensures { λ r. ⌜ pushEnded r (now (words .exit)) (now (bytes .exit)) ≡ recoveredOf w (now (words .entry)) (now (bytes .entry)) time p (now (payload .entry)) i ⌝ }
 {
     let s = slots::ring::slot(w.capacity, w.start, i);
@@ -217,7 +217,7 @@ fn recover(
     p: Packet,
     payload: &[u8],
 ) -> Pushed
-    requires { ⌜ Good w (now words) × Bytes w (now bytes) × Right p (now payload) × (before 31 (p .number) (nextOf w) ≡ true) ⌝ }
+    requires { ⌜ Good w (now words) × Bytes w (now bytes) × PacketRight p (now payload) × (before 31 (p .number) (nextOf w) ≡ true) ⌝ }
     ensures { λ r. ⌜ pushEnded r (now (words .exit)) (now (bytes .exit)) ≡ recoverOf w (now (words .entry)) (now (bytes .entry)) time p (now (payload .entry)) ⌝ }
 {
     let past = numbers::seq::distance(p.number, w.seqno0);
@@ -247,7 +247,7 @@ pub fn push(
     p: Packet,
     payload: &[u8],
 ) -> Pushed
-    requires { ⌜ Good w (now words) × Bytes w (now bytes) × Right p (now payload) × (time < 2 ^ 60) ⌝ }
+    requires { ⌜ Good w (now words) × Bytes w (now bytes) × PacketRight p (now payload) × (time < 2 ^ 60) ⌝ }
     ensures { λ r. ⌜ pushEnded r (now (words .exit)) (now (bytes .exit)) ≡ pushOf w (now (words .entry)) (now (bytes .entry)) time p (now (payload .entry)) ⌝ }
 {
     let next = crate::number(w, w.held);

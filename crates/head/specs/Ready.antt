@@ -1,0 +1,52 @@
+-- What a call that nothing refused may count on, a test each of 01, "Refused, in order of test": the premises of the functions below the public calls.
+use mathlib.Core.Path.{_≡_}
+use mathlib.Core.Bool.{true, false}
+use mathlib.Core.List.{List}
+use Prim.Native.Nat.{ℕ, _^_, _<_, _≤_}
+use lib.IntN.{ℤ}
+use lib.Signed.{ltZ}
+use Rattle.numbers.specs.Whole.{isReading}
+use Rattle.clock.specs.Ranges.{clockOk}
+use Rattle.acks.specs.Rtt.{rttOk}
+use Rattle.acks.specs.Rates.{arrivalsOk, linksOk}
+use Rattle.acks.specs.History.{historyOk}
+use Rattle.window.specs.Window.{Good, Bytes}
+use Rattle.window.specs.Push.{PacketRight}
+use Rattle.window.specs.declared.Window.{Window}
+use Rattle.window.specs.declared.push.Packet.{Packet}
+use Rattle.head.specs.Head.{windowOk}
+use Rattle.head.specs.declared.state.Head.{Head}
+
+-- the parts of a head in range
+pub record InRange (h : Head) : Type 0 where
+  pub window : windowOk (h .window) ≡ true
+  pub latency : h .latency ≤ 65535000
+  pub clock : clockOk (h .clock) ≡ true
+  pub rtt : rttOk (h .rtt) ≡ true
+  pub arrivals : arrivalsOk (h .arrivals) ≡ true
+  pub links : linksOk (h .links) ≡ true
+  pub history : historyOk (h .history) ≡ true
+  pub latest : isReading (h .latest) ≡ true
+
+-- the parts of a window in range
+pub record InWindow (w : Window) : Type 0 where
+  pub some : 0 < w .capacity
+  pub most : w .capacity ≤ 8192
+  pub starts : w .start < w .capacity
+  pub holds : w .held ≤ w .capacity
+  pub first : w .seqno0 < 2 ^ 31
+  pub next : w .lrsn < 2 ^ 31
+
+-- what every call with a reading has
+pub record Timed (h : Head) (now : ℤ) : Type 0 where
+  pub head : InRange h
+  pub reading : isReading now ≡ true
+  pub later : ltZ now (h .latest) ≡ false
+
+-- a push that nothing refused
+pub record PushReady (h : Head) (ws bs : List ℕ) (now : ℤ) (p : Packet) (payload : List ℕ) : Type 0 where
+  pub head : InRange h
+  pub reading : isReading now ≡ true
+  pub good : Good (h .window) ws
+  pub payloads : Bytes (h .window) bs
+  pub right : PacketRight p payload
