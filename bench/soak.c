@@ -9,24 +9,10 @@
 #include <stdlib.h>
 #include <time.h>
 
-enum { HEAD = 79, CELLS = 10, COUNTERS = 10, CAPACITY = 1024, SLOT = 3, PAYLOAD = 1456, HISTORY = 2048 };
-enum { GOT = 0, LIGHT = 1, LOSS = 2, MESSAGE = 4, ACK = 7, RTT = 8, ADJUSTED = 10, NONE = 13 };
-enum { TOO_LATE = 9, DUPLICATE = 10, PACE = 3 };
+#include "pursethistle.h"
 
-uint32_t pt_new(uint64_t head[HEAD], int64_t answer[CELLS], int64_t start, uint32_t latency, bool late_drop, uint32_t first,
-                size_t capacity);
-uint32_t pt_counted_handle_data_packet(uint64_t head[HEAD], uint64_t counters[COUNTERS], int64_t answer[CELLS], uint64_t *slots,
-                                       size_t slots_len, uint8_t *payloads, size_t payloads_len, int64_t now, uint32_t number,
-                                       uint32_t message, uint32_t location, uint32_t stamp, const uint8_t *payload,
-                                       size_t payload_len);
-uint32_t pt_pop_next_message(uint64_t head[HEAD], int64_t answer[CELLS], const uint64_t *slots, size_t slots_len,
-                             const uint8_t *payloads, size_t payloads_len, uint8_t *output, size_t output_len, int64_t now);
-uint32_t pt_on_full_ack_event(uint64_t head[HEAD], int64_t answer[CELLS], uint64_t *history, size_t history_len, int64_t now);
-uint32_t pt_handle_ack2_packet(uint64_t head[HEAD], int64_t answer[CELLS], const uint64_t *history, size_t history_len, int64_t now,
-                               uint32_t number);
-
-uint32_t pt_synchronize_clock(uint64_t head[HEAD], int64_t answer[CELLS], int64_t now, uint32_t stamp);
-
+enum { HEAD = PT_HEAD_WORDS, CELLS = PT_ANSWER_CELLS, COUNTERS = PT_COUNTERS, CAPACITY = 1024, SLOT = PT_SLOT_WORDS };
+enum { PAYLOAD = PT_PAYLOAD_BYTES, HISTORY = PT_HISTORY_WORDS, PACE = 3 };
 static uint64_t head[HEAD], counters[COUNTERS], slots[SLOT * CAPACITY], history[HISTORY];
 static int64_t answer[CELLS];
 static uint8_t payloads[PAYLOAD * CAPACITY];
@@ -54,7 +40,7 @@ static uint32_t push(uint64_t index, int64_t now) {
 }
 
 static void check_got(uint64_t index, uint32_t refusal, int recovered) {
-    if (refusal != 0 || (answer[0] != GOT && answer[0] != LIGHT) || answer[2] != recovered) fail("push", index, refusal);
+    if (refusal != 0 || (answer[0] != PT_WORD_GOT && answer[0] != PT_WORD_LIGHT) || answer[2] != recovered) fail("push", index, refusal);
     if (answer[1] != (int64_t)((first + acknowledged) % WIDTH)) fail("number to acknowledge", index, refusal);
 }
 
@@ -65,7 +51,7 @@ static void append(uint64_t index, int64_t now) {
     if (gap) {
         /* Only the packet right before it is missing. */
         int64_t before = (int64_t)((first + index - 1) % WIDTH);
-        if (refusal != 0 || answer[0] != LOSS || answer[1] != before || answer[2] != before) fail("loss", index, refusal);
+        if (refusal != 0 || answer[0] != PT_WORD_LOSS || answer[1] != before || answer[2] != before) fail("loss", index, refusal);
         losses++;
         waiting = 1;
         return;
@@ -85,8 +71,8 @@ static void recover(uint64_t index, int64_t now) {
 /* A packet that was there already: still held, or gone out. */
 static void repeat(uint64_t index, int64_t now) {
     uint32_t refusal = push(index, now);
-    if (refusal != (index < messages ? TOO_LATE : DUPLICATE)) fail("repeat", index, refusal);
-    late += refusal == TOO_LATE;
+    if (refusal != (index < messages ? PT_PACKET_TOO_LATE : PT_DISCARDED_DUPLICATE)) fail("repeat", index, refusal);
+    late += refusal == PT_PACKET_TOO_LATE;
     repeats++;
 }
 
@@ -96,10 +82,10 @@ static int pop(int64_t now) {
     uint32_t refusal =
         pt_pop_next_message(head, answer, slots, SLOT * CAPACITY, payloads, PAYLOAD * CAPACITY, output, sizeof output, now);
     if (refusal != 0) fail("pop", messages, refusal);
-    if (answer[0] == NONE) return 0;
+    if (answer[0] == PT_WORD_NONE) return 0;
     uint64_t index = 0;
     for (int i = 0; i < 8; i++) index |= (uint64_t)output[i] << (8 * i);
-    if (answer[0] != MESSAGE || answer[2] != 8 || answer[3] != 1) fail("pop", messages, refusal);
+    if (answer[0] != PT_WORD_MESSAGE || answer[2] != 8 || answer[3] != 1) fail("pop", messages, refusal);
     if (answer[1] != (int64_t)(PACE * messages)) fail("release time", messages, refusal);
     if (index != messages) fail("order or bytes", messages, refusal);
     messages++;
@@ -110,19 +96,19 @@ static int pop(int64_t now) {
 static void acknowledge(int64_t now) {
     uint32_t refusal = pt_on_full_ack_event(head, answer, history, HISTORY, now);
     if (refusal != 0) fail("ack", messages, refusal);
-    if (answer[0] != ACK) return;
+    if (answer[0] != PT_WORD_ACK) return;
     acks++;
     if ((uint64_t)answer[1] != acks) fail("ack number", messages, refusal);
     refusal = pt_handle_ack2_packet(head, answer, history, HISTORY, now, (uint32_t)acks);
-    if (refusal != 0 || answer[0] != RTT) fail("ack2", messages, refusal);
+    if (refusal != 0 || answer[0] != PT_WORD_RTT) fail("ack2", messages, refusal);
 }
 
 /* A clock sample without drift: each thousand of them moves the reference on, which keeps the stamps near it. */
 static void synchronize(int64_t now) {
     uint32_t refusal = pt_synchronize_clock(head, answer, now, (uint32_t)now);
-    if (refusal != 0 || (answer[0] != NONE && answer[0] != ADJUSTED) || answer[1] != 0 || answer[2] != 0)
+    if (refusal != 0 || (answer[0] != PT_WORD_NONE && answer[0] != PT_WORD_ADJUSTED) || answer[1] != 0 || answer[2] != 0)
         fail("clock", messages, refusal);
-    adjustments += answer[0] == ADJUSTED;
+    adjustments += answer[0] == PT_WORD_ADJUSTED;
 }
 
 static double seconds(void) {

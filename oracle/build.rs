@@ -1,10 +1,7 @@
 // Lays out the Rust's files for the compiler. Each of the receiver's four modules becomes two includes: docs/src's file as it
 // stands, and a file of src/look that adds functions to read its private fields. receiver/mod.rs is copied, because its `mod` lines
-// look beside it, and the copy is compared with the file it came from. With the feature `library` it also finds the port's archive.
-use std::{
-    env, fs,
-    path::{Path, PathBuf},
-};
+// look beside it, and the copy is compared with the file it came from.
+use std::{env, fs, path::Path};
 
 fn main() {
     let here = env::var("CARGO_MANIFEST_DIR").unwrap();
@@ -21,22 +18,4 @@ fn main() {
     assert_eq!(fs::read(source.join("mod.rs")).unwrap(), fs::read(out.join("mod.rs")).unwrap());
     println!("cargo:rerun-if-changed=../docs/src");
     println!("cargo:rerun-if-changed=src/look");
-    println!("cargo:rerun-if-env-changed=PURSETHISTLE_LIB");
-    if env::var_os("CARGO_FEATURE_LIBRARY").is_some() {
-        archive(Path::new(&here));
-    }
-}
-
-/// The port's archive: PURSETHISTLE_LIB, else the one that `rt staticlib exports` leaves. It is copied, so that its name is the one
-/// the linker looks for.
-fn archive(here: &Path) {
-    let named = env::var_os("PURSETHISTLE_LIB").map(PathBuf::from);
-    let from = named.unwrap_or_else(|| here.join("../target/staticlib/libexports.a"));
-    println!("cargo:rerun-if-changed={}", from.display());
-    let out = PathBuf::from(env::var("OUT_DIR").unwrap());
-    if let Err(error) = fs::copy(&from, out.join("libexports.a")) {
-        eprintln!("{}: {error}; build it with `rt staticlib exports`, or name it with PURSETHISTLE_LIB", from.display());
-        std::process::exit(1);
-    }
-    println!("cargo:rustc-link-search=native={}", out.display());
 }
