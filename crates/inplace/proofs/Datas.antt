@@ -38,7 +38,7 @@ use Rattle.head.specs.declared.state.Head.{Head}
 use Rattle.head.specs.Ready.{PushReady}
 use Rattle.head.proofs.Ready.{push-ready}
 use Rattle.receiver.specs.Data.{pushRefused, gotAnswer, placedOf, ackedOf, ratedOf, gotOf, afterPush, takenOf, dataCallOf, packet}
-use Rattle.receiver.proofs.Datas.{arrivals-fit, links-fit}
+use Rattle.receiver.proofs.Datas.{arrivals-fit, links-fit, reading-under}
 use Rattle.receiver.specs.Paper.{dataLine}
 use Rattle.receiver.specs.declared.data.DataAnswer.{DataAnswer}
 use Rattle.receiver.specs.declared.data.DataAnswer.the-variants as answers
@@ -134,12 +134,12 @@ module _ (ws : List ℕ) (w : Window) (a : PushAnswer) (now : ℤ) (number size 
 
 -- take_packet
 module _ (ws : List ℕ) (w : Window) (slots bs : List ℕ) (now : ℤ) (p : Packet) (payload : List ℕ) where
-  pub taken-by : {u : Pushed} {z z₁ : ℤ} {slots₁ bs₁ vs : List ℕ} {r : DataAnswer}
+  pub taken-by : {u : Pushed} {z z₁ : ℤ} {t : ℕ} {slots₁ bs₁ vs : List ℕ} {r : DataAnswer}
       → heard r vs ≡ afterPushIn ws (u .window) (u .answer) z₁ (p .number) (length payload) → z₁ ≡ now
-      → pushEnded u slots₁ bs₁ ≡ pushOf w slots bs (natAbs z) p payload → z ≡ now → dataLeft r vs slots₁ bs₁ ≡ takenBy ws w slots bs now p payload
+      → pushEnded u slots₁ bs₁ ≡ pushOf w slots bs t p payload → t ≡ natAbs z → z ≡ now → dataLeft r vs slots₁ bs₁ ≡ takenBy ws w slots bs now p payload
   unfolding takenBy
-  taken-by {u = u} {slots₁ = slots₁} {bs₁ = bs₁} {vs = vs} {r = r} g k f q =
-      let a : pushEnded u slots₁ bs₁ ≡ pushOf w slots bs (natAbs now) p payload = f ∙ rw q in
+  taken-by {u = u} {slots₁ = slots₁} {bs₁ = bs₁} {vs = vs} {r = r} g k f n q =
+      let a : pushEnded u slots₁ bs₁ ≡ pushOf w slots bs (natAbs now) p payload = f ∙ rw (n, q) in
       let b : heard r vs ≡ afterPushIn ws (u .window) (u .answer) now (p .number) (length payload) = g ∙ rw k in
       ap (λ (x : Heard). dataLeft (x .answer) (x .words) slots₁ bs₁) b
       ∙ ap (λ (o : PushOutcome). let x = afterPushIn ws (o .pushed .window) (o .pushed .answer) now (p .number) (length payload) in dataLeft (x .answer) (x .words) (o .slots) (o .payloads)) a
@@ -323,7 +323,7 @@ pub ruleset rates-in = (rated-put, placed-put, acked-light, acked-got, needs)
 
 pub ruleset gots-in = (got-recovered, got-appended, after-got, after-loss, after-refused, needs)
 
-pub ruleset pushes-in = (taken-by, refusal-by, needs)
+pub ruleset pushes-in = (taken-by, reading-under, refusal-by, needs)
 
 pub ruleset takes-in = (take-ready, take-is, needs)
 

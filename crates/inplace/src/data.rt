@@ -148,7 +148,7 @@ fn after_push(ws: &mut [u64; 79], pushed: Pushed, time: i64, number: u32, size: 
     got(ws, window, lrsn, recovered, time, number, size)
 }
 
-// The call, once nothing refuses it.
+// The call, once nothing refuses it. A reading is not negative, so the window takes it without its sign.
 fn take_packet(
     ws: &mut [u64; 79],
     w: Window,
@@ -163,7 +163,8 @@ fn take_packet(
 {
     let number = p.number;
     let size = payload.len() as u32;
-    let pushed = receiver::data::push_at(w, slots, bytes, time, p, payload);
+    let t = numbers::instant::size(time);
+    let pushed = window::push::push(w, slots, bytes, t, p, payload);
     after_push(ws, pushed, time, number, size)
 }
 

@@ -124,7 +124,7 @@ fn after_push(h: Head, pushed: Pushed, time: i64, number: u32, size: u32) -> Han
 }
 
 // The push alone: a reading is not negative, so the window takes it without its sign.
-pub fn push_at(
+fn push_at(
     w: Window,
     words: &mut [u64],
     bytes: &mut [u8],

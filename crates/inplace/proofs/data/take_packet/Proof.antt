@@ -9,6 +9,7 @@ take-packet-spec =
     (λ c. search pushes-in)
     (λ c κs. search pushes-in)
     (λ c κs. search pushes-in)
+    (λ c κs. search pushes-in)
     (λ c. search pushes-in)
     (λ c. search pushes-in)
     (λ c. search pushes-in))
