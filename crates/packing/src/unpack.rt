@@ -54,7 +54,7 @@ pub fn window(ws: &[u64; 79]) -> Window
     }
 }
 
-fn base(ws: &[u64; 79]) -> TimeBase
+pub fn base(ws: &[u64; 79]) -> TimeBase
     ensures { λ r. ⌜ r ≡ baseOf (now (ws .entry)) ⌝ }
 {
     TimeBase {

@@ -100,7 +100,7 @@ fn message_in_front(w: Window, words: &[u64]) -> Message
 }
 
 // Puts the payload in slot s, n bytes of it, into the output.
-fn put_payload(bytes: &[u8], s: usize, n: usize, out: &mut [u8], at: usize)
+pub fn put_payload(bytes: &[u8], s: usize, n: usize, out: &mut [u8], at: usize)
     requires { ⌜ (n ≤ 1456) × (1456 * s + 1456 ≤ length (now bytes)) × (at + n ≤ length (now out)) ⌝ }
     ensures { λ _. ⌜ now (out .exit) ≡ paste (now (out .entry)) at (payloadAt (now (bytes .entry)) s n) n ⌝ }
 {
@@ -127,7 +127,7 @@ fn fill(words: &[u64], bytes: &[u8], capacity: usize, start: usize, count: usize
 }
 
 // An entry's time + latency.
-fn due(base: TimeBase, latency: u32, stamp: u32) -> i64
+pub fn due(base: TimeBase, latency: u32, stamp: u32) -> i64
     requires { ⌜ (natAbs (base .time) ≤ 2 ^ 61) × (latency ≤ 65535000) ⌝ }
     ensures { λ r. ⌜ r ≡ dueOf base latency stamp ⌝ }
 {
