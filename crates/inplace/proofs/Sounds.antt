@@ -32,10 +32,10 @@ use Rattle.packing.specs.Packed.{at, sixteen, sixteenOf, numbersFormed, firstFo
 use Rattle.inplace.specs.Sound.{bitsTo, raisedTo, allSmall, placesOk, partsOk}
 
 -- bits, raised_bits
-or-left : (a b : ℕ) → a ≤ bitOr a b
+pub or-left : (a b : ℕ) → a ≤ bitOr a b
 or-left a b = let k = or-add-and a b in let l = and-le-r a b in omega arith
 
-or-right : (a b : ℕ) → b ≤ bitOr a b
+pub or-right : (a b : ℕ) → b ≤ bitOr a b
 or-right a b = let k = or-add-and a b in let l = and-le-l a b in omega arith
 
 module _ (ws : List ℕ) (i : ℕ) where

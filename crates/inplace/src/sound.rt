@@ -5,7 +5,7 @@ ghost use Rattle.acks.specs.Rates.{timeOk};
 ghost use Rattle.head.specs.Head.{headOk};
 ghost use Rattle.packing.specs.Words.{momentOf};
 ghost use Rattle.packing.specs.Packed.{unpackOf};
-ghost use Rattle.inplace.specs.Sound.{Typed, bitsTo, raisedTo, allSmall, placesOk, partsOk};
+ghost use Rattle.inplace.specs.Sound.{Typed, bitsTo, raisedTo, allSmall, placesOk, partsOk, fewBits, beside, besideAll, finite, windowSmall, countsSmall, quickly, partsSound};
 use packing::unpack;
 use packing::words;
 
@@ -90,12 +90,80 @@ fn parts_ok(ws: &[u64; 79]) -> bool
         & numbers::instant::is_reading(words::whole(ws[0]))
 }
 
+// Values with one bound, by the bits that they have together.
+fn few_bits(ws: &[u64; 79]) -> bool
+    ensures { λ r. ⌜ r ≡ fewBits (now (ws .entry)) ⌝ }
+{
+    ((ws[4] | ws[5] | ws[16] | ws[17] | ws[77] | ws[78]) < 0x8000_0000)
+        & ((ws[7] | ws[10] | ws[12] | ws[52] | ws[72]) < 2)
+        & ((ws[9] | ws[76]) < 0x1_0000_0000)
+        & ((ws[50] | ws[70]) < 16)
+        & ((ws[0] | ws[8]) < 0x1000_0000_0000_0000)
+}
+
+// A time beside its flag: 0 where that is 0, else a reading.
+fn beside(set: u64, time: u64) -> bool
+    ensures { λ r. ⌜ r ≡ beside set time ⌝ }
+{
+    time <= set % 2 * 0xfff_ffff_ffff_ffff
+}
+
+fn beside_all(ws: &[u64; 79]) -> bool
+    ensures { λ r. ⌜ r ≡ besideAll (now (ws .entry)) ⌝ }
+{
+    beside(ws[10], ws[11]) & beside(ws[52], ws[53]) & beside(ws[72], ws[73])
+}
+
+// Neither infinite nor a NaN.
+fn finite(ws: &[u64; 79]) -> bool
+    ensures { λ r. ⌜ r ≡ finite (now (ws .entry)) ⌝ }
+{
+    let mean = ws[13] % 0x8000_0000_0000_0000 + 0x10_0000_0000_0000;
+    let squares = ws[14] % 0x8000_0000_0000_0000 + 0x10_0000_0000_0000;
+    (mean | squares) < 0x8000_0000_0000_0000
+}
+
+fn window_small(ws: &[u64; 79]) -> bool
+    ensures { λ r. ⌜ r ≡ windowSmall (now (ws .entry)) ⌝ }
+{
+    (1 <= ws[1]) & (ws[1] <= 8192) & (ws[2] < ws[1]) & (ws[3] <= ws[1]) & (ws[6] <= 65535000)
+}
+
+fn counts_small(ws: &[u64; 79]) -> bool
+    ensures { λ r. ⌜ r ≡ countsSmall (now (ws .entry)) ⌝ }
+{
+    (ws[15] <= 999)
+        & (ws[51] <= 16)
+        & (ws[71] <= 16)
+        & (ws[74] < 1024)
+        & (ws[75] <= 1024)
+        & (1 <= ws[76])
+        & (ws[76] % 0x1_0000_0000 + ws[75] % 2048 <= 0x1_0000_0000)
+}
+
+// What every head but a rare one meets: no time before 0, no infinite sum.
+fn quickly(ws: &[u64; 79]) -> bool
+    ensures { λ r. ⌜ r ≡ quickly (now (ws .entry)) ⌝ }
+{
+    few_bits(ws) & beside_all(ws) & finite(ws) & window_small(ws) & counts_small(ws)
+}
+
+// Any head whose intervals are all small, in the window or not.
+fn parts_sound(ws: &[u64; 79]) -> bool
+    ensures { λ r. ⌜ r ≡ partsSound (now (ws .entry)) ⌝ }
+{
+    unpack::first_formed(ws) & unpack::last_formed(ws) & places_ok(ws) & parts_ok(ws)
+}
+
 // Only the intervals in a window have to be in range; a head with others outside it is unpacked and asked place by place.
 pub fn sound(ws: &[u64; 79]) -> bool
     ensures { λ r. ⌜ r ≡ headOk (unpackOf (now (ws .entry))) ⌝ }
 {
     if all_small(ws) {
-        return unpack::first_formed(ws) & unpack::last_formed(ws) & places_ok(ws) & parts_ok(ws);
+        if quickly(ws) {
+            return true;
+        }
+        return parts_sound(ws);
     }
     let h = unpack::unpack(ws);
     h.in_range()

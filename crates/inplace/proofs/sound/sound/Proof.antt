@@ -1,4 +1,4 @@
-use Rattle.inplace.proofs.Sounds.{sounds}
+use Rattle.inplace.proofs.Quick.{quick-sounds}
 use Rattle.inplace.proofs.sound.sound.Statement.{statement}
 use Rattle.inplace.proofs.sound.sound.Tie as tie
 
@@ -6,12 +6,11 @@ pub sound-spec : {M : Type 1} → statement M
 sound-spec =
     tie.close
     (tie.spec
-    (λ c κs. search sounds)
-    (λ c κs. search sounds)
-    (λ c κs. search sounds)
-    (λ c κs. search sounds)
-    (λ c κs. search sounds)
-    (λ c. search sounds)
-    (λ c κs. search sounds)
-    (λ c κs. search sounds)
-    (λ c. search sounds))
+    (λ c κs. search quick-sounds)
+    (λ c κs. search quick-sounds)
+    (λ c. search quick-sounds)
+    (λ c κs. search quick-sounds)
+    (λ c. search quick-sounds)
+    (λ c κs. search quick-sounds)
+    (λ c κs. search quick-sounds)
+    (λ c. search quick-sounds))

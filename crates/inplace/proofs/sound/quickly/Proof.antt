@@ -1,0 +1,14 @@
+use Rattle.inplace.proofs.Quick.{quick-sounds}
+use Rattle.inplace.proofs.sound.quickly.Statement.{statement}
+use Rattle.inplace.proofs.sound.quickly.Tie as tie
+
+pub quickly-spec : {M : Type 1} → statement M
+quickly-spec =
+    tie.close
+    (tie.spec
+    (λ c κs. search quick-sounds)
+    (λ c κs. search quick-sounds)
+    (λ c κs. search quick-sounds)
+    (λ c κs. search quick-sounds)
+    (λ c κs. search quick-sounds)
+    (λ c. search quick-sounds))
