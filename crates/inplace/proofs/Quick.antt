@@ -22,8 +22,8 @@ use Rattle.head.specs.Head.{windowOk, headOk}
 use Rattle.packing.specs.Words.{wholeOf, numberOf, momentOf, numberFormed, flagFormed, floatFormed, momentFormed}
 use Rattle.packing.specs.Packed.{at, windowOf, clockOf, rttOf, historyOf, firstFormed, lastFormed, unpackOf}
 use Rattle.packing.proofs.Floats.{nan-low}
-use Rattle.inplace.proofs.Sounds.{or-left, or-right, sound-quick, sound-slow}
-use Rattle.inplace.specs.Sound.{allSmall, placesOk, partsOk, fewBits, beside, besideAll, finite, windowSmall, countsSmall, quickly, partsSound}
+use Rattle.inplace.proofs.Sounds.{or-left, or-right, placesOk, partsOk, sound-quick, sound-slow}
+use Rattle.inplace.specs.Sound.{allSmall, fewBits, beside, besideAll, finite, windowSmall, countsSmall, quickly}
 
 -- the parts of a test
 five : (a b c d e : Bool) → (a && b && c && d && e) ≡ true → (a ≡ true) × (b ≡ true) × (c ≡ true) × (d ≡ true) × (e ≡ true)
@@ -293,15 +293,12 @@ module _ (ws : List ℕ) (q : Found ws) where
         reads (at ws 0) (q .latest),
       )
 
--- beside_all, quickly, parts_sound: each is its parts
+-- beside_all, quickly: each is its parts
 pub beside-by : (ws : List ℕ) {a b c : Bool} → a ≡ beside (at ws 10) (at ws 11) → b ≡ beside (at ws 52) (at ws 53) → c ≡ beside (at ws 72) (at ws 73) → (a && b && c) ≡ besideAll ws
 beside-by ws e f g = rw (e, f, g)
 
 pub quickly-by : (ws : List ℕ) {a b c d e : Bool} → a ≡ fewBits ws → b ≡ besideAll ws → c ≡ finite ws → d ≡ windowSmall ws → e ≡ countsSmall ws → (a && b && c && d && e) ≡ quickly ws
 quickly-by ws e f g h k = rw (e, f, g, h, k)
-
-pub parts-sound-by : (ws : List ℕ) {a b c d : Bool} → a ≡ firstFormed ws → b ≡ lastFormed ws → c ≡ placesOk ws → d ≡ partsOk ws → (a && b && c && d) ≡ partsSound ws
-parts-sound-by ws e f g h = rw (e, f, g, h)
 
 -- sound
 pub sound-quickly : (ws : List ℕ) {s b : Bool} → s ≡ allSmall ws → s ≡ true → b ≡ quickly ws → b ≡ true → true ≡ headOk (unpackOf ws)
@@ -309,7 +306,4 @@ sound-quickly ws e f g h =
     let q = found ws (sym g ∙ h) in
     sound-quick ws e f (sym (quick-first ws q)) (sym (quick-last ws q)) (sym (quick-places ws q)) (sym (quick-parts ws q))
 
-pub sound-by-parts : (ws : List ℕ) {s b : Bool} → s ≡ allSmall ws → s ≡ true → b ≡ partsSound ws → b ≡ headOk (unpackOf ws)
-sound-by-parts ws e f g = g ∙ sound-quick ws e f refl refl refl refl
-
-pub ruleset quick-sounds = (beside-by, quickly-by, parts-sound-by, sound-quickly, sound-by-parts, sound-slow, needs)
+pub ruleset quick-sounds = (beside-by, quickly-by, sound-quickly, sound-slow, needs)

@@ -29,7 +29,7 @@ use Rattle.head.specs.Head.{windowOk, headOk, freshHead}
 use Rattle.numbers.specs.Whole.{isReading}
 use Rattle.packing.specs.Words.{numberOf, numberFormed, wholeOf, momentOf}
 use Rattle.packing.specs.Packed.{at, sixteen, sixteenOf, numbersFormed, firstFormed, ratesFormed, lastFormed, formed, windowOf, clockOf, rttOf, arrivalsOf, linksOf, historyOf, headOf, nowhere, unpackOf}
-use Rattle.inplace.specs.Sound.{bitsTo, raisedTo, allSmall, placesOk, partsOk}
+use Rattle.inplace.specs.Sound.{bitsTo, raisedTo, allSmall}
 
 -- bits, raised_bits
 pub or-left : (a b : ℕ) → a ≤ bitOr a b
@@ -118,7 +118,22 @@ window-under b ws i a (suc n) u =
     let m = mod-le (at ws (i + p)) (2 ^ 32) in
     rw (element ws i p h, lt-ltb (numberOf (at ws (i + p))) b (omega arith), window-under b ws i a n u)
 
--- places_ok, rates_ok
+-- the windows of intervals, whose places are all small
+abbrev pub placesOk : List ℕ → Bool
+placesOk ws =
+    (leb (at ws 51) 16 && ltb (at ws 50) 16 && timeOk (momentOf (at ws 52) (at ws 53)))
+    && (leb (at ws 71) 16 && ltb (at ws 70) 16 && timeOk (momentOf (at ws 72) (at ws 73)))
+
+-- all parts but those two
+abbrev pub partsOk : List ℕ → Bool
+partsOk ws =
+    windowOk (windowOf ws)
+    && leb (numberOf (at ws 6)) 65535000
+    && clockOk (clockOf ws)
+    && rttOk (rttOf ws)
+    && historyOk (historyOf ws)
+    && isReading (wholeOf (at ws 0))
+
 and-true : (b : Bool) → (b && true) ≡ b
 and-true true = refl
 and-true false = refl
@@ -179,19 +194,7 @@ module _ (ws : List ℕ) (e : allSmall ws ≡ true) where
 rates-quick : (ws : List ℕ) {s b : Bool} → s ≡ allSmall ws → s ≡ true → b ≡ placesOk ws → b ≡ (ratesFormed ws && (arrivalsOk (arrivalsOf ws) && linksOk (linksOf ws)))
 rates-quick ws e t f = quick ws (sym e ∙ t) f
 
--- parts_ok: the machine's whole number is the definition's
-pub parts-by : (ws : List ℕ) {w : Window} {k : SynchronizedRemoteClock} {x : Rtt} {h : History} {n : ℕ} {t t₁ : ℤ} {d c m y z : Bool}
-    → w ≡ windowOf ws → d ≡ windowOk w → n ≡ numberOf (at ws 6) → k ≡ clockOf ws → c ≡ clockOk k → x ≡ rttOf ws → m ≡ rttOk x → h ≡ historyOf ws → y ≡ historyOk h
-    → t ≡ wholeOf (at ws 0) → t₁ ≡ t → z ≡ isReading t₁ → (d && leb n 65535000 && c && m && y && z) ≡ partsOk ws
-parts-by ws a b c d e f g h i j k l = rw (b, a, c, e, d, g, f, i, h, l, k, j)
-
-pub time-by : (s t : ℕ) {m : Moment} {b : Bool} → m ≡ momentOf s t → b ≡ timeOk m → b ≡ timeOk (momentOf s t)
-time-by s t e f = rw (f, e)
-
-pub places-by : (ws : List ℕ) {a b : Bool} → a ≡ timeOk (momentOf (at ws 52) (at ws 53)) → b ≡ timeOk (momentOf (at ws 72) (at ws 73))
-    → ((leb (at ws 51) 16 && ltb (at ws 50) 16 && a) && (leb (at ws 71) 16 && ltb (at ws 70) 16 && b)) ≡ placesOk ws
-places-by ws e f = rw (e, f)
-
+-- all_small
 pub small-by : (ws : List ℕ) {a b c d : ℕ} → a ≡ bitsTo ws 18 16 → b ≡ bitsTo ws 54 16 → c ≡ bitsTo ws 34 16 → d ≡ raisedTo ws 16
     → (ltb a 2147483648 && ltb b 2147483648 && ltb c 2048 && ltb d 2048) ≡ allSmall ws
 small-by ws e f g h = rw (e, f, g, h)
@@ -237,4 +240,4 @@ sound-quick ws a b e g h k = sound-by ws e g (rates-quick ws a b h) k
 pub sound-slow : (ws : List ℕ) {h : Head} {b : Bool} → h ≡ unpackOf ws → b ≡ headOk h → b ≡ headOk (unpackOf ws)
 sound-slow ws e f = rw (f, e)
 
-pub ruleset sounds = (bits-start, bits-turn, bits-end, raised-start, raised-turn, raised-end, small-by, time-by, places-by, parts-by, sound-quick, sound-slow, needs)
+pub ruleset sounds = (bits-start, bits-turn, bits-end, raised-start, raised-turn, raised-end, small-by, needs)

@@ -6,14 +6,7 @@ use Prim.Native.Nat.{ℕ, zero, suc, _+_, _*_, _%_, _^_, _<_}
 use lib.ListN.{length}
 use lib.Bits.{bitOr}
 use lib.Dec.{ltb, leb}
-use Rattle.numbers.specs.Whole.{isReading}
-use Rattle.clock.specs.Ranges.{clockOk}
-use Rattle.acks.specs.Rtt.{rttOk}
-use Rattle.acks.specs.Rates.{timeOk}
-use Rattle.acks.specs.History.{historyOk}
-use Rattle.head.specs.Head.{windowOk}
-use Rattle.packing.specs.Words.{wholeOf, numberOf, momentOf}
-use Rattle.packing.specs.Packed.{at, windowOf, clockOf, rttOf, historyOf, firstFormed, lastFormed}
+use Rattle.packing.specs.Packed.{at}
 
 -- 79 words of 64 bits
 pub record Typed (ws : List ℕ) : Type 0 where
@@ -32,12 +25,6 @@ raisedTo ws (suc n) = bitOr (raisedTo ws n) (at ws (34 + n) % 2048 + 591)
 -- every interval and size is in range, in the window or not
 abbrev pub allSmall : List ℕ → Bool
 allSmall ws = ltb (bitsTo ws 18 16) (2 ^ 31) && ltb (bitsTo ws 54 16) (2 ^ 31) && ltb (bitsTo ws 34 16) 2048 && ltb (raisedTo ws 16) 2048
-
--- the other numbers of the windows of arrivals and of probes
-abbrev pub placesOk : List ℕ → Bool
-placesOk ws =
-    (leb (at ws 51) 16 && ltb (at ws 50) 16 && timeOk (momentOf (at ws 52) (at ws 53)))
-    && (leb (at ws 71) 16 && ltb (at ws 70) 16 && timeOk (momentOf (at ws 72) (at ws 73)))
 
 -- What every head but a rare one meets, tested with few comparisons: values with one bound by the bits that they have together. A head that does not may still be in range.
 abbrev pub fewBits : List ℕ → Bool
@@ -74,17 +61,3 @@ countsSmall ws =
 
 abbrev pub quickly : List ℕ → Bool
 quickly ws = fewBits ws && besideAll ws && finite ws && windowSmall ws && countsSmall ws
-
--- all parts but those two
-abbrev pub partsOk : List ℕ → Bool
-partsOk ws =
-    windowOk (windowOf ws)
-    && leb (numberOf (at ws 6)) 65535000
-    && clockOk (clockOf ws)
-    && rttOk (rttOf ws)
-    && historyOk (historyOf ws)
-    && isReading (wholeOf (at ws 0))
-
--- a head whose intervals and sizes are all in range is, if this holds
-abbrev pub partsSound : List ℕ → Bool
-partsSound ws = firstFormed ws && lastFormed ws && placesOk ws && partsOk ws

@@ -1,13 +1,10 @@
 // Refusal 1, from the words themselves: 01, "Head and lent areas".
 ghost use mathlib.Core.Path.{_≡_};
 ghost use Prim.Native.Nat.{_≤_};
-ghost use Rattle.acks.specs.Rates.{timeOk};
 ghost use Rattle.head.specs.Head.{headOk};
-ghost use Rattle.packing.specs.Words.{momentOf};
 ghost use Rattle.packing.specs.Packed.{unpackOf};
-ghost use Rattle.inplace.specs.Sound.{Typed, bitsTo, raisedTo, allSmall, placesOk, partsOk, fewBits, beside, besideAll, finite, windowSmall, countsSmall, quickly, partsSound};
+ghost use Rattle.inplace.specs.Sound.{Typed, bitsTo, raisedTo, allSmall, fewBits, beside, besideAll, finite, windowSmall, countsSmall, quickly};
 use packing::unpack;
-use packing::words;
 
 // What the type says of the words: 79 of 64 bits. A copy tells the proof so, and the compiler drops it.
 fn told(ws: [u64; 79])
@@ -56,38 +53,6 @@ fn all_small(ws: &[u64; 79]) -> bool
         & (bits(ws, 54) < 0x8000_0000)
         & (bits(ws, 34) < 2048)
         & (raised_bits(ws) < 2048)
-}
-
-// A time that may be unset is a reading.
-fn is_time(set: u64, time: u64) -> bool
-    ensures { λ r. ⌜ r ≡ timeOk (momentOf set time) ⌝ }
-{
-    let m = words::moment(set, time);
-    acks::rates::time_ok(m)
-}
-
-// The other numbers of the two windows of intervals.
-fn places_ok(ws: &[u64; 79]) -> bool
-    ensures { λ r. ⌜ r ≡ placesOk (now (ws .entry)) ⌝ }
-{
-    ((ws[51] <= 16) & (ws[50] < 16) & is_time(ws[52], ws[53]))
-        & ((ws[71] <= 16) & (ws[70] < 16) & is_time(ws[72], ws[73]))
-}
-
-// All other parts.
-fn parts_ok(ws: &[u64; 79]) -> bool
-    ensures { λ r. ⌜ r ≡ partsOk (now (ws .entry)) ⌝ }
-{
-    let w = unpack::window(ws);
-    let k = unpack::clock(ws);
-    let t = unpack::rtt(ws);
-    let y = unpack::history(ws);
-    head::state::window_in_range(w)
-        & (words::number(ws[6]) <= 65535000)
-        & k.in_range()
-        & t.in_range()
-        & y.in_range()
-        & numbers::instant::is_reading(words::whole(ws[0]))
 }
 
 // Values with one bound, by the bits that they have together.
@@ -148,14 +113,7 @@ fn quickly(ws: &[u64; 79]) -> bool
     few_bits(ws) & beside_all(ws) & finite(ws) & window_small(ws) & counts_small(ws)
 }
 
-// Any head whose intervals are all small, in the window or not.
-fn parts_sound(ws: &[u64; 79]) -> bool
-    ensures { λ r. ⌜ r ≡ partsSound (now (ws .entry)) ⌝ }
-{
-    unpack::first_formed(ws) & unpack::last_formed(ws) & places_ok(ws) & parts_ok(ws)
-}
-
-// Only the intervals in a window have to be in range; a head with others outside it is unpacked and asked place by place.
+// Only the intervals in a window have to be in range, and a time may lie before 0: a head that is not found in range quickly is unpacked and asked.
 pub fn sound(ws: &[u64; 79]) -> bool
     ensures { λ r. ⌜ r ≡ headOk (unpackOf (now (ws .entry))) ⌝ }
 {
@@ -163,7 +121,6 @@ pub fn sound(ws: &[u64; 79]) -> bool
         if quickly(ws) {
             return true;
         }
-        return parts_sound(ws);
     }
     let h = unpack::unpack(ws);
     h.in_range()

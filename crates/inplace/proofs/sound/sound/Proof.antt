@@ -10,7 +10,5 @@ sound-spec =
     (λ c κs. search quick-sounds)
     (λ c. search quick-sounds)
     (λ c κs. search quick-sounds)
-    (λ c. search quick-sounds)
-    (λ c κs. search quick-sounds)
     (λ c κs. search quick-sounds)
     (λ c. search quick-sounds))
