@@ -30,12 +30,7 @@ fn usage() -> ! {
 }
 
 fn main() {
-    let loud = std::panic::take_hook();
-    std::panic::set_hook(Box::new(move |info| {
-        if !machine::CALLING.with(|c| c.get()) {
-            loud(info)
-        }
-    }));
+    machine::hush_calls();
     let words: Vec<String> = env::args().skip(1).collect();
     let number = |i: usize| words.get(i).and_then(|w| w.parse::<u64>().ok()).unwrap_or_else(|| usage());
     let word = |i: usize| words.get(i).unwrap_or_else(|| usage()).as_str();
