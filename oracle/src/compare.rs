@@ -4,7 +4,7 @@ use std::{
     fs,
     io::{Read, Write},
     path::{Path, PathBuf},
-    process::{Child, Command, Stdio},
+    process::{exit, Child, Command, Stdio},
     sync::{Arc, Mutex},
     thread,
     time::{Duration, Instant},
@@ -63,7 +63,10 @@ impl Program {
             .stdout(Stdio::piped())
             .stderr(Stdio::null())
             .spawn()
-            .unwrap_or_else(|error| panic!("{}: {error}", self.path));
+            .unwrap_or_else(|error| {
+                eprintln!("{}: {error}", self.path);
+                exit(2)
+            });
         let mut pipe = child.stdout.take().unwrap();
         *self.watched.lock().unwrap() = Some((child, Instant::now(), false));
         let mut said = Vec::new();

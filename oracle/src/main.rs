@@ -11,7 +11,12 @@ mod protocol;
 mod statistics;
 mod trace;
 
-use std::{env, fs, path::Path, process::exit};
+use std::{
+    env, fs,
+    io::{self, Write},
+    path::Path,
+    process::exit,
+};
 
 use machine::Switches;
 
@@ -66,6 +71,7 @@ fn replay(words: &[String]) {
                 Some(switch) => *switch = false,
                 None => usage(),
             },
+            _ if word.starts_with('-') || file.is_some() => usage(),
             _ => file = Some(word),
         }
     }
@@ -75,7 +81,10 @@ fn replay(words: &[String]) {
         exit(2)
     });
     let outcome = machine::run(&bytes, switches);
-    print!("{}", outcome.text(counters));
+    if let Err(error) = io::stdout().write_all(outcome.text(counters).as_bytes()) {
+        eprintln!("standard output: {error}");
+        exit(2)
+    }
     if let Some((record, why)) = outcome.left {
         eprintln!("left the domain at record {record}: {why}");
     }
