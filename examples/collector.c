@@ -100,16 +100,32 @@ static void tell(int record, uint32_t refusal) {
     }
 }
 
+/* A file cannot be read or written. */
+static int fail(const char *name) {
+    perror(name);
+    return 2;
+}
+
+/* A bad header or record; or the bytes are missing because the file could not be read. */
+static int bad(const char *name, long at) {
+    if (ferror(file))
+        return fail(name);
+    printf("bad %ld\n", at);
+    return 1;
+}
+
 int main(int argc, char **argv) {
     static const char *const counted[] = {"rx_data", "rx_bytes", "rx_unique_data", "rx_unique_bytes", "rx_retransmit_data",
         "rx_dropped_data", "rx_dropped_bytes", "rx_ack2", "rx_ack2_errors", "rx_clock_adjustments"};
     /* The bytes of each field, by kind. */
     static const char *const fields[] = {"", "844142", "8", "8", "8", "84", "44", "84", ""};
 
-    if (argc != 2 || (file = fopen(argv[1], "rb")) == NULL) {
+    if (argc != 2) {
         fprintf(stderr, "usage: collector PASS.dlt\n");
         return 2;
     }
+    if ((file = fopen(argv[1], "rb")) == NULL)
+        return fail(argv[1]);
     uint64_t mark = number(5);
     int64_t start = (int64_t)number(8);
     uint32_t latency = (uint32_t)number(4);
@@ -117,29 +133,26 @@ int main(int argc, char **argv) {
     uint32_t first = (uint32_t)number(4);
     size_t capacity = number(2);
     if (cut || mark != 0x444c540001 || late_drop > 1 || capacity > CAPACITY ||
-        pt_new(head, answer, start, latency, late_drop, first, capacity) != 0) {
-        puts("bad 0");
-        return 1;
-    }
+        pt_new(head, answer, start, latency, late_drop, first, capacity) != 0)
+        return bad(argv[1], 0);
     for (int record = 1, kind; (kind = getc(file)) != EOF; record++) {
         long at = ftell(file) - 1;
         uint64_t f[6] = {0};
-        bool bad = kind < 1 || kind > 8;
-        for (int i = 0; !bad && fields[kind][i] != 0; i++)
+        bool known = kind >= 1 && kind <= 8;
+        for (int i = 0; known && fields[kind][i] != 0; i++)
             f[i] = number(fields[kind][i] - '0');
-        bad = bad || cut || f[5] > PT_PAYLOAD_BYTES || fread(payload, 1, f[5], file) != f[5];
-        if (bad) {
-            printf("bad %ld\n", at);
-            return 1;
-        }
+        if (!known || cut || f[5] > PT_PAYLOAD_BYTES || fread(payload, 1, f[5], file) != f[5])
+            return bad(argv[1], at);
         uint32_t refusal = call(kind, f);
         tell(record, refusal);
         if (refusal == PT_DISCARDED_DUPLICATE)
             tell_repeat((uint32_t)f[1], f[5]);
     }
+    if (ferror(file))
+        return fail(argv[1]);
     pt_buffer_available(head, answer);
     printf("room %" PRId64 "\n", answer[1]);
     for (int i = 0; i < PT_COUNTERS; i++)
         printf("%s %" PRIu64 "\n", counted[i], counters[i]);
-    return 0;
+    return fflush(stdout) == 0 ? 0 : fail("standard output");
 }

@@ -5,7 +5,8 @@
 //! gave up. Each record is one call, and what came of it is one line, in 01's words; `got` and `none` are left out. At the end
 //! stand the room and the counters. collector.c is the same in C, and writes the same lines.
 use pursethistle::*;
-use std::{env, fs, process};
+use std::io::{self, Write};
+use std::{env, fs, path::Path, process};
 
 /// A recording has at most 32 slots; the library takes up to `raw::CAPACITY_MAX`.
 const CAPACITY: usize = 32;
@@ -115,34 +116,50 @@ fn step(file: &mut Reader, receiver: &mut Receiver, output: &mut [u8], words: &m
     })
 }
 
-fn bad(at: usize) -> ! {
-    println!("bad {at}");
-    process::exit(1)
-}
-
-fn main() {
-    let Some(Ok(bytes)) = env::args_os().nth(1).map(fs::read) else {
-        eprintln!("usage: collector PASS.dlt");
-        process::exit(2)
-    };
-    let mut file = Reader(&bytes);
-    let Some(mut receiver) = file.receiver() else { bad(0) };
+/// The whole recording, its lines to `out`: None if it ended well, or where it is bad.
+fn collect(bytes: &[u8], out: &mut impl Write) -> io::Result<Option<usize>> {
+    let mut file = Reader(bytes);
+    let Some(mut receiver) = file.receiver() else { return Ok(Some(0)) };
     // Enough for any message and any loss report.
     let (mut output, mut words) = ([0; CAPACITY * raw::PAYLOAD_BYTES], [0; CAPACITY]);
     let mut record = 1;
     while !file.0.is_empty() {
         let at = bytes.len() - file.0.len();
         match step(&mut file, &mut receiver, &mut output, &mut words) {
-            None => bad(at),
+            None => return Ok(Some(at)),
             Some(Ok(line)) if line.is_empty() => (),
-            Some(Ok(line)) => println!("{record} {line}"),
-            Some(Err(Refusal::PacketTooEarly { room, need })) => println!("{record} refused 8 {room} {need}"),
-            Some(Err(refusal)) => println!("{record} refused {}", refusal.number()),
+            Some(Ok(line)) => writeln!(out, "{record} {line}")?,
+            Some(Err(Refusal::PacketTooEarly { room, need })) => writeln!(out, "{record} refused 8 {room} {need}")?,
+            Some(Err(refusal)) => writeln!(out, "{record} refused {}", refusal.number())?,
         }
         record += 1;
     }
-    println!("room {}", receiver.room().expect("only a damaged head is refused"));
+    writeln!(out, "room {}", receiver.room().expect("only a damaged head is refused"))?;
     for (name, count) in receiver.counters().named() {
-        println!("{name} {count}");
+        writeln!(out, "{name} {count}")?;
+    }
+    Ok(None)
+}
+
+fn fail(what: impl std::fmt::Display) -> ! {
+    eprintln!("{what}");
+    process::exit(2)
+}
+
+fn main() {
+    let mut words = env::args_os().skip(1);
+    let (Some(name), None) = (words.next(), words.next()) else { fail("usage: collector PASS.dlt") };
+    let bytes = fs::read(&name).unwrap_or_else(|error| fail(format_args!("{}: {error}", Path::new(&name).display())));
+    let mut out = io::BufWriter::new(io::stdout().lock());
+    let ended = collect(&bytes, &mut out).and_then(|bad| {
+        if let Some(at) = bad {
+            writeln!(out, "bad {at}")?;
+        }
+        out.flush().map(|()| bad)
+    });
+    match ended {
+        Ok(None) => {}
+        Ok(Some(_)) => process::exit(1),
+        Err(error) => fail(format_args!("standard output: {error}")),
     }
 }

@@ -2,7 +2,8 @@
  * The rules are docs/01-scope.md ("01" below); times are microseconds.
  *
  * A receiver is a head and three areas, all of them the caller's memory, lent for the time of a call. The library allocates
- * nothing, keeps nothing between calls and starts no thread, so two receivers may be used by two threads at once.
+ * nothing, keeps nothing between calls and starts no thread, so two receivers may be used by two threads at once. Head and areas
+ * are plain data: copied together they are a second receiver.
  * A call takes any contents and any numbers: what is wrong is refused by its number, and then nothing has changed, but
  * answer, and the counters where a data packet is refused 7 to 10. A pointer must be valid for its length and not null, also
  * for length 0, and no two of them may overlap; only this the library cannot test.
@@ -158,7 +159,7 @@ uint32_t pt_new(uint64_t head[PT_HEAD_WORDS], int64_t answer[PT_ANSWER_CELLS], i
                 uint32_t first, size_t capacity);
 
 /* A data packet came at now. stamp is the sender's 32-bit time, message its message number, location its bits above.
- * Refuses 1 to 10; for 8 answer has the room and the room that it needs.
+ * Refuses 1 to 10; for 8 answer[1] is the room and answer[2] the room that it needs, 2 or more.
  * Answers GOT: lrsn (the first number not received), 1 if it was lost before and is recovered; LIGHT: the same, and a light ACK
  * of lrsn is to be sent; LOSS: the first and the last number of the gap before it, which is to be reported at once. */
 uint32_t pt_handle_data_packet(uint64_t head[PT_HEAD_WORDS], int64_t answer[PT_ANSWER_CELLS], uint64_t *slots, size_t slots_len,

@@ -10,6 +10,7 @@ The program is called with the words, --counters where counters are asked for, a
 trace leaves the Rust's domain; what it answers from there on need not be 01's. Fails if any other answer differed.
 """
 import pathlib
+import shutil
 import struct
 import subprocess
 import sys
@@ -322,6 +323,8 @@ def main(words):
         words, cases = words[1:], [c for c in CASES if c[2] != "counters"]
     if not words:
         sys.exit(__doc__)
+    if not shutil.which(words[0]):
+        sys.exit(f"{words[0]}: no such program")
     differed = left = 0
     with tempfile.TemporaryDirectory() as folder:
         path = pathlib.Path(folder) / "trace.dlt"

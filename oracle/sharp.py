@@ -83,6 +83,8 @@ def main(words):
     if inprocess:
         words = words[1:] or ["300"]
     count, seed = (words + ["30", "1"][len(words):])[:2]
+    if not (count.isdigit() and seed.isdigit()):
+        sys.exit(__doc__)
     only = words[2] if len(words) > 2 else ""
     oracle = HERE / "target/release/oracle"
     missed = 0
@@ -90,6 +92,9 @@ def main(words):
         room = pathlib.Path(folder)
         shutil.copytree(HERE, room / "oracle", ignore=shutil.ignore_patterns("target", "sample"))
         shutil.copytree(HERE.parent / "docs/src", room / "docs/src")
+        # The crate over the port's library, and its example.
+        for part in ("bindings", "examples"):
+            (room / part).symlink_to(HERE.parent / part)
         program = room / "replay"
         program.write_text(f"#!/bin/sh\nexec {room}/target/release/oracle replay \"$@\"\n")
         program.chmod(0o755)

@@ -2,6 +2,7 @@
 """Replays the sample: check.py [--lines] PROGRAM [WORD ..]. Fails if any trace gives other lines. README.md says where it stands.
 With --lines the counters are left out, for a program that writes none."""
 import pathlib
+import shutil
 import subprocess
 import sys
 
@@ -26,6 +27,8 @@ def main(words):
         words, options = words[1:], []
     if not words:
         sys.exit(__doc__)
+    if not shutil.which(words[0]):
+        sys.exit(f"{words[0]}: no such program")
     wanted, differed = answers(), 0
     for file, lines in wanted:
         if not options:

@@ -4,7 +4,7 @@ use std::{
     fs,
     io::{Read, Write},
     path::{Path, PathBuf},
-    process::{Child, Command, Stdio},
+    process::{exit, Child, Command, Stdio},
     sync::{Arc, Mutex},
     thread,
     time::{Duration, Instant},
@@ -14,7 +14,7 @@ use crate::{
     form,
     generate::{self, Dice, KINDS},
     machine::{self, Acts, Outcome, Switches},
-    trace::{self, Record},
+    trace,
 };
 
 /// The longest that one trace may take the program.
@@ -63,7 +63,10 @@ impl Program {
             .stdout(Stdio::piped())
             .stderr(Stdio::null())
             .spawn()
-            .unwrap_or_else(|error| panic!("{}: {error}", self.path));
+            .unwrap_or_else(|error| {
+                eprintln!("{}: {error}", self.path);
+                exit(2)
+            });
         let mut pipe = child.stdout.take().unwrap();
         *self.watched.lock().unwrap() = Some((child, Instant::now(), false));
         let mut said = Vec::new();
@@ -310,20 +313,9 @@ pub fn notation(bytes: &[u8]) -> String {
             break;
         };
         at += length;
-        records.push(match record {
-            Record::Data { now, number, message, location, stamp, payload } => {
-                format!("D {now} {number} {message} {location} {stamp} {}", payload.len())
-            }
-            Record::Pop(now) => format!("P {now}"),
-            Record::Report(now) => format!("L {now}"),
-            Record::Ack(now) => format!("F {now}"),
-            Record::Ack2(now, number) => format!("A {now} {number}"),
-            Record::Drop(first, last) => format!("R {first} {last}"),
-            Record::Clock(now, stamp) => format!("K {now} {stamp}"),
-            Record::Clear => "C".to_string(),
-        });
+        records.push(trace::short(&record));
     }
-    format!("{} {} {} {} {} | {}", h.start, h.latency, h.dropping, h.first, h.capacity, records.join("; "))
+    trace::short_trace(&h, &records)
 }
 
 /// Traces that stay in the domain, with what the Rust gives: traces.bin (each: length in 4 bytes, big-endian, then the file) and

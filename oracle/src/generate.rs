@@ -46,6 +46,17 @@ impl Dice {
         choices[self.below(choices.len() as u64) as usize]
     }
 
+    /// The number of an ACK2, from the first and the last ACK held: mostly one of those, now and then the one before or behind.
+    pub fn ack2_number(&mut self, held: Option<(u32, u32)>) -> u32 {
+        let Some((first, last)) = held else { return self.of(&[0, 1, 2, u32::MAX]) };
+        match self.below(8) {
+            0 => first.wrapping_sub(1),
+            1 => last.wrapping_add(1),
+            2 | 3 => last,
+            _ => first + self.below(u64::from(last - first) + 1) as u32,
+        }
+    }
+
     /// An index, each by its weight.
     fn weighed(&mut self, weights: &[u64]) -> usize {
         let mut at = self.below(weights.iter().sum());
@@ -433,15 +444,7 @@ impl Maker {
             }
             Act::Ack2 => {
                 let now = self.now();
-                let number = match self.machine.ack_numbers() {
-                    Some((first, last)) => match self.dice.below(8) {
-                        0 => first.wrapping_sub(1),
-                        1 => last.wrapping_add(1),
-                        2 | 3 => last,
-                        _ => first + self.dice.below(u64::from(last - first) + 1) as u32,
-                    },
-                    None => self.dice.of(&[0, 1, 2, u32::MAX]),
-                };
+                let number = self.dice.ack2_number(self.machine.ack_numbers());
                 self.put(Record::Ack2(now, number));
             }
             Act::Drop => {

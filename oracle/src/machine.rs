@@ -178,8 +178,17 @@ pub struct Machine {
 }
 
 thread_local! {
-    /// A panic while the Rust is called is an answer, and is not printed.
-    pub static CALLING: Cell<bool> = const { Cell::new(false) };
+    static CALLING: Cell<bool> = const { Cell::new(false) };
+}
+
+/// A panic while the Rust is called is an answer, and is not printed; for the start of `main`.
+pub fn hush_calls() {
+    let loud = std::panic::take_hook();
+    std::panic::set_hook(Box::new(move |info| {
+        if !CALLING.with(|c| c.get()) {
+            loud(info)
+        }
+    }));
 }
 
 const LONGEST: i64 = i32::MAX as i64;

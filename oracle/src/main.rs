@@ -11,7 +11,12 @@ mod protocol;
 mod statistics;
 mod trace;
 
-use std::{env, fs, path::Path, process::exit};
+use std::{
+    env, fs,
+    io::{self, Write},
+    path::Path,
+    process::exit,
+};
 
 use machine::Switches;
 
@@ -30,12 +35,7 @@ fn usage() -> ! {
 }
 
 fn main() {
-    let loud = std::panic::take_hook();
-    std::panic::set_hook(Box::new(move |info| {
-        if !machine::CALLING.with(|c| c.get()) {
-            loud(info)
-        }
-    }));
+    machine::hush_calls();
     let words: Vec<String> = env::args().skip(1).collect();
     let number = |i: usize| words.get(i).and_then(|w| w.parse::<u64>().ok()).unwrap_or_else(|| usage());
     let word = |i: usize| words.get(i).unwrap_or_else(|| usage()).as_str();
@@ -71,6 +71,7 @@ fn replay(words: &[String]) {
                 Some(switch) => *switch = false,
                 None => usage(),
             },
+            _ if word.starts_with('-') || file.is_some() => usage(),
             _ => file = Some(word),
         }
     }
@@ -80,7 +81,10 @@ fn replay(words: &[String]) {
         exit(2)
     });
     let outcome = machine::run(&bytes, switches);
-    print!("{}", outcome.text(counters));
+    if let Err(error) = io::stdout().write_all(outcome.text(counters).as_bytes()) {
+        eprintln!("standard output: {error}");
+        exit(2)
+    }
     if let Some((record, why)) = outcome.left {
         eprintln!("left the domain at record {record}: {why}");
     }

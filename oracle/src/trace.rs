@@ -70,6 +70,27 @@ pub fn put_record(r: &Record, out: &mut Vec<u8>) {
     }
 }
 
+/// A record in the short form of docs/DECISIONS.md.
+pub fn short(r: &Record) -> String {
+    match r {
+        Record::Data { now, number, message, location, stamp, payload } => {
+            format!("D {now} {number} {message} {location} {stamp} {}", payload.len())
+        }
+        Record::Pop(now) => format!("P {now}"),
+        Record::Report(now) => format!("L {now}"),
+        Record::Ack(now) => format!("F {now}"),
+        Record::Ack2(now, number) => format!("A {now} {number}"),
+        Record::Drop(first, last) => format!("R {first} {last}"),
+        Record::Clock(now, stamp) => format!("K {now} {stamp}"),
+        Record::Clear => "C".to_string(),
+    }
+}
+
+/// A whole trace in that form, from the short form of each record.
+pub fn short_trace(h: &Header, records: &[String]) -> String {
+    format!("{} {} {} {} {} | {}", h.start, h.latency, h.dropping, h.first, h.capacity, records.join("; "))
+}
+
 /// Takes big-endian numbers from the front of what is left.
 struct Cursor<'a>(&'a [u8]);
 

@@ -6,6 +6,7 @@
 //! It allocates in [`Receiver::new`] and never again. Times are microseconds on one clock, 0 to 2^60 - 1.
 //!
 //! The library has to be built first: `rt staticlib exports` at the repository's root, or name an archive in PURSETHISTLE_LIB.
+//! The crate and its example, examples/collector.rs of the repository, need Rust 1.80 or later.
 //!
 //! # The worked example of the rules
 //!

@@ -468,6 +468,17 @@ fn rows(zero: Instant) -> Vec<Row> {
     rows
 }
 
+/// The rows that are named, or all.
+fn rows_of(chosen: &[String], zero: Instant) -> Vec<Row> {
+    let mut rows = rows(zero);
+    if let Some(unknown) = chosen.iter().find(|c| rows.iter().all(|r| r.name != c.as_str())) {
+        eprintln!("no row {unknown}: there are {}", rows.iter().map(|r| r.name).collect::<Vec<_>>().join(" "));
+        exit(2)
+    }
+    rows.retain(|r| chosen.is_empty() || chosen.iter().any(|c| c == r.name));
+    rows
+}
+
 /// Nanoseconds of the timed calls, and what they answered.
 fn run<S: Side>(side: &mut S, row: &Row, source: &[u8]) -> (f64, u64) {
     black_box(prepared(side, &row.before, source));
@@ -497,10 +508,7 @@ fn table(chosen: &[String]) -> i32 {
     let mut ported = Ported::new(CAPACITY);
     let mut differed = 0;
     println!("row\twhat\tunit\tRust ns\tport ns\tratio\tquarters\tof the best");
-    for row in rows(zero) {
-        if !chosen.is_empty() && !chosen.iter().any(|c| c == row.name) {
-            continue;
-        }
+    for row in rows_of(chosen, zero) {
         let (mut theirs, mut ours, mut ratios) = (Vec::new(), Vec::new(), Vec::new());
         for repeat in 0..row.repeats + 1 {
             let rust = || run(&mut Rust::new(zero, row.settings), &row, &source);
@@ -543,7 +551,7 @@ fn table(chosen: &[String]) -> i32 {
 fn alike(chosen: &[String]) -> i32 {
     let (zero, source) = (Instant::now(), source());
     let mut differed = 0;
-    for row in rows(zero).iter().filter(|r| chosen.is_empty() || chosen.iter().any(|c| c == r.name)) {
+    for row in &rows_of(chosen, zero) {
         let theirs = run(&mut Rust::new(zero, row.settings), row, &source).1;
         let mut ported = Ported::new(row.settings.capacity);
         ported.fresh(row.settings);

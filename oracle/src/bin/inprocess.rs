@@ -682,15 +682,7 @@ impl Maker {
             }
             9 => {
                 let now = self.now();
-                let number = match self.pair.machine.ack_numbers() {
-                    Some((first, last)) => match self.dice.below(8) {
-                        0 => first.wrapping_sub(1),
-                        1 => last.wrapping_add(1),
-                        2 | 3 => last,
-                        _ => first + self.dice.below(u64::from(last - first) + 1) as u32,
-                    },
-                    None => self.dice.of(&[0, 1, 2, u32::MAX]),
-                };
+                let number = self.dice.ack2_number(self.pair.machine.ack_numbers());
                 self.put(Record::Ack2(now, number));
             }
             10 => {
@@ -887,32 +879,14 @@ fn reduced(header: Header, steps: &[Step]) -> Vec<Step> {
     }
 }
 
-/// A run in the short form of docs/DIFFERENCES.md.
+/// A run in the short form of docs/DECISIONS.md.
 fn written(header: &Header, steps: &[Step]) -> String {
-    let calls = steps.iter().map(|s| match &s.record {
-        Record::Data { now, number, message, location, stamp, payload } => {
-            format!("D {now} {number} {message} {location} {stamp} {}", payload.len())
-        }
-        Record::Pop(now) => format!("P {now}"),
-        Record::Report(now) => format!("L {now}"),
-        Record::Ack(now) => format!("F {now}"),
-        Record::Ack2(now, number) => format!("A {now} {number}"),
-        Record::Drop(first, last) => format!("R {first} {last}"),
-        Record::Clock(now, stamp) => format!("K {now} {stamp}"),
-        Record::Clear => "C".to_string(),
-    });
-    let calls: Vec<String> = calls.collect();
-    let Header { start, latency, dropping, first, capacity } = header;
-    format!("{start} {latency} {dropping} {first} {capacity} | {}", calls.join("; "))
+    let calls: Vec<String> = steps.iter().map(|s| trace::short(&s.record)).collect();
+    trace::short_trace(header, &calls)
 }
 
 fn main() {
-    let loud = std::panic::take_hook();
-    std::panic::set_hook(Box::new(move |info| {
-        if !machine::CALLING.with(|c| c.get()) {
-            loud(info)
-        }
-    }));
+    machine::hush_calls();
     let words: Vec<String> = env::args().skip(1).collect();
     let number = |i: usize| words.get(i).and_then(|w| w.parse::<u64>().ok());
     let (Some(runs), Some(seed)) = (number(0), number(1)) else {
