@@ -220,9 +220,10 @@ module _ (h : History) where
   unfolding historyOk
   count-out k = rw (lt-leb _ _ k, and-false (ltb (h .start) 1024) {y = false} refl)
 
-  pub range-test : h .count ≤ 1024 → (ltb (h .start) 1024 && leb 1 (h .first) && leb (h .first + h .count) (2 ^ 32) && ltb (h .largest) (2 ^ 31) && ltb (h .lastack) (2 ^ 31)) ≡ historyOk h
+  pub range-test : h .count ≤ 1024 → h .first < 2 ^ 32 → (ltb (h .start) 1024 && leb 1 (h .first) && leb (h .first + h .count) (2 ^ 32) && ltb (h .largest) (2 ^ 31) && ltb (h .lastack) (2 ^ 31)) ≡ historyOk h
   unfolding historyOk
-  range-test k = rw (le-leb _ _ k, and-true (ltb (h .start) 1024), newest-test (h .first + h .count))
+  range-test k f =
+      rw (le-leb _ _ k, le-leb (h .first) 4294967295 (omega arith), and-true (ltb (h .start) 1024), and-true (ltb (h .start) 1024 && leb 1 (h .first)), newest-test (h .first + h .count))
 
 pub ruleset histories = (
   writes,

@@ -153,6 +153,7 @@ historyOk h =
     ltb (h .start) 1024
     && leb (h .count) 1024
     && leb 1 (h .first)
+    && leb (h .first) 4294967295
     && leb (newestOf h) 4294967295
     && ltb (h .largest) (2 ^ 31)
     && ltb (h .lastack) (2 ^ 31)

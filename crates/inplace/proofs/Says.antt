@@ -26,13 +26,14 @@ use Rattle.clock.proofs.Ranges.{ranges, reference-size}
 use Rattle.acks.specs.Rtt.{rttOk}
 use Rattle.acks.specs.Rates as rates
 use Rattle.acks.specs.Rates.{timeOk, arrivalsOk, linksOk, allUnder, arrivalGaps, arrivalSizes, linkGaps}
-use Rattle.acks.specs.History.{historyOk, newestOf}
+use Rattle.acks.specs.History.{historyOk}
 use Rattle.numbers.specs.Circular.{before, sum}
 use Rattle.acks.specs.declared.history.History.{History}
 use Rattle.acks.specs.declared.history.LightAcked.{LightAcked}
 use Rattle.acks.specs.declared.rates.Arrivals.{Arrivals}
 use Rattle.acks.specs.declared.rates.Links.{Links}
 use Rattle.acks.specs.declared.rtt.Rtt.{Rtt}
+use Rattle.acks.proofs.HistoryKept.{history-ranges}
 use Rattle.acks.proofs.RateKept.{since-under}
 use Rattle.window.specs.Push.{pushOf}
 use Rattle.window.specs.declared.Window.{Window}
@@ -159,15 +160,9 @@ unfolding linksOk
 probe-time l e = and-right (leb (l .count) 16 && ltb (l .at) 16 && allUnder (2 ^ 31) (linkGaps l)) (timeOk (l .probe)) e
 
 history-small : (y : History) → historyOk y ≡ true → Number (y .first) → HistoryHolds y
-unfolding historyOk
 history-small y e f =
-    let a = ltb (y .start) 1024 && leb (y .count) 1024 && leb 1 (y .first) && leb (newestOf y) 4294967295 in
-    let b = and-left (a && ltb (y .largest) (2 ^ 31)) (ltb (y .lastack) (2 ^ 31)) e in
-    record {
-      first = f;
-      largest = let c = ltb-true (y .largest) (2 ^ 31) (and-right a (ltb (y .largest) (2 ^ 31)) b) in omega arith;
-      lastack = let c = ltb-true (y .lastack) (2 ^ 31) (and-right (a && ltb (y .largest) (2 ^ 31)) (ltb (y .lastack) (2 ^ 31)) e) in omega arith;
-    }
+    let r = history-ranges y e in
+    record { first = f; largest = let a = r .largest in omega arith; lastack = let a = r .lastack in omega arith }
 
 holds-from : (h : Head) → headOk h ≡ true → Rest h → Holds h
 holds-from h e r =
