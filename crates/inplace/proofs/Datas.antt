@@ -22,8 +22,8 @@ use Rattle.acks.specs.declared.history.History.{History}
 use Rattle.acks.specs.declared.history.LightAcked.{LightAcked}
 use Rattle.acks.specs.declared.rates.Arrivals.{Arrivals}
 use Rattle.acks.specs.declared.rates.Links.{Links}
-use Rattle.window.specs.Window.{Good, Bytes}
-use Rattle.window.specs.Push.{PacketRight, PushOutcome, pushEnded, pushOf}
+use Rattle.window.specs.Ready.{Good, Bytes, PacketRight}
+use Rattle.window.specs.Push.{PushOutcome, pushEnded, pushOf}
 use Rattle.window.specs.declared.Window.{Window}
 use Rattle.window.proofs.push.PushAnswer.{the-type}
 use Rattle.window.specs.declared.push.Packet.{Packet}

@@ -46,10 +46,12 @@ use Rattle.window_pop.specs.declared.pop.PopAnswer.the-variants as pops
 use Rattle.window_pop.proofs.PopLaws.{pop-cases}
 use Rattle.head.specs.Rules.{firstRefusal, popRules, pushRules}
 use Rattle.head.specs.Head as heads
-use Rattle.head.specs.Head.{windowOk, headOk}
+use Rattle.head.specs.Head.{headOk}
+use Rattle.window.specs.Window.{windowOk}
 use Rattle.head.specs.declared.state.Head.{Head}
 use Rattle.head.proofs.Gates.{clear}
-use Rattle.head.proofs.Ready.{in-parts, in-window, push-ready}
+use Rattle.head.proofs.Ready.{in-parts, push-ready}
+use Rattle.window.proofs.Ranges.{in-window}
 use lib.Ieee as ieee
 use Rattle.clock.specs.Base as bases
 use Rattle.clock.specs.Samples as samples
@@ -172,7 +174,7 @@ holds-from h e r =
     record {
       latest = mag-small (h .latest) (let a = reading-size (h .latest) (p .latest) in omega arith);
       latency = let a = p .latency in omega arith;
-      window = record { seqno0 = let a = w .first in omega arith; lrsn = let a = w .next in omega arith };
+      window = record { seqno0 = let a = w .seqno0 in omega arith; lrsn = let a = w .lrsn in omega arith };
       base = record { time = mag-small (h .clock .base .time) (let a = reference-size (h .clock .base .time) (k .reference) in omega arith); stamp = r .stamp; last = last-small (h .clock .last) (k .last) };
       stats = record { mean = r .mean; squares = r .squares; count = let a = leb-true (h .clock .stats .count) 999 (k .samples) in omega arith };
       rtt = rtt-small (h .rtt) (p .rtt);

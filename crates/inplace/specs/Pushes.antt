@@ -12,8 +12,8 @@ use Rattle.numbers.specs.declared.instant.Moment.the-variants.{Unset, At}
 use Rattle.acks.specs.Rates.{sinceTime, nextPlace, oneMore}
 use Rattle.acks.specs.History.{lightAckOf}
 use Rattle.acks.specs.declared.history.History.{History}
-use Rattle.window.specs.Window.{Good, Bytes}
-use Rattle.window.specs.Push.{PacketRight, pushOf}
+use Rattle.window.specs.Ready.{Good, Bytes, PacketRight}
+use Rattle.window.specs.Push.{pushOf}
 use Rattle.window.specs.declared.Window.{Window}
 use Rattle.window.specs.declared.push.Packet.{Packet}
 use Rattle.window.specs.declared.push.PushAnswer.{PushAnswer}

@@ -11,7 +11,7 @@ use Rattle.clock.specs.Ranges.{clockOk}
 use Rattle.acks.specs.Rtt.{rttOk}
 use Rattle.acks.specs.Rates.{timeOk}
 use Rattle.acks.specs.History.{historyOk}
-use Rattle.head.specs.Head.{windowOk}
+use Rattle.window.specs.Window.{windowOk}
 use Rattle.packing.specs.Words.{wholeOf, numberOf, momentOf}
 use Rattle.packing.specs.Packed.{at, windowOf, clockOf, rttOf, historyOf}
 

@@ -154,8 +154,8 @@ module _ (S : ℕ → List ℕ → Type 0) (l : Ledger) (h : Head) (ws bs : List
       next
       (λ d some room r.
       let gap = distance 31 (p .number) (windows.nextOf w) in
-      let n = gap-named (windows.nextOf w) (p .number) gap (beyond d) some (omega (arith, d .good .most)) in
-      gapped (natAbs now) (d .right .number) some (omega (arith, d .good .most)) r (distance 31 (sum 31 (p .number) (2 ^ 31 - 1)) (windows.nextOf w)) n)
+      let n = gap-named (windows.nextOf w) (p .number) gap (beyond d) some (omega (arith, d .good .ranges .most)) in
+      gapped (natAbs now) (d .right .number) some (omega (arith, d .good .ranges .most)) r (distance 31 (sum 31 (p .number) (2 ^ 31 - 1)) (windows.nextOf w)) n)
       recovered
     where
       next : Admitted h ws bs now p payload → (light : Bool) (lrsn : ℕ) → p .number ≡ windows.nextOf w
@@ -167,5 +167,5 @@ module _ (S : ℕ → List ℕ → Type 0) (l : Ledger) (h : Head) (ws bs : List
           → words.isLost (entryIn w ws (distance 31 (p .number) (w .seqno0))) ≡ true
           → LrsnRight (withLrsn w lrsn) (set es (distance 31 (p .number) (w .seqno0)) (packetSeen p payload))
           → Kept (withLrsn w lrsn) (set es (distance 31 (p .number) (w .seqno0)) (packetSeen p payload)) (gotAnswer light lrsn true)
-      recovered d true lrsn i n r = filled lrsn (omega (arith, d .good .holds, d .good .most)) (d .right .number) i r
-      recovered d false lrsn i n r = filled lrsn (omega (arith, d .good .holds, d .good .most)) (d .right .number) i r
+      recovered d true lrsn i n r = filled lrsn (omega (arith, d .good .ranges .holds, d .good .ranges .most)) (d .right .number) i r
+      recovered d false lrsn i n r = filled lrsn (omega (arith, d .good .ranges .holds, d .good .ranges .most)) (d .right .number) i r

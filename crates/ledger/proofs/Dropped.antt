@@ -14,7 +14,7 @@ use Rattle.slots.specs.Words.{entryAt}
 use Rattle.slots.specs.Ring.{slotOf}
 use Rattle.slots.specs.declared.entry.Entry.{Entry}
 use Rattle.slots.specs.declared.entry.Entry.the-variants.{Lost, Received, GivenUp}
-use Rattle.window.specs.Window.{Good}
+use Rattle.window.specs.Ready.{Good}
 use Rattle.window.specs.declared.Window.{Window}
 use Rattle.window_report.specs.Drop as dropping
 use Rattle.window_report.specs.Drop.{dropFrom, dropTo, dropOf}

@@ -18,7 +18,8 @@ use Rattle.slots.specs.Words as words
 use Rattle.slots.specs.declared.entry.Entry.{Entry}
 use Rattle.slots.specs.declared.entry.Entry.the-variants.{Lost, Received, GivenUp}
 use Rattle.window.specs.Window as windows
-use Rattle.window.specs.Window.{Good, slotIn, entryIn, withLrsn, roomOf}
+use Rattle.window.specs.Window.{slotIn, entryIn, withLrsn, roomOf}
+use Rattle.window.specs.Ready.{Good}
 use Rattle.window.specs.Push.{grown}
 use Rattle.window.specs.declared.Window.{Window}
 use Rattle.window.specs.declared.push.Packet.{Packet}
@@ -80,7 +81,7 @@ module _ (S : ℕ → List ℕ → Type 0) (l : Ledger) (h : Head) (ws bs : List
   -- a held number, seen from the front and from the next expected
   index-is : Good w ws → (i : ℕ) → i ≤ w .held → numberOf l (frontOf l + i) ≡ p .number → at ≡ i
   index-is g i k e =
-      ap (λ (x : ℕ). distance 31 x (w .seqno0)) (sym e ∙ sym (place-number a i)) ∙ distance-sum 31 (w .seqno0) {n = i} (omega (arith, g .holds, g .most))
+      ap (λ (x : ℕ). distance 31 x (w .seqno0)) (sym e ∙ sym (place-number a i)) ∙ distance-sum 31 (w .seqno0) {n = i} (omega (arith, g .ranges .holds, g .ranges .most))
 
   far : Good w ws → (i : ℕ) → i < w .held → numberOf l (frontOf l + i) ≡ p .number → 2 ^ 30 ≤ distance 31 (p .number) (windows.nextOf w)
   far g i k e =
@@ -89,9 +90,9 @@ module _ (S : ℕ → List ℕ → Type 0) (l : Ledger) (h : Head) (ws bs : List
       let d : distance 31 (windows.nextOf w) (p .number) ≡ n =
       ap (λ (x : ℕ). distance 31 (windows.numberIn w x) (p .number)) (sym z)
       ∙ ap (λ (x : ℕ). distance 31 (windows.numberIn w (i + n)) x) (sym e ∙ sym (place-number a i))
-      ∙ place-distance 31 (w .seqno0) i n (omega (arith, g .holds, g .most)) in
+      ∙ place-distance 31 (w .seqno0) i n (omega (arith, g .ranges .holds, g .ranges .most)) in
       let o = around 31 (windows.nextOf w) (p .number) (omega arith) in
-      omega (arith, g .holds, g .most)
+      omega (arith, g .ranges .holds, g .ranges .most)
 
   -- the next expected, as the ledger says it
   next-is : windows.nextOf w ≡ numberOf l (nextOf l)
@@ -111,7 +112,7 @@ module _ (S : ℕ → List ℕ → Type 0) (l : Ledger) (h : Head) (ws bs : List
 
   not-late : Good w ws → before 31 (p .number) (w .seqno0) ≡ true → (i : ℕ) → i ≤ w .held → numberOf l (frontOf l + i) ≡ p .number → ⊥
   not-late g b i k e =
-      let z = index-is g i k e in impossible (sym b ∙ before-not 31 (p .number) (w .seqno0) (omega (arith, g .holds, g .most)))
+      let z = index-is g i k e in impossible (sym b ∙ before-not 31 (p .number) (w .seqno0) (omega (arith, g .ranges .holds, g .ranges .most)))
 
   number : Admitted h ws bs time p payload → numberOf l (frontOf l + at) ≡ p .number
   unfolding sum
@@ -126,7 +127,7 @@ module _ (S : ℕ → List ℕ → Type 0) (l : Ledger) (h : Head) (ws bs : List
 
   gap-room : Admitted h ws bs time p payload → length (l .held) + distance 31 (p .number) (numberOf l (nextOf l)) + 1 ≤ w .capacity
       → w .held + distance 31 (p .number) (windows.nextOf w) + 1 ≤ 8192
-  gap-room d x = let n = ap (distance 31 (p .number)) next-is in omega (arith, count, n, x, d .good .most)
+  gap-room d x = let n = ap (distance 31 (p .number)) next-is in omega (arith, count, n, x, d .good .ranges .most)
 
   gap-index : Admitted h ws bs time p payload → after 31 (p .number) (numberOf l (nextOf l)) ≡ true
       → length (l .held) + distance 31 (p .number) (numberOf l (nextOf l)) + 1 ≤ w .capacity → at ≡ w .held + distance 31 (p .number) (windows.nextOf w)
@@ -197,7 +198,7 @@ module _ (S : ℕ → List ℕ → Type 0) (l : Ledger) (h : Head) (ws bs : List
         taken = λ z i k e x. absurd (not-far (d .good) under i k e);
         late = λ e. absurd (omega arith);
         next = λ z e x. absurd (let y = none-missing e in omega arith);
-        gap = λ z e x. absurd (omega (arith, count, n, r, x, d .good .holds));
+        gap = λ z e x. absurd (omega (arith, count, n, r, x, d .good .ranges .holds));
       }
 
   late : Admitted h ws bs time p payload → before 31 (p .number) (w .seqno0) ≡ true → Judged (datas.Refused 9)
@@ -218,7 +219,7 @@ module _ (S : ℕ → List ℕ → Type 0) (l : Ledger) (h : Head) (ws bs : List
         gap =
             λ z e x.
             let y = gap-index d e x in
-            impossible (sym b ∙ before-not 31 (p .number) (w .seqno0) (omega (arith, d .good .most, gap-room d x)));
+            impossible (sym b ∙ before-not 31 (p .number) (w .seqno0) (omega (arith, d .good .ranges .most, gap-room d x)));
       }
 
   twice : Admitted h ws bs time p payload → at < w .held → words.isLost (entryIn w ws at) ≡ false → Judged (datas.Refused 10)
@@ -284,9 +285,9 @@ module _ (S : ℕ → List ℕ → Type 0) (l : Ledger) (h : Head) (ws bs : List
       took (datas.Loss (windows.nextOf w) (sum 31 (p .number) (2 ^ 31 - 1))) refl d
       (λ e. impossible (sym e))
       (λ e. impossible (sym e))
-      (λ e. ap (after 31 (p .number)) (sym next-is) ∙ after-at 31 (p .number) (windows.nextOf w) some (omega (arith, d .good .most)))
+      (λ e. ap (after 31 (p .number)) (sym next-is) ∙ after-at 31 (p .number) (windows.nextOf w) some (omega (arith, d .good .ranges .most)))
       (next-is, refl)
-      (λ i k e q. absurd (not-far (d .good) (omega (arith, d .good .most)) i k e))
+      (λ i k e q. absurd (not-far (d .good) (omega (arith, d .good .ranges .most)) i k e))
       (λ e. absurd (let y = none-missing e in omega arith))
       (λ e m. refl))
       recovered

@@ -20,7 +20,8 @@ use Rattle.acks.specs.declared.history.AckAnswer.{AckAnswer}
 use Rattle.acks.specs.declared.history.AckAnswer.the-variants as acks
 use Rattle.acks.specs.declared.history.Ack2Answer.{Ack2Answer}
 use Rattle.acks.specs.declared.history.Ack2Answer.the-variants as acks2
-use Rattle.window.specs.Window.{Good, roomOf}
+use Rattle.window.specs.Window.{roomOf}
+use Rattle.window.specs.Ready.{Good}
 use Rattle.window.specs.declared.Window.{Window}
 use Rattle.window_report.specs.Report.{ReportOutcome, reportOf}
 use Rattle.window_report.specs.Drop as dropping

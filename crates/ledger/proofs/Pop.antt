@@ -9,7 +9,8 @@ use lib.ListN.{length, take, drop}
 use lib.Seq.{take-at}
 use Rattle.numbers.specs.Circular.{distance, sum}
 use Rattle.numbers.proofs.Circle.{sum-zero, distance-sum}
-use Rattle.window.specs.Window.{Good, numberIn}
+use Rattle.window.specs.Window.{numberIn}
+use Rattle.window.specs.Ready.{Good}
 use Rattle.window.specs.declared.Window.{Window}
 use Rattle.window_pop.specs.Pop.{PopOutcome, PopReady, discardFront, popOf}
 use Rattle.window_pop.specs.declared.pop.PopAnswer.{PopAnswer}
@@ -66,11 +67,11 @@ module _ (S : ℕ → List ℕ → Type 0) (l : Ledger) (h : Head) (ws bs out : 
   unfolding discardFront
   front g =
       pop-cases (h .clock) (h .latency) (h .dropping) w ws now bs out Front
-      (sym (sum-zero 31 (g .first)), omega arith)
-      (sym (sum-zero 31 (g .first)), omega arith)
+      (sym (sum-zero 31 (g .ranges .seqno0)), omega arith)
+      (sym (sum-zero 31 (g .ranges .seqno0)), omega arith)
       (λ some held fits. (refl, held))
       (λ n stamp some held.
-      let d : distance 31 (numberIn w n) (w .seqno0) ≡ n = distance-sum 31 (w .seqno0) {n = n} (omega (arith, g .holds, g .most)) in
+      let d : distance 31 (numberIn w n) (w .seqno0) ≡ n = distance-sum 31 (w .seqno0) {n = n} (omega (arith, g .ranges .holds, g .ranges .most)) in
       (ap (numberIn w) (sym d), omega arith))
 
   count : w .held ≡ length (l .held)
@@ -91,7 +92,7 @@ module _ (S : ℕ → List ℕ → Type 0) (l : Ledger) (h : Head) (ws bs out : 
     stays e =
         still S l (o .popped .window) (entries (o .popped .window) ws bs)
         (record {
-          front = front (d .good) .0 ∙ ap (λ (x : PopAnswer). numberIn w (takes x)) e ∙ sum-zero 31 (d .good .first) ∙ a .front;
+          front = front (d .good) .0 ∙ ap (λ (x : PopAnswer). numberIn w (takes x)) e ∙ sum-zero 31 (d .good .ranges .seqno0) ∙ a .front;
           held = ap (map placeOf) (seen ∙ ap (views.afterPop es) e) ∙ a .held;
           right = right;
           ownGone = a .ownGone;
@@ -162,7 +163,7 @@ module _ (S : ℕ → List ℕ → Type 0) (l : Ledger) (h : Head) (ws bs out : 
         tt
         (λ some held fits. tt)
         (λ n stamp some held.
-        let e : distance 31 (numberIn w n) (w .seqno0) ≡ n = distance-sum 31 (w .seqno0) {n = n} (omega (arith, d .good .holds, d .good .most)) in
+        let e : distance 31 (numberIn w n) (w .seqno0) ≡ n = distance-sum 31 (w .seqno0) {n = n} (omega (arith, d .good .ranges .holds, d .good .ranges .most)) in
         (omega arith, refl, ap (numberIn w) (sym e)))
 
     tells : (x : PopAnswer) → o .popped .answer ≡ x → Told (popped h now o)

@@ -16,7 +16,8 @@ use Rattle.head.specs.Head.{headOk, freshHead, madeOf}
 use Rattle.head.specs.declared.state.Head.{Head}
 use Rattle.head.specs.declared.state.Made.{Made}
 use Rattle.head.proofs.Gates.{clear}
-use Rattle.head.proofs.Ready.{in-parts, in-window}
+use Rattle.head.proofs.Ready.{in-parts}
+use Rattle.window.proofs.Ranges.{in-window}
 use Rattle.receiver.specs.Data.{packet, dataCallOf}
 use Rattle.receiver.specs.Paper.{dataLine}
 use Rattle.receiver.specs.declared.data.DataAnswer.{DataAnswer}

@@ -21,7 +21,8 @@ use Rattle.clock.specs.Sync.{synchronized}
 use Rattle.clock.specs.declared.time.SynchronizedRemoteClock.{SynchronizedRemoteClock}
 use Rattle.clock.specs.declared.time.Synchronized.{Synchronized}
 use Rattle.clock.specs.declared.time.Synchronized.the-variants as clocks
-use Rattle.window.specs.Push.{PacketRight, pushOf}
+use Rattle.window.specs.Push.{pushOf}
+use Rattle.window.specs.Ready.{PacketRight}
 use Rattle.window.specs.Show.{shownOf}
 use Rattle.window.specs.Window.{roomOf}
 use Rattle.window.specs.declared.Window.{Window}

@@ -10,7 +10,7 @@ use denote.Ref.{RefT}
 use lib.Dec.{eqb}
 use lib.ListN.{length}
 use Rattle.numbers.proofs.Flags.{by-test}
-use Rattle.window.specs.Window.{Good}
+use Rattle.window.specs.Ready.{Good}
 use Rattle.window.specs.Show.{PartOf, ShownAt, nowhere, shownOf}
 use Rattle.window.specs.declared.show.Place.{Place}
 use Rattle.window.proofs.Shows.{shown-within}

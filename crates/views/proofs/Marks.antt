@@ -11,7 +11,8 @@ use Rattle.slots.specs.Words as words
 use Rattle.slots.specs.Ring.{slotOf}
 use Rattle.slots.specs.declared.entry.Entry.{Entry}
 use Rattle.slots.specs.declared.entry.Entry.the-variants.{Lost, Received, GivenUp}
-use Rattle.window.specs.Window.{Good, slotIn, entryIn, numberIn}
+use Rattle.window.specs.Window.{slotIn, entryIn, numberIn}
+use Rattle.window.specs.Ready.{Good}
 use Rattle.window.specs.declared.Window.{Window}
 use Rattle.window_report.specs.Report.{ReportOutcome, isDue, kAfter, slotsTo, reportOf}
 use Rattle.window_report.specs.Drop.{dropFrom, dropTo, dropOf}

@@ -16,7 +16,8 @@ use Rattle.slots.specs.Ring.{slotOf, payloadAt}
 use Rattle.slots.specs.declared.entry.Entry.{Entry}
 use Rattle.slots.specs.declared.entry.Entry.the-variants.{Lost, Received, GivenUp}
 use Rattle.slots.proofs.Laws.{length-read, slot-lt}
-use Rattle.window.specs.Window.{Good, Bytes, slotIn, entryIn, numberIn, cut, firstGap}
+use Rattle.window.specs.Window.{slotIn, entryIn, numberIn, cut, firstGap}
+use Rattle.window.specs.Ready.{Good, Bytes}
 use Rattle.window.specs.declared.Window.{Window}
 use Rattle.window_pop.specs.Pop.{PopOutcome, Filled, runFrom, messageOf, filled, discardFront, popOf}
 use Rattle.window_pop.specs.declared.pop.Message.{Message}
@@ -99,7 +100,7 @@ module _ (w : Window) (ws bs out : List ℕ) (g : Good w ws) (gb : Bytes w bs) w
       let q = payloadAt bs s len in
       let f = filled (w .capacity) (w .start) ws bs out n in
       let i = filled-joined n (omega arith) in
-      let room : len ≤ length (drop (1456 * s) bs) = rw length-drop (omega (arith, length-read ws s, slot-lt (w .capacity) (w .start) n (g .some))) in
+      let room : len ≤ length (drop (1456 * s) bs) = rw length-drop (omega (arith, length-read ws s, slot-lt (w .capacity) (w .start) n (g .ranges .some))) in
       let long : length q ≡ len = length-take-le len (drop (1456 * s) bs) room in
       let z : 0 + n ≡ n = omega arith in
       let one : bytesIn (getD es n givenUp) ≡ q = ap bytesIn (entries-at (w .capacity) (w .start) ws bs 0 (w .held) n givenUp (omega arith) ∙ ap (λ (x : ℕ). seenAt ws bs (slotIn w x)) z) ∙ slot-bytes bs s (entryIn w ws n) in

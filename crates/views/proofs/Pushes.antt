@@ -23,9 +23,10 @@ use Rattle.slots.specs.Ring.{withPayload}
 use Rattle.slots.specs.declared.entry.Entry.{Entry}
 use Rattle.slots.specs.declared.entry.Entry.the-variants.{Lost}
 use Rattle.slots.proofs.Laws.{read-same, payload-same, slot-lt, slot-apart}
-use Rattle.window.specs.Window.{Good, Bytes, slotIn, entryIn, nextOf, numberIn, roomOf}
+use Rattle.window.specs.Window.{slotIn, entryIn, nextOf, numberIn, roomOf}
+use Rattle.window.specs.Ready.{Good, Bytes, PacketRight}
 use Rattle.window.specs.Push as push
-use Rattle.window.specs.Push.{PushOutcome, PacketRight, withLost, appendNextOf, appendWithLossOf, recoveredOf, recoverOf, pushOf}
+use Rattle.window.specs.Push.{PushOutcome, withLost, appendNextOf, appendWithLossOf, recoveredOf, recoverOf, pushOf}
 use Rattle.window.specs.declared.Window.{Window}
 use Rattle.window.specs.declared.push.Packet.{Packet}
 use Rattle.window.specs.declared.push.PushAnswer.the-variants as answers
@@ -44,10 +45,10 @@ module _ (w : Window) (ws bs : List ℕ) (time : ℕ) (p : Packet) (payload : Li
   fit = omega arith
 
   in-area : (i : ℕ) → 1456 * slotIn w i + 1456 ≤ length bs
-  in-area i = omega (arith, slot-lt (w .capacity) (w .start) i (g .some))
+  in-area i = omega (arith, slot-lt (w .capacity) (w .start) i (g .ranges .some))
 
   in-words : (i : ℕ) (vs : List ℕ) → length vs ≡ length ws → 3 * slotIn w i + 3 ≤ length vs
-  in-words i vs h = omega (arith, slot-lt (w .capacity) (w .start) i (g .some))
+  in-words i vs h = omega (arith, slot-lt (w .capacity) (w .start) i (g .ranges .some))
 
   -- the packet's own slot, and another's
   own : (i : ℕ) (vs : List ℕ) → length vs ≡ length ws → seenAt (writeAt vs (slotIn w i) e) (withPayload bs (slotIn w i) payload) (slotIn w i) ≡ packetSeen p payload
@@ -55,7 +56,7 @@ module _ (w : Window) (ws bs : List ℕ) (time : ℕ) (p : Packet) (payload : Li
 
   other : (i j : ℕ) (vs : List ℕ) → i < w .capacity → j < w .capacity → (j ≡ i → ⊥)
       → seenAt (writeAt vs (slotIn w i) e) (withPayload bs (slotIn w i) payload) (slotIn w j) ≡ seenAt vs bs (slotIn w j)
-  other i j vs hi hj ne = seen-other vs bs (slotIn w i) e payload (slotIn w j) (r .bytes) (in-area i) (slot-apart (w .capacity) (w .start) (g .starts) j i hj hi ne)
+  other i j vs hi hj ne = seen-other vs bs (slotIn w i) e payload (slotIn w j) (r .bytes) (in-area i) (slot-apart (w .capacity) (w .start) (g .ranges .starts) j i hj hi ne)
 
   abbrev pub Seen-after : PushOutcome → Type 0
   Seen-after o = entries (o .pushed .window) (o .slots) (o .payloads) ≡ afterPush w time p payload es (o .pushed .answer)
@@ -85,7 +86,7 @@ module _ (w : Window) (ws bs : List ℕ) (time : ℕ) (p : Packet) (payload : Li
       let z : w .held + suc n ≡ k + 1 = omega arith in
       let own : seenAt (writeAt vs (slotIn w k) (Lost 2 time)) bs (slotIn w k) ≡ lost 2 time = rw (read-same vs (slotIn w k) (Lost 2 time) (in-words k vs (length-lost (w .capacity) (w .start) ws time (w .held) n)) (omega arith)) in
       rw z
-      (one-more (w .capacity) (w .start) vs bs (writeAt vs (slotIn w k) (Lost 2 time)) bs k (λ j l. seen-words vs bs (slotIn w k) (Lost 2 time) (slotIn w j) (slot-apart (w .capacity) (w .start) (g .starts) j k (omega arith) (omega arith) (omega arith)))
+      (one-more (w .capacity) (w .start) vs bs (writeAt vs (slotIn w k) (Lost 2 time)) bs k (λ j l. seen-words vs bs (slotIn w k) (Lost 2 time) (slotIn w j) (slot-apart (w .capacity) (w .start) (g .ranges .starts) j k (omega arith) (omega arith) (omega arith)))
       ∙ rw (own, lost-seen n (omega arith)) (append-assoc es (replicate n (lost 2 time)) (lost 2 time ∷ []) ∙ ap (λ (l : List Seen). es ++ l) (snoc n)))
     where
       snoc : (n : ℕ) → replicate n (lost 2 time) ++ (lost 2 time ∷ []) ≡ replicate (suc n) (lost 2 time)

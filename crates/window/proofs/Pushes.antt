@@ -18,7 +18,8 @@ use Rattle.slots.specs.Ring.{slotOf, nextSlot, withPayload}
 use Rattle.slots.specs.declared.entry.Entry.{Entry}
 use Rattle.slots.specs.declared.entry.Entry.the-variants.{Lost}
 use Rattle.slots.proofs.Laws.{length-write, slot-next}
-use Rattle.window.specs.Window.{Good, slotIn, nextOf, lrsnFrom, roomOf}
+use Rattle.window.specs.Window.{slotIn, nextOf, lrsnFrom, roomOf}
+use Rattle.window.specs.Ready.{Good}
 use Rattle.window.specs.Push.{PushOutcome, pushEnded, received, movedPast, withLost, recoveredLrsn, refused, appendNextOf, appendWithLossOf, recoveredOf, recoverOf, pushOf}
 use Rattle.window.specs.declared.Window.{Window}
 use Rattle.window.specs.declared.push.Packet.{Packet}

@@ -17,7 +17,8 @@ use Rattle.slots.specs.Ring.{slotOf}
 use Rattle.slots.specs.declared.entry.Entry.{Entry}
 use Rattle.slots.specs.declared.entry.Entry.the-variants.{Lost, Received, GivenUp}
 use Rattle.slots.proofs.Laws.{slot-lt, length-read}
-use Rattle.window.specs.Window.{Good, slotIn, entryIn}
+use Rattle.window.specs.Window.{slotIn, entryIn}
+use Rattle.window.specs.Ready.{Good}
 use Rattle.window.specs.Show.{PartOf, ShownAt, nowhere, shownOf}
 use Rattle.window.specs.declared.Window.{Window}
 use Rattle.window.specs.declared.show.Place.{Place}
@@ -54,7 +55,7 @@ shown-within w ws number {n} e g h =
     let i = distance 31 number (w .seqno0) in
     rw e
     (by-test (λ (q : Place). q .at + q .len ≤ n) (ltb i (w .held) && isReceived (entryIn w ws i)) _ _
-    (λ t. let l = slot-lt (w .capacity) (w .start) i (g .some) in let m = length-read ws (slotIn w i) in omega arith)
+    (λ t. let l = slot-lt (w .capacity) (w .start) i (g .ranges .some) in let m = length-read ws (slotIn w i) in omega arith)
     (λ t. omega arith))
 
 -- show: the part that `part` gives is the one that was found

@@ -10,7 +10,8 @@ use Rattle.slots.specs.Words.{isReceived, entryAt}
 use Rattle.slots.specs.Ring.{slotOf, nextSlot}
 use Rattle.slots.specs.declared.entry.Entry.{Entry}
 use Rattle.slots.proofs.Laws.{slot-lt, slot-zero, slot-next, slot-words, slot-words-kept, slot-bytes}
-use Rattle.window.specs.Window.{Good, slotIn, numberIn, firstGap, lrsnFrom, cut}
+use Rattle.window.specs.Window.{slotIn, numberIn, firstGap, lrsnFrom, cut}
+use Rattle.window.specs.Ready.{Good}
 use Rattle.window.specs.declared.Window.{Window}
 
 -- a walk begins in the start slot

@@ -2,7 +2,7 @@
 ghost use mathlib.Core.Path.{_≡_};
 ghost use Prim.Native.Nat.{_+_, _≤_};
 ghost use lib.ListN.{length};
-ghost use Rattle.window.specs.Window.{Good, Bytes};
+ghost use Rattle.window.specs.Ready.{Good, Bytes};
 ghost use Rattle.window.specs.Show.{PartOf, ShownAt, shownOf};
 use crate::Window;
 use slots::entry::Entry;

@@ -11,7 +11,8 @@ use Rattle.slots.specs.Words.{entryAt, lengthIn, isFirst, isLast, inMessage, me
 use Rattle.slots.specs.Ring.{slotOf}
 use Rattle.slots.specs.declared.entry.Entry.{Entry}
 use Rattle.slots.proofs.Laws.{slot-zero, length-read}
-use Rattle.window.specs.Window.{Ring, entryIn}
+use Rattle.window.specs.Window.{entryIn}
+use Rattle.window.specs.Ready.{Ring}
 use Rattle.window_pop.specs.Pop.{noMessage, runFrom, messageOf}
 use Rattle.window.specs.declared.Window.{Window}
 use Rattle.window_pop.specs.declared.pop.Message.{Message}

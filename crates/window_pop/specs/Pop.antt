@@ -16,7 +16,8 @@ use Rattle.slots.specs.Words.{isReceived, entryAt, lengthIn, stampIn, messageIn
 use Rattle.slots.specs.Ring.{slotOf, payloadAt}
 use Rattle.slots.specs.declared.entry.Entry.{Entry}
 use Rattle.slots.specs.declared.entry.Entry.the-variants.{GivenUp}
-use Rattle.window.specs.Window.{Good, Bytes, entryIn, numberIn, lrsnFrom, cut, withLrsn}
+use Rattle.window.specs.Window.{entryIn, numberIn, lrsnFrom, cut, withLrsn}
+use Rattle.window.specs.Ready.{Good, Bytes}
 use Rattle.window.specs.declared.Window.{Window}
 use Rattle.window_pop.specs.declared.pop.Message.{Message}
 use Rattle.window_pop.specs.declared.pop.Walk.{Walk}

@@ -5,7 +5,7 @@ ghost use lib.IntN.{natAbs};
 ghost use lib.ListN.{length};
 ghost use lib.Seq.{paste};
 ghost use Rattle.slots.specs.Ring.{payloadAt};
-ghost use Rattle.window.specs.Window.{Ring, Good, Bytes};
+ghost use Rattle.window.specs.Ready.{Ring, Good, Bytes};
 ghost use Rattle.window_pop.specs.Pop.{popEnded, runFrom, messageOf, filled, isLate, isKept, walkPast, walkFrom, noWalk, frontIn, discardFront, discarded, lateOf, releasedOf, frontOf, popOf, dueOf, limitOf, PopReady};
 use clock::base::TimeBase;
 use clock::time::SynchronizedRemoteClock;

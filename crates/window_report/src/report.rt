@@ -3,7 +3,7 @@ ghost use mathlib.Core.Path.{_≡_};
 ghost use Prim.Native.Nat.{_+_, _*_, _<_, _≤_, _^_};
 ghost use lib.ListN.{length};
 ghost use Rattle.slots.specs.Words.{Fit};
-ghost use Rattle.window.specs.Window.{Good};
+ghost use Rattle.window.specs.Ready.{Good};
 ghost use Rattle.window_report.specs.Report.{isDue, kAfter, reportEnded, runWords, closed, runsAfter, Within, runsTo, runPut, needed, reporting, reportOne, reportedTo, reportOf};
 use slots::entry::Entry;
 
