@@ -18,7 +18,8 @@ use Rattle.window.specs.Ready.{Good}
 use Rattle.window.specs.declared.Window.{Window}
 use Rattle.window_report.specs.Drop as dropping
 use Rattle.window_report.specs.Drop.{dropFrom, dropTo, dropOf}
-use Rattle.window_report.proofs.DropLaws.{lostAmong, drop-counts}
+use Rattle.window_report.specs.Drop.{lostAmong}
+use Rattle.window_report.proofs.DropLaws.{drop-counts}
 use Rattle.views.specs.View.{Seen, seenOf, entriesFrom, entries}
 use Rattle.ledger.specs.Ledger.{Place, lost, received, givenUp, gaveUp, givenIn, lostCount}
 use Rattle.ledger.specs.Runs.{placeOf}

@@ -23,9 +23,9 @@ use Rattle.head.proofs.Ready.{pop-ready}
 use Rattle.receiver.specs.Message.{MessageOutcome, popped, takenOf, popCallOf}
 use Rattle.receiver.specs.declared.message.MessageAnswer.{MessageAnswer}
 use Rattle.views.specs.View as views
-use Rattle.views.specs.View.{Seen, entries, LrsnRight, gapIn, joined}
+use Rattle.views.specs.View.{Seen, entries, LrsnRight, gapIn, joined, Handed}
 use Rattle.views.proofs.Lists.{entries-length}
-use Rattle.views.proofs.Pops.{Handed, pop-seen, pop-right, pop-handed}
+use Rattle.views.proofs.Pops.{pop-seen, pop-right, pop-handed}
 use Rattle.ledger.specs.Ledger.{Place, Fate, released, discarded, bytesOf, Ledger, frontOf, leave, enterPop, receivedRun, releasedBytes}
 use Rattle.ledger.specs.Reading.{popBytes}
 use Rattle.ledger.specs.Runs.{placeOf}

@@ -6,4 +6,5 @@ pub mod Message
 pub mod Paper
 pub mod Request
 pub mod Show
+pub mod Stays
 pub mod Sync

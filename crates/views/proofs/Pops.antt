@@ -24,7 +24,7 @@ use Rattle.window_pop.specs.declared.pop.Message.{Message}
 use Rattle.window_pop.specs.declared.pop.PopAnswer.the-variants as pops
 use Rattle.window_pop.proofs.Fills.{front-whole}
 use Rattle.window_pop.proofs.PopLaws.{pop-cases}
-use Rattle.views.specs.View.{Seen, givenUp, seenOf, seenAt, isReceived, entriesFrom, entries, gapIn, LrsnRight, afterPop, bytesIn, joined}
+use Rattle.views.specs.View.{Seen, givenUp, seenOf, seenAt, isReceived, entriesFrom, entries, gapIn, LrsnRight, afterPop, bytesIn, joined, Handed}
 use Rattle.views.proofs.Lists.{entries-length, entries-at, entries-cut}
 use Rattle.views.proofs.Gaps.{gap-found, gap-from}
 
@@ -146,17 +146,10 @@ module _ (k : SynchronizedRemoteClock) (latency : ℕ) (late : Bool) (w : Window
       let z : c .held - 0 ≡ c .held = omega arith in
       ap (numberIn c) (ap (firstGap (c .capacity) (c .start) ws 0) z ∙ gap-found (c .capacity) (c .start) ws bs (c .held) 0 ∙ omega arith))
 
-  -- a message's output is the bytes of its entries, one after the other, all of them received; past them the output stays
-  pub record Handed (x : PopOutcome) (bytes packets : ℕ) : Type 0 where
-    pub some : 0 < packets
-    pub held : packets ≤ w .held
-    pub whole : packets ≤ gapIn es
-    pub long : bytes ≡ length (joined (take packets es))
-    pub output : x .output ≡ joined (take packets es) ++ drop bytes out
-
-  pub pop-handed : Bytes w bs → (time : ℤ) (bytes packets : ℕ) → outcome .popped .answer ≡ pops.Message time bytes packets → Handed outcome bytes packets
+  -- what a message hands out
+  pub pop-handed : Bytes w bs → (time : ℤ) (bytes packets : ℕ) → outcome .popped .answer ≡ pops.Message time bytes packets → Handed w es out outcome bytes packets
   pop-handed gb time bytes packets =
-      pop-cases k latency late w ws now bs out (λ (x : PopOutcome). x .popped .answer ≡ pops.Message time bytes packets → Handed x bytes packets)
+      pop-cases k latency late w ws now bs out (λ (x : PopOutcome). x .popped .answer ≡ pops.Message time bytes packets → Handed w es out x bytes packets)
       (λ e. absurd (let z : _≡_ {A = ℕ} 0 1 = cc in omega arith))
       (λ e. absurd (let z : _≡_ {A = ℕ} 0 1 = cc in omega arith))
       (λ some held fits e.

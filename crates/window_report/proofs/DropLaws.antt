@@ -12,7 +12,7 @@ use Rattle.slots.specs.declared.entry.Entry.the-variants.{GivenUp}
 use Rattle.slots.proofs.Laws.{length-write, read-same, read-other, words-outside, slot-lt, slot-words, slot-apart}
 use Rattle.window.specs.Window.{entryIn}
 use Rattle.window.specs.Ready.{Good}
-use Rattle.window_report.specs.Drop.{Dropped, giveUp, sweep, endIn, dropFrom, dropTo, dropOf}
+use Rattle.window_report.specs.Drop.{Dropped, giveUp, sweep, endIn, dropFrom, dropTo, dropOf, lostAmong}
 use Rattle.window.specs.declared.Window.{Window}
 
 -- one slot: the count grows by one at most, the words keep their number, and no other slot changes
@@ -94,12 +94,7 @@ module _ (capacity start : ℕ) (ws : List ℕ) (i : ℕ) where
         rw e
         (one-same (slotOf capacity start j) (sweep capacity start ws i n) (rw sweep-long (slot-words capacity start j (omega arith) refl w)) ∙ rw a))
 
--- how many of the n entries from entry i on are lost
-unfoldable pub lostAmong : ℕ → ℕ → List ℕ → ℕ → ℕ → ℕ
-lostAmong capacity start ws i zero = 0
-lostAmong capacity start ws i (suc n) = lostAmong capacity start ws i n + cond (isLost (entryAt ws (slotOf capacity start (i + n)))) 1 0
-
--- the count is that number: what is given up on the way is not counted again
+-- the count is the number of lost ones: what is given up on the way is not counted again
 pub sweep-counts : (capacity start : ℕ) (ws : List ℕ) (i n : ℕ) → start < capacity → i + n ≤ capacity → sweep capacity start ws i n .count ≡ lostAmong capacity start ws i n
 unfolding sweep giveUp lostAmong
 sweep-counts capacity start ws i zero hs h = refl

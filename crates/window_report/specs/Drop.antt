@@ -39,3 +39,8 @@ dropTo w last = endIn w (sum 31 last 1)
 -- lost entries from start to before end; none if end is below start, where the difference is 0
 unfoldable pub dropOf : Window → List ℕ → ℕ → ℕ → Dropped
 dropOf w ws first last = sweep (w .capacity) (w .start) ws (dropFrom w first) (dropTo w last - dropFrom w first)
+
+-- how many of the n entries from entry i on are lost
+unfoldable pub lostAmong : ℕ → ℕ → List ℕ → ℕ → ℕ → ℕ
+lostAmong capacity start ws i zero = 0
+lostAmong capacity start ws i (suc n) = lostAmong capacity start ws i n + cond (isLost (entryAt ws (slotOf capacity start (i + n)))) 1 0
