@@ -73,12 +73,12 @@ firstKept a start now wait i zero = i
 firstKept a start now wait i (suc n) = cond (isExpired a (ackSlot start i) now wait) (firstKept a start now wait (i + 1) n) i
 
 -- a history still full loses its oldest
-abbrev pub oneMore : ℕ → ℕ → ℕ
-oneMore count gone = cond (eqb (count - gone) 1024) (gone + 1) gone
+abbrev pub withOldest : ℕ → ℕ → ℕ
+withOldest count gone = cond (eqb (count - gone) 1024) (gone + 1) gone
 
 -- how many leave the front: while more than one entry, those that are expired, and the oldest if it is still full
 unfoldable pub leaving : List ℕ → ℕ → ℕ → ℕ → ℕ → ℕ
-leaving a start count now wait = oneMore count (firstKept a start now wait 0 (count - 1))
+leaving a start count now wait = withOldest count (firstKept a start now wait 0 (count - 1))
 
 -- number the ACK newest + 1, or 1 if the history is empty
 unfoldable pub nextAck : History → ℕ

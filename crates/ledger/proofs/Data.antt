@@ -23,7 +23,7 @@ use Rattle.views.specs.View as views
 use Rattle.views.specs.View.{Seen, entries, LrsnRight, packetSeen}
 use Rattle.views.proofs.Lists.{entries-length}
 use Rattle.ledger.specs.Ledger.{Place, lost, received, Ledger, numberOf, frontOf, nextOf, holding, marked, tookIn, enterData, releasedBytes}
-use Rattle.ledger.specs.Reading.{dataPlaces}
+use Rattle.ledger.specs.Seen.{dataPlaces}
 use Rattle.ledger.specs.Runs.{placeOf}
 use Rattle.ledger.proofs.Places.{map-append, map-set, map-replicate, marked-one}
 use Rattle.ledger.proofs.Owned.{held-append, held-packet, held-gaps, held-marked}

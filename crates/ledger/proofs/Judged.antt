@@ -35,7 +35,7 @@ use Rattle.views.specs.View.{Seen, seenOf, seenAt, entries, LrsnRight, packetSe
 use Rattle.views.proofs.Lists.{entries-length, entries-at}
 use Rattle.ledger.specs.Ledger.{Place, lost, received, givenUp, Ledger, numberOf, frontOf, nextOf}
 use Rattle.ledger.specs.Runs.{placeOf}
-use Rattle.ledger.specs.Reading.{appends, recovers, isLoss, LossIs}
+use Rattle.ledger.specs.Seen.{appends, recovers, isLoss, LossIs}
 use Rattle.ledger.specs.Claims.{Judges}
 use Rattle.ledger.proofs.Moved.{Stands, held-count, place-number}
 use Rattle.ledger.proofs.Moves.{Admitted, Said, data-moves}

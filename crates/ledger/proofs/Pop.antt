@@ -27,7 +27,7 @@ use Rattle.views.specs.View.{Seen, entries, LrsnRight, gapIn, joined, Handed}
 use Rattle.views.proofs.Lists.{entries-length}
 use Rattle.views.proofs.Pops.{pop-seen, pop-right, pop-handed}
 use Rattle.ledger.specs.Ledger.{Place, Fate, released, discarded, bytesOf, Ledger, frontOf, leave, enterPop, receivedRun, releasedBytes}
-use Rattle.ledger.specs.Reading.{popBytes}
+use Rattle.ledger.specs.Seen.{popBytes}
 use Rattle.ledger.specs.Runs.{placeOf}
 use Rattle.ledger.specs.Claims.{Tells}
 use Rattle.ledger.proofs.Places.{map-take, run-gap, released-append, released-joined, discarded-none}

@@ -15,7 +15,7 @@ use Rattle.receiver.specs.declared.request.DropAnswer.the-variants as drops
 use Rattle.step.specs.declared.Call.{Call}
 use Rattle.step.specs.declared.Answer.{Answer}
 use Rattle.step.specs.declared.Answer.the-variants as answers
-use Rattle.ledger.specs.Reading.{numberIn, lastIn}
+use Rattle.ledger.specs.Seen.{numberIn, lastIn}
 
 -- a place that is still held: a gap, a packet with the bytes handed in for it, or a gap that a drop request gave up
 pub data Place : Type 0 where
