@@ -1,6 +1,6 @@
 -- What the code of history.rt does at each return and each turn, as laws over plain values; the proof files hand them to `search`. Assumes nothing.
 use mathlib.Core.Path.{_≡_, refl, sym, _∙_}
-use mathlib.Core.Bool.{Bool, true, false, _&&_, _||_}
+use mathlib.Core.Bool.{Bool, true, false, _&&_, _||_, and-true}
 use mathlib.Core.List.{List}
 use Prim.Native.Nat.{ℕ, zero, suc, _+_, _-_, _*_, _^_, _<_, _≤_}
 use native.Mathlib.Omega.{arith}
@@ -204,10 +204,6 @@ module _ (h : History) (lrsn : ℕ) where
   pub cleared : _≡_ {A = History} (record { start = h .start; count = 0; first = h .first; largest = lrsn; lastack = h .lastack }) (clearedOf h lrsn)
   unfolding clearedOf
   cleared = refl
-
-and-true : (x : Bool) → (x && true) ≡ x
-and-true true = refl
-and-true false = refl
 
 newest-test : (n : ℕ) → leb n (2 ^ 32) ≡ leb (n - 1) 4294967295
 newest-test n =

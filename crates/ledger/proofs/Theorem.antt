@@ -33,7 +33,8 @@ use Rattle.step.specs.declared.Call.{Call}
 use Rattle.step.specs.declared.Call.the-variants as calls
 use Rattle.step.specs.declared.Answer.{Answer}
 use Rattle.step.specs.declared.Answer.the-variants as answers
-use Rattle.views.specs.View.{Seen, entriesFrom, entries, gapIn}
+use Rattle.views.specs.Lists.{runOf}
+use Rattle.views.specs.View.{Seen, entriesFrom, entries}
 use Rattle.views.proofs.Lists.{entries-length}
 use Rattle.ledger.specs.Ledger.{Fate, released, discarded, bytesOf, Ledger, opened, numberOf, frontOf, nextOf, enterData, enterPop, enterDrop, enter, releasedBytes}
 use Rattle.ledger.specs.Seen.{numberIn, lastIn, NotClear, outBytes, placesIn, kindOf, kindIn}
@@ -156,7 +157,7 @@ module _ (start : ℤ) (latency : ℕ) (dropping : Bool) (first capacity : ℕ) 
       (λ e r. absurd (e r))
 
 fresh-stands : (S : ℕ → List ℕ → Type 0) (first : ℕ) (s : State) → Fresh first s → Stands S (opened first) (s .head .window) (seen s)
-unfolding freshHead entriesFrom gapIn
+unfolding freshHead entriesFrom runOf
 fresh-stands S first s f =
     let m = made-fresh (f .start) (f .latency) (f .dropping) first (f .capacity) (f .made) in
     let e : s .head ≡ freshHead (f .start) (f .latency) (f .dropping) first (f .capacity) = f .head ∙ m .0 in

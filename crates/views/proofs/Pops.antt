@@ -24,6 +24,7 @@ use Rattle.window_pop.specs.declared.pop.Message.{Message}
 use Rattle.window_pop.specs.declared.pop.PopAnswer.the-variants as pops
 use Rattle.window_pop.proofs.Fills.{front-whole}
 use Rattle.window_pop.proofs.PopLaws.{pop-cases}
+use Rattle.views.specs.Lists.{runOf}
 use Rattle.views.specs.View.{Seen, givenUp, seenOf, seenAt, isReceived, entriesFrom, entries, gapIn, LrsnRight, afterPop, bytesIn, joined, Handed}
 use Rattle.views.proofs.Lists.{entries-length, entries-at, entries-cut}
 use Rattle.views.proofs.Gaps.{gap-found, gap-from}
@@ -37,7 +38,7 @@ in-received bs s message GivenUp h = impossible (sym h)
 -- all entries of a whole message are received
 run-gap : (capacity start : ℕ) (ws bs : List ℕ) (message n i total : ℕ) → 0 < runFrom capacity start ws message i total n .packets
     → runFrom capacity start ws message i total n .packets ≤ i + gapIn (entriesFrom capacity start ws bs i n)
-unfolding runFrom entriesFrom gapIn
+unfolding runFrom entriesFrom runOf
 run-gap capacity start ws bs message zero i total = λ h. absurd (omega arith)
 run-gap capacity start ws bs message (suc n) i total =
     let e = entryAt ws (slotOf capacity start i) in

@@ -26,18 +26,19 @@ use Rattle.window.specs.Push as push
 use Rattle.window.specs.Push.{PushOutcome, movedPast, appendNextOf, appendWithLossOf, recoveredOf, recoverOf, pushOf}
 use Rattle.window.specs.declared.Window.{Window}
 use Rattle.window.specs.declared.push.Packet.{Packet}
+use Rattle.views.specs.Lists.{runOf}
 use Rattle.views.specs.View.{Seen, lost, givenUp, seenOf, seenAt, isReceived, entriesFrom, entries, gapIn, LrsnRight, packetSeen, SeenAfter, RightAfter}
 use Rattle.views.proofs.Lists.{entries-length, entries-at, entries-drop}
 use Rattle.views.proofs.Gaps.{gap-found, gap-most, gap-append, gap-whole, gap-set-past, gap-set-at, gap-not-before, gap-from}
 use Rattle.views.proofs.Pushes.{number-is, next-seen, loss-seen, recovered-seen}
 
 one-received : (p : Packet) (payload : List ℕ) → gapIn (packetSeen p payload ∷ []) ≡ 1
-unfolding gapIn
+unfolding runOf
 one-received p payload = refl
 
 -- a lost entry behind the list: the gap stays
 lost-behind : (es : List Seen) (n k f : ℕ) (fs : List Seen) → 0 < n → gapIn (es ++ (replicate n (lost k f) ++ fs)) ≡ gapIn es
-unfolding gapIn
+unfolding runOf
 lost-behind es zero k f fs h = absurd (omega arith)
 lost-behind es (suc n) k f fs h =
     by-order (gapIn es) (length es)

@@ -1,9 +1,9 @@
 -- The entries of a window as a list, front first: what a reader of 01, "Window", thinks of.
 use mathlib.Core.Path.{_≡_}
-use mathlib.Core.Bool.{Bool, true, false, _&&_, cond}
+use mathlib.Core.Bool.{Bool, true, false, cond}
 use mathlib.Core.List.{List, [], _∷_, _++_, map}
 use Prim.Native.Nat.{ℕ, zero, suc, _+_, _*_, _<_, _≤_, min}
-use lib.Dec.{ltb, leb}
+use lib.Dec.{ltb}
 use lib.ListN.{length, set, take, drop, replicate}
 use Rattle.numbers.specs.Circular.{distance}
 use Rattle.slots.specs.Words.{entryAt}
@@ -21,6 +21,7 @@ use Rattle.window_pop.specs.declared.pop.PopAnswer.{PopAnswer}
 use Rattle.window_pop.specs.declared.pop.PopAnswer.the-variants as pops
 use Rattle.window_report.specs.declared.report.ReportAnswer.{ReportAnswer}
 use Rattle.window_report.specs.declared.report.ReportAnswer.the-variants as reports
+use Rattle.views.specs.Lists.{runOf, changedIn}
 
 -- an entry with its bytes
 pub data Seen : Type 0 where
@@ -50,9 +51,8 @@ isReceived (received l m t b) = true
 isReceived givenUp = false
 
 -- how many entries are received before the first that is not
-unfoldable pub gapIn : List Seen → ℕ
-gapIn [] = 0
-gapIn (e ∷ es) = cond (isReceived e) (suc (gapIn es)) 0
+abbrev pub gapIn : List Seen → ℕ
+gapIn es = runOf isReceived es
 
 -- lrsn names the first held entry not received, else the next expected number
 abbrev pub LrsnRight : Window → List Seen → Type 0
@@ -114,12 +114,11 @@ afterReport time mean es reports.Nothing = es
 afterReport time mean es (reports.Report words) = map (reportedSeen time mean) es
 afterReport time mean es reports.ListShort = es
 
--- what a drop request does to the list: lost entries in its range, counted from the front, are given up; the first of the list is entry i
+-- what a drop request does to the list: lost entries in its range, counted from the front, are given up
 abbrev pub gaveUp : Seen → Seen
 gaveUp (lost k f) = givenUp
 gaveUp (received l m t b) = received l m t b
 gaveUp givenUp = givenUp
 
-unfoldable pub givenIn : ℕ → ℕ → ℕ → List Seen → List Seen
-givenIn from to i [] = []
-givenIn from to i (e ∷ es) = cond (leb from i && ltb i to) (gaveUp e) e ∷ givenIn from to (suc i) es
+abbrev pub givenIn : ℕ → ℕ → ℕ → List Seen → List Seen
+givenIn from to i es = changedIn gaveUp from to i es

@@ -16,13 +16,12 @@ use Rattle.slots.specs.Words.{isReceived, entryAt}
 use Rattle.slots.specs.Ring.{slotOf}
 use Rattle.slots.specs.declared.entry.Entry.{Entry}
 use Rattle.slots.specs.declared.entry.Entry.the-variants.{Lost, Received, GivenUp}
-use Rattle.slots.proofs.Laws.{slot-lt, length-read}
+use Rattle.slots.proofs.Laws.{slot-lt, length-read, slot-words}
 use Rattle.window.specs.Window.{slotIn, entryIn}
 use Rattle.window.specs.Ready.{Good}
 use Rattle.window.specs.Show.{PartOf, ShownAt, nowhere, shownOf}
 use Rattle.window.specs.declared.Window.{Window}
 use Rattle.window.specs.declared.show.Part.{Part}
-use Rattle.window.proofs.Walks.{walk-words}
 
 module _ (w : Window) (ws : List ℕ) (number : ℕ) {i : ℕ} (a : i ≡ distance 31 number (w .seqno0)) where
   pub not-held : w .held ≤ i → nowhere ≡ shownOf w ws number
@@ -62,4 +61,4 @@ shown-within w ws number {n} e g h =
 pub shown-part : (w : Window) (ws : List ℕ) (number : ℕ) {s r : RefT (List ℕ)} {p : Part} → p ≡ shownOf w ws number → PartOf s (p .at) (p .len) r → ShownAt (shownOf w ws number) s r
 shown-part w ws number {s} {r} e q = subst (λ (x : Part). ShownAt x s r) e q
 
-pub ruleset showing = (walk-words, not-held, shows, shows-no-lost, shows-no-given, place-fits, index-fits, shown-within, shown-part, needs)
+pub ruleset showing = (slot-words, not-held, shows, shows-no-lost, shows-no-given, place-fits, index-fits, shown-within, shown-part, needs)

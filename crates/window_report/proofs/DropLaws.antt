@@ -92,7 +92,7 @@ module _ (capacity start : ℕ) (ws : List ℕ) (i : ℕ) where
         let e : i + n ≡ j = omega arith in
         let a = sweep-out n (omega arith) (λ m q p. omega arith) in
         rw e
-        (one-same (slotOf capacity start j) (sweep capacity start ws i n) (rw sweep-long (slot-words capacity start j (omega arith) refl w)) ∙ rw a))
+        (one-same (slotOf capacity start j) (sweep capacity start ws i n) (rw sweep-long (slot-words capacity start j refl hs w)) ∙ rw a))
 
 -- the count is the number of lost ones: what is given up on the way is not counted again
 pub sweep-counts : (capacity start : ℕ) (ws : List ℕ) (i n : ℕ) → start < capacity → i + n ≤ capacity → sweep capacity start ws i n .count ≡ lostAmong capacity start ws i n

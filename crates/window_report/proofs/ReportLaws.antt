@@ -214,7 +214,7 @@ module _ (w : Window) (ws : List ℕ) (time mean : ℕ) where
       let e : j ≡ i = omega arith in
       rw e
       (same time mean (slotsTo w ws time mean i) (slotNo w ws time mean i) (entryAt ws (slotNo w ws time mean i))
-      (rw (length-slots i) (slot-words (w .capacity) (w .start) i (g .ranges .some) refl (g .words)))
+      (rw (length-slots i) (slot-words (w .capacity) (w .start) i refl (g .ranges .starts) (g .words)))
       ht
       (slots-ahead i i (g .ranges .starts) (omega arith) (omega arith))))
 

@@ -26,8 +26,11 @@ sweep capacity start ws i zero = dropEnded 0 ws
 sweep capacity start ws i (suc n) = giveUp (slotOf capacity start (i + n)) (sweep capacity start ws i n)
 
 -- an end becomes a saturating difference from seqno0, at most held
+abbrev pub endFrom : ℕ → ℕ → ℕ → ℕ
+endFrom seqno0 held number = min (saturating 31 number seqno0) held
+
 unfoldable pub endIn : Window → ℕ → ℕ
-endIn w number = min (saturating 31 number (w .seqno0)) (w .held)
+endIn w number = endFrom (w .seqno0) (w .held) number
 
 abbrev pub dropFrom : Window → ℕ → ℕ
 dropFrom w first = endIn w first
