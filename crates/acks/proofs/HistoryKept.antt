@@ -15,7 +15,8 @@ use Rattle.numbers.specs.Whole.{intervalOf}
 use Rattle.numbers.proofs.Flags.{and-left, and-right, by-bool, by-test, by-order}
 use Rattle.numbers.proofs.Halves.{same, above--, below--}
 use Rattle.numbers.proofs.Signs.{clamp-in, clamp-high}
-use Rattle.acks.specs.History.{HistoryReady, ackSlot, numberAt, departureAt, since, writeAck, freshHistory, noneDue, newestOf, isWorn, leaving, nextAck, firstAfter, AckOutcome, grown, appendOf, fullAckOf, withLargest, withLast, isHeld, ack2Of, lightAckOf, clearedOf, historyOk}
+use Rattle.acks.specs.History.{ackSlot, numberAt, departureAt, since, writeAck, freshHistory, noneDue, newestOf, isWorn, leaving, nextAck, firstAfter, AckOutcome, grown, appendOf, fullAckOf, withLargest, withLast, isHeld, ack2Of, lightAckOf, clearedOf, historyOk}
+use Rattle.acks.specs.Ready.{HistoryReady}
 use Rattle.acks.specs.declared.history.History.{History}
 use Rattle.acks.specs.declared.history.Answered.{Answered}
 use Rattle.acks.specs.declared.history.Ack2Answer.{Ack2Answer}

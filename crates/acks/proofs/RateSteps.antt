@@ -22,7 +22,8 @@ use Rattle.numbers.proofs.Flags.{by-test, by-order}
 use Rattle.numbers.proofs.Halves.{above, below, same, size, not-negative, above--, below--, lt-false}
 use Rattle.numbers.proofs.Signs.{clamp-in, clamp-high}
 use Rattle.acks.specs.Median.{medianOf}
-use Rattle.acks.specs.Rates.{sinceTime, nextPlace, countAfter, freshArrivals, freshLinks, arrivedFirst, arrivalOf, keeps, takeIn, keptOf, rateOf, speedKept, speedOf, withProbe, pairOf, linkOf, linkRate, capacityOf, placeBefore, windowOf, arrivalGaps, arrivalSizes, linkGaps, firstUnder, allUnder, timeOk, arrivalsOk, linksOk}
+use Rattle.acks.specs.Rates.{sinceTime, nextPlace, countAfter, freshArrivals, freshLinks, arrivedFirst, arrivalOf, keeps, takeIn, keptOf, rateOf, speedKept, speedOf, withProbe, pairOf, linkOf, linkRate, capacityOf, placeBefore, windowOf, arrivalGaps, arrivalSizes, linkGaps, allUnder, timeOk, arrivalsOk, linksOk}
+use Rattle.acks.specs.Inner.{firstUnder}
 use Rattle.acks.specs.declared.rates.Arrivals.{Arrivals}
 use Rattle.acks.specs.declared.rates.Links.{Links}
 use Rattle.acks.specs.declared.rates.Kept.{Kept}

@@ -9,7 +9,8 @@ use lib.Dec.{ltb, leb}
 use lib.ListN.{length, getD, set, drop, List·getD-eq-default}
 use lib.Seq.{getD-set-same, getD-set-other, set-out}
 use Rattle.numbers.proofs.Flags.{and-left, and-right, by-test, by-order}
-use Rattle.acks.specs.Rates.{nextPlace, countAfter, placeBefore, windowOf, arrivalGaps, arrivalSizes, linkGaps, keeps, takeIn, keptOf, firstUnder, allUnder, timeOk, arrivalsOk, linksOk}
+use Rattle.acks.specs.Rates.{nextPlace, countAfter, placeBefore, windowOf, arrivalGaps, arrivalSizes, linkGaps, keeps, takeIn, keptOf, allUnder, timeOk, arrivalsOk, linksOk}
+use Rattle.acks.specs.Inner.{firstUnder}
 use Rattle.acks.specs.declared.rates.Arrivals.{Arrivals}
 use Rattle.acks.specs.declared.rates.Links.{Links}
 use Rattle.acks.specs.declared.rates.Kept.{Kept}

@@ -1,9 +1,9 @@
 -- The history of full ACKs: 01, "Head and lent areas" and "ACKs, RTT, rates".
 use mathlib.Core.Bool.{Bool, true, false, _&&_, _||_, cond}
 use mathlib.Core.List.{List}
-use Prim.Native.Nat.{ℕ, zero, suc, _+_, _-_, _*_, _%_, _^_, _<_, _≤_, min}
+use Prim.Native.Nat.{ℕ, zero, suc, _+_, _-_, _*_, _%_, _^_, min}
 use lib.Dec.{eqb, ltb, leb}
-use lib.ListN.{length, getD, set}
+use lib.ListN.{getD, set}
 use Rattle.numbers.specs.Circular.{before, sum}
 use Rattle.acks.specs.declared.history.History.{History}
 use Rattle.acks.specs.declared.history.Acked.{Acked}
@@ -35,14 +35,6 @@ writeAck a p number departure = set (set a (2 * p) number) (2 * p + 1) departure
 -- fresh: start and count 0, ACK number 1, sequence numbers the first
 unfoldable pub freshHistory : ℕ → History
 freshHistory number = record { start = 0; count = 0; first = 1; largest = number; lastack = number }
-
--- what the head's range test and the test of the area have shown
-pub record HistoryReady (h : History) (a : List ℕ) : Type 0 where
-  pub starts : h .start < 1024
-  pub holds : h .count ≤ 1024
-  pub first : 1 ≤ h .first
-  pub newest : h .first + h .count ≤ 2 ^ 32
-  pub words : 2048 ≤ length a
 
 -- lrsn is before the newest entry's number, or equal with interval < 2 mean RTT
 abbrev pub isRecent : List ℕ → ℕ → ℕ → ℕ → ℕ → Bool

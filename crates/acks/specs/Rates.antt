@@ -143,8 +143,3 @@ arrivalsOk a =
 unfoldable pub linksOk : Links → Bool
 linksOk l =
     leb (l .count) 16 && ltb (l .at) 16 && allUnder (2 ^ 31) (linkGaps l) && timeOk (l .probe)
-
--- each of the first n places under a bound, in the window or not: no rule of 01, but a quick test that suffices for allUnder
-unfoldable pub firstUnder : ℕ → List ℕ → ℕ → Bool
-firstUnder b l zero = true
-firstUnder b l (suc n) = ltb (getD l n 0) b && firstUnder b l n

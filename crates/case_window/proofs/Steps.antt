@@ -20,8 +20,9 @@ use Rattle.window.specs.Ready.{Good, Bytes, PacketRight}
 use Rattle.window.specs.declared.Window.{Window}
 use Rattle.window.specs.declared.push.Packet.{Packet}
 use Rattle.window.proofs.Ranges.{in-window}
-use Rattle.window_pop.specs.Pop.{PopReady}
-use Rattle.case_window.specs.Tests.{wordsOk, bytesOk, areasOk, Tested, packetOk}
+use Rattle.window_pop.specs.Ready.{PopReady}
+use Rattle.case_window.specs.Tests.{wordsOk, bytesOk, areasOk, packetOk}
+use Rattle.case_window.specs.Ready.{Tested}
 
 good : (w : Window) (ws : List ℕ) → windowOk w ≡ true → wordsOk (w .capacity) (length ws) ≡ true → Good w ws
 good w ws e f = record { ranges = in-window w e; words = omega (arith, leb-true (w .capacity) (length ws / 3) f) }

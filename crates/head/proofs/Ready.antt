@@ -11,19 +11,20 @@ use lib.Signed.{ltZ}
 use Rattle.numbers.specs.Whole.{isReading}
 use Rattle.numbers.proofs.Flags.{and-left, and-right}
 use Rattle.numbers.proofs.Signs.{reading-size}
-use Rattle.clock.specs.Sync.{Ready}
+use Rattle.clock.specs.Ready.{Ready}
 use Rattle.clock.specs.Ranges.{clockOk}
 use Rattle.clock.proofs.Ranges.{ready, ranges, reference-size}
 use Rattle.acks.specs.Rtt.{rttOk}
 use Rattle.acks.specs.Rates.{arrivalsOk, linksOk}
-use Rattle.acks.specs.History.{historyOk, newestOf, HistoryReady}
+use Rattle.acks.specs.History.{historyOk, newestOf}
+use Rattle.acks.specs.Ready.{HistoryReady}
 use Rattle.window.specs.Ready.{Good, Bytes}
 use Rattle.window.specs.Window.{windowOk}
 use Rattle.window.specs.Push as push
 use Rattle.window.specs.declared.Window.{Window}
 use Rattle.window.specs.declared.push.Packet.{Packet}
 use Rattle.window.proofs.Ranges.{in-window}
-use Rattle.window_pop.specs.Pop.{PopReady}
+use Rattle.window_pop.specs.Ready.{PopReady}
 use Rattle.head.specs.Rules.{Rule, firstRefusal, pushRules, popRules, timedRules, dropRules, showRules, clockRules, headRules}
 use Rattle.head.specs.Head.{headOk}
 use Rattle.head.specs.Ready.{InRange, Timed, PushReady}

@@ -7,7 +7,8 @@ use lib.IntN.{ℤ}
 use lib.ListN.{set}
 use Rattle.clock.specs.declared.time.SynchronizedRemoteClock.{SynchronizedRemoteClock}
 use Rattle.window.specs.declared.Window.{Window}
-use Rattle.window_pop.specs.Pop.{PopReady, PopOutcome, popOf}
+use Rattle.window_pop.specs.Pop.{PopOutcome, popOf}
+use Rattle.window_pop.specs.Ready.{PopReady}
 use Rattle.window_pop.specs.declared.pop.PopAnswer.{PopAnswer}
 use Rattle.window_pop.specs.declared.pop.PopAnswer.the-variants as pops
 use Rattle.head.specs.Rules.{firstRefusal, popRules}

@@ -1,6 +1,7 @@
 // The pop on a head's words: 01, "Window", with refusals 1 to 4 and 11. receiver/src/message.rt has the same on a head.
 ghost use mathlib.Core.Path.{_≡_};
-ghost use Rattle.window_pop.specs.Pop.{PopReady, popOf};
+ghost use Rattle.window_pop.specs.Pop.{popOf};
+ghost use Rattle.window_pop.specs.Ready.{PopReady};
 ghost use Rattle.packing.specs.Words.{numberOf};
 ghost use Rattle.packing.specs.Packed.{at, windowOf, clockOf};
 ghost use Rattle.inplace.specs.Calls.{popIn, messageIn};

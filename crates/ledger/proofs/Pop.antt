@@ -12,7 +12,8 @@ use Rattle.numbers.proofs.Circle.{sum-zero, distance-sum}
 use Rattle.window.specs.Window.{numberIn}
 use Rattle.window.specs.Ready.{Good}
 use Rattle.window.specs.declared.Window.{Window}
-use Rattle.window_pop.specs.Pop.{PopOutcome, PopReady, discardFront, popOf}
+use Rattle.window_pop.specs.Pop.{PopOutcome, discardFront, popOf}
+use Rattle.window_pop.specs.Ready.{PopReady}
 use Rattle.window_pop.specs.declared.pop.PopAnswer.{PopAnswer}
 use Rattle.window_pop.specs.declared.pop.PopAnswer.the-variants as pops
 use Rattle.window_pop.proofs.PopLaws.{pop-cases}

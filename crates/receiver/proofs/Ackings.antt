@@ -8,7 +8,8 @@ use borrow.Author.Needs.{needs}
 use borrow.Author.Tests.{eq-eqb, ne-eqb}
 use lib.IntN.{ℤ, natAbs}
 use lib.ListN.{length}
-use Rattle.acks.specs.History.{HistoryReady, AckOutcome, ackEnded, noneDue, isWorn, fullAckOf, ack2Of}
+use Rattle.acks.specs.History.{AckOutcome, ackEnded, noneDue, isWorn, fullAckOf, ack2Of}
+use Rattle.acks.specs.Ready.{HistoryReady}
 use Rattle.acks.specs.History as history
 use Rattle.acks.specs.Rates.{speedOf, capacityOf}
 use Rattle.acks.specs.Rtt.{updated}
@@ -35,7 +36,8 @@ use Rattle.head.specs.declared.state.Head.{Head}
 use Rattle.head.proofs.Gates.{taken, refused}
 use Rattle.head.specs.Ready.{InRange}
 use Rattle.head.proofs.Ready.{timed-ready}
-use Rattle.receiver.specs.Acking.{AckReady, figuresOf, afterAck, fullAckEnded, ofHistory, roomyAck, dueAck, fullAckCallOf, FullAckOutcome, afterAck2, heldAck2, Ack2Outcome, ack2Ended, ack2CallOf}
+use Rattle.receiver.specs.Acking.{figuresOf, afterAck, fullAckEnded, ofHistory, roomyAck, dueAck, fullAckCallOf, FullAckOutcome, afterAck2, heldAck2, Ack2Outcome, ack2Ended, ack2CallOf}
+use Rattle.receiver.specs.Ready.{AckReady}
 use Rattle.receiver.specs.declared.acking.FullAcked.{FullAcked}
 use Rattle.receiver.specs.declared.acking.FullAckAnswer.{FullAckAnswer}
 use Rattle.receiver.specs.declared.acking.FullAckAnswer.the-variants as answers

@@ -11,8 +11,10 @@ use lib.Dec.{eqb}
 use lib.ListN.{length, getD, set, take, drop, length-set, length-drop, take-append-drop}
 use lib.Seq.{getD-set-same, getD-set-other, length-paste, length-take-le, take-length, take-at, drop-at, drop-drop, drop-paste, take-append-le, drop-append-le, drop-set-lt}
 use Rattle.numbers.proofs.Flags.{impossible, by-test, by-order}
-use Rattle.slots.specs.Words.{markOf, entryOf, Fit, wordsOf, isLost, entryAt, writeAt, writeReport, lengthIn}
-use Rattle.slots.specs.Ring.{slotOf, nextSlot, payloadAt, withPayload}
+use Rattle.slots.specs.Words.{markOf, entryOf, wordsOf, isLost, entryAt, writeAt, writeReport, lengthIn}
+use Rattle.slots.specs.Ready.{Fit}
+use Rattle.slots.specs.Ring.{slotOf, payloadAt, withPayload}
+use Rattle.slots.specs.Inner.{nextSlot}
 use Rattle.slots.specs.declared.entry.Entry.{Entry}
 use Rattle.slots.specs.declared.entry.Entry.the-variants.{Lost, Received, GivenUp}
 

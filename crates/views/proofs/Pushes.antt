@@ -18,7 +18,8 @@ use Rattle.numbers.proofs.Circle.{stepped, around, before-not, within, order-be
 use Rattle.numbers.proofs.Places.{place-distance}
 use Rattle.numbers.proofs.Steps.{is-before}
 use Rattle.slots.specs.Words as words
-use Rattle.slots.specs.Words.{Fit, writeAt}
+use Rattle.slots.specs.Words.{writeAt}
+use Rattle.slots.specs.Ready.{Fit}
 use Rattle.slots.specs.Ring.{withPayload}
 use Rattle.slots.specs.declared.entry.Entry.{Entry}
 use Rattle.slots.specs.declared.entry.Entry.the-variants.{Lost}

@@ -71,6 +71,7 @@ afterPush w time p payload es (answers.PacketTooEarly room need) = es
 afterPush w time p payload es answers.PacketTooLate = es
 afterPush w time p payload es answers.DiscardedDuplicate = es
 
+-- the entries after a push are that list
 abbrev pub SeenAfter : Window → List ℕ → List ℕ → ℕ → Packet → List ℕ → PushOutcome → Type 0
 SeenAfter w ws bs time p payload o = entries (o .pushed .window) (o .slots) (o .payloads) ≡ afterPush w time p payload (entries w ws bs) (o .pushed .answer)
 

@@ -14,7 +14,8 @@ use Rattle.numbers.specs.declared.seq.Order.{Order}
 use Rattle.numbers.specs.declared.seq.Order.the-variants.{Before, Equal, After}
 use Rattle.numbers.proofs.Circle.{distance-below, before-at, before-not, within, order-before}
 use Rattle.slots.specs.Words.{isLost, entryAt, writeAt}
-use Rattle.slots.specs.Ring.{slotOf, nextSlot, withPayload}
+use Rattle.slots.specs.Ring.{slotOf, withPayload}
+use Rattle.slots.specs.Inner.{nextSlot}
 use Rattle.slots.specs.declared.entry.Entry.{Entry}
 use Rattle.slots.specs.declared.entry.Entry.the-variants.{Lost}
 use Rattle.slots.proofs.Laws.{length-write, slot-next, slot-words, slot-words-kept, slot-bytes}

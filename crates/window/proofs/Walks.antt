@@ -7,7 +7,8 @@ use native.Mathlib.Omega.{arith}
 use borrow.Author.Needs.{needs}
 use Rattle.numbers.proofs.Flags.{by-test}
 use Rattle.slots.specs.Words.{isReceived, entryAt}
-use Rattle.slots.specs.Ring.{slotOf, nextSlot}
+use Rattle.slots.specs.Ring.{slotOf}
+use Rattle.slots.specs.Inner.{nextSlot}
 use Rattle.slots.specs.declared.entry.Entry.{Entry}
 use Rattle.slots.proofs.Laws.{slot-lt, slot-zero, slot-next, slot-words, slot-words-kept, slot-bytes}
 use Rattle.window.specs.Window.{slotIn, numberIn, firstGap, lrsnFrom, cut}

@@ -21,7 +21,8 @@ use Rattle.clock.proofs.Kept.{instant-near}
 use Rattle.slots.specs.Words.{isReceived, entryAt, stampIn, isFirst}
 use Rattle.slots.specs.Ring.{slotOf}
 use Rattle.slots.specs.declared.entry.Entry.{Entry}
-use Rattle.window_pop.specs.Pop.{isLate, isKept, walkedTo, walkPast, walkFrom, noWalk, dueOf, limitOf}
+use Rattle.window_pop.specs.Pop.{isLate, walkedTo, walkFrom, noWalk, dueOf, limitOf}
+use Rattle.window_pop.specs.Inner.{isKept, walkPast}
 use Rattle.window_pop.specs.declared.pop.Walk.{Walk}
 use Rattle.window.proofs.Walks.{walk-slot, walk-on, walk-start}
 use Rattle.slots.proofs.Laws.{slot-words}

@@ -24,7 +24,8 @@ use Rattle.slots.specs.declared.entry.Entry.the-variants.{GivenUp}
 use Rattle.slots.proofs.Laws.{slot-lt}
 use Rattle.window.specs.Window.{entryIn, lrsnFrom, cut}
 use Rattle.window.specs.Ready.{Good, Ring}
-use Rattle.window_pop.specs.Pop.{popEnded, messageOf, filled, walkFrom, noWalk, frontIn, dueOf, limitOf, discardFront, discarded, releasedOf, lateOf, frontOf, popOf}
+use Rattle.window_pop.specs.Pop.{popEnded, messageOf, filled, walkFrom, noWalk, dueOf, limitOf, discardFront, discarded, releasedOf, lateOf, frontOf, popOf}
+use Rattle.window_pop.specs.Inner.{frontIn}
 use Rattle.window.specs.declared.Window.{Window}
 use Rattle.window_pop.specs.declared.pop.Message.{Message}
 use Rattle.window_pop.specs.declared.pop.Walk.{Walk}

@@ -15,7 +15,8 @@ use Rattle.slots.specs.declared.entry.Entry.{Entry}
 use Rattle.slots.specs.declared.entry.Entry.the-variants.{Lost, Received, GivenUp}
 use Rattle.slots.proofs.Laws.{length-report, read-report, report-other, report-outside, slot-lt, slot-words, slot-apart}
 use Rattle.window.specs.Ready.{Good}
-use Rattle.window_report.specs.Report.{isDue, kAfter, runWords, runsAfter, Within, slotNo, dueAt, slotsTo, runsTo, runPut, listTo, needed, reporting, reportOne, listAll, reportedTo, ReportOutcome, reportEnded, reportOf}
+use Rattle.window_report.specs.Report.{isDue, kAfter, runWords, runsAfter, slotNo, dueAt, slotsTo, runsTo, runPut, listTo, needed, listAll, ReportOutcome, reportEnded, reportOf}
+use Rattle.window_report.specs.Inner.{Within, reporting, reportOne, reportedTo}
 use Rattle.window.specs.declared.Window.{Window}
 use Rattle.window_report.specs.declared.report.Runs.{Runs}
 use Rattle.window_report.specs.declared.report.ReportAnswer.the-variants as answers

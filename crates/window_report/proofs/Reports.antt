@@ -13,13 +13,15 @@ use mir.Syntax.{w32, w64}
 use mir.Val.{Fits}
 use Rattle.numbers.proofs.Flags.{by-bool}
 use Rattle.numbers.proofs.Circle.{sum-below}
-use Rattle.slots.specs.Words.{Fit, entryAt, writeReport}
+use Rattle.slots.specs.Words.{entryAt, writeReport}
+use Rattle.slots.specs.Ready.{Fit}
 use Rattle.slots.specs.Ring.{slotOf}
 use Rattle.slots.specs.declared.entry.Entry.{Entry}
 use Rattle.slots.specs.declared.entry.Entry.the-variants.{Lost}
 use Rattle.slots.proofs.Laws.{entry-fit, slot-words, slot-words-kept}
 use Rattle.window.specs.Window.{numberIn}
-use Rattle.window_report.specs.Report.{isDue, kAfter, runWords, closed, runsAfter, Within, slotsTo, runsTo, runPut, listTo, needed, Reporting, reporting, reportOne, reportedTo, listAll, reportEnded, reportOf}
+use Rattle.window_report.specs.Report.{isDue, kAfter, runWords, closed, runsAfter, slotsTo, runsTo, runPut, listTo, needed, listAll, reportEnded, reportOf}
+use Rattle.window_report.specs.Inner.{Within, Reporting, reporting, reportOne, reportedTo}
 use Rattle.window.specs.declared.Window.{Window}
 use Rattle.window_report.specs.declared.report.Runs.{Runs}
 use Rattle.window_report.specs.declared.report.ReportAnswer.the-variants as answers
