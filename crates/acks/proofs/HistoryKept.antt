@@ -15,7 +15,8 @@ use Rattle.numbers.specs.Whole.{intervalOf}
 use Rattle.numbers.proofs.Flags.{and-left, and-right, by-bool, by-test, by-order}
 use Rattle.numbers.proofs.Halves.{same, above--, below--}
 use Rattle.numbers.proofs.Signs.{clamp-in, clamp-high}
-use Rattle.acks.specs.History.{HistoryReady, ackSlot, numberAt, departureAt, since, writeAck, freshHistory, noneDue, newestOf, isWorn, leaving, nextAck, firstAfter, AckOutcome, grown, appendOf, fullAckOf, withLargest, withLast, isHeld, ack2Of, lightAckOf, clearedOf, historyOk}
+use Rattle.acks.specs.History.{ackSlot, numberAt, departureAt, since, writeAck, freshHistory, noneDue, newestOf, isWorn, leaving, nextAck, firstAfter, AckOutcome, grown, appendOf, fullAckOf, withLargest, withLast, isHeld, ack2Of, lightAckOf, clearedOf, historyOk}
+use Rattle.acks.specs.Ready.{HistoryReady}
 use Rattle.acks.specs.declared.history.History.{History}
 use Rattle.acks.specs.declared.history.Answered.{Answered}
 use Rattle.acks.specs.declared.history.Ack2Answer.{Ack2Answer}
@@ -28,6 +29,7 @@ pub record Ranges (h : History) : Type 0 where
   pub starts : h .start < 1024
   pub holds : h .count ≤ 1024
   pub first : 1 ≤ h .first
+  pub fits : h .first ≤ 4294967295
   pub newest : newestOf h ≤ 4294967295
   pub largest : h .largest < 2 ^ 31
   pub lastack : h .lastack < 2 ^ 31
@@ -38,25 +40,28 @@ history-ranges h e =
     let s = ltb (h .start) 1024 in
     let c = leb (h .count) 1024 in
     let f = leb 1 (h .first) in
+    let m = leb (h .first) 4294967295 in
     let n = leb (newestOf h) 4294967295 in
     let l = ltb (h .largest) (2 ^ 31) in
-    let e₄ = and-left (s && c && f && n && l) (ltb (h .lastack) (2 ^ 31)) e in
-    let e₃ = and-left (s && c && f && n) l e₄ in
-    let e₂ = and-left (s && c && f) n e₃ in
+    let e₅ = and-left (s && c && f && m && n && l) (ltb (h .lastack) (2 ^ 31)) e in
+    let e₄ = and-left (s && c && f && m && n) l e₅ in
+    let e₃ = and-left (s && c && f && m) n e₄ in
+    let e₂ = and-left (s && c && f) m e₃ in
     let e₁ = and-left (s && c) f e₂ in
     record {
       starts = ltb-true (h .start) 1024 (and-left s c e₁);
       holds = leb-true (h .count) 1024 (and-right s c e₁);
       first = leb-true 1 (h .first) (and-right (s && c) f e₂);
-      newest = leb-true (newestOf h) 4294967295 (and-right (s && c && f) n e₃);
-      largest = ltb-true (h .largest) (2 ^ 31) (and-right (s && c && f && n) l e₄);
-      lastack = ltb-true (h .lastack) (2 ^ 31) (and-right (s && c && f && n && l) (ltb (h .lastack) (2 ^ 31)) e);
+      fits = leb-true (h .first) 4294967295 (and-right (s && c && f) m e₃);
+      newest = leb-true (newestOf h) 4294967295 (and-right (s && c && f && m) n e₄);
+      largest = ltb-true (h .largest) (2 ^ 31) (and-right (s && c && f && m && n) l e₅);
+      lastack = ltb-true (h .lastack) (2 ^ 31) (and-right (s && c && f && m && n && l) (ltb (h .lastack) (2 ^ 31)) e);
     }
 
 pub history-ok : (h : History) → Ranges h → historyOk h ≡ true
 unfolding historyOk
 history-ok h r =
-    rw (lt-ltb _ _ (r .starts), le-leb _ _ (r .holds), le-leb _ _ (r .first), le-leb _ _ (r .newest), lt-ltb _ _ (r .largest), lt-ltb _ _ (r .lastack))
+    rw (lt-ltb _ _ (r .starts), le-leb _ _ (r .holds), le-leb _ _ (r .first), le-leb _ _ (r .fits), le-leb _ _ (r .newest), lt-ltb _ _ (r .largest), lt-ltb _ _ (r .lastack))
 
 -- what a caller who tested the history and its area may call with
 pub right : (h : History) (a : List ℕ) → historyOk h ≡ true → 2048 ≤ length a → HistoryReady h a
@@ -72,7 +77,7 @@ pub fresh-history-ok : (n : ℕ) → n < 2 ^ 31 → historyOk (freshHistory n) �
 unfolding freshHistory
 fresh-history-ok n h =
     history-ok (freshHistory n)
-    (record { starts = omega arith; holds = omega arith; first = omega arith; newest = omega arith; largest = h; lastack = h })
+    (record { starts = omega arith; holds = omega arith; first = omega arith; fits = omega arith; newest = omega arith; largest = h; lastack = h })
 
 -- the number of an appended ACK is the newest from then on, and fits
 module _ (h : History) (r : Ranges h) (n : ℕ) (l : n ≤ h .count - 1) where
@@ -86,6 +91,13 @@ module _ (h : History) (r : Ranges h) (n : ℕ) (l : n ≤ h .count - 1) where
   first-from : 1 ≤ firstAfter h n
   unfolding firstAfter
   first-from = by-test (λ (x : ℕ). 1 ≤ x) (eqb (h .count) 0) 1 (h .first + n) (λ t. omega arith) (λ t. omega (arith, r .first))
+
+  first-fits : firstAfter h n ≤ 4294967295
+  unfolding firstAfter
+  first-fits =
+      by-test (λ (x : ℕ). x ≤ 4294967295) (eqb (h .count) 0) 1 (h .first + n)
+      (λ t. omega arith)
+      (λ t. let z = eqb-false (h .count) 0 t in omega (arith, z, l, r .newest))
 
 next-fits : (h : History) → Ranges h → isWorn h ≡ false → nextAck h ≤ 4294967295
 unfolding isWorn nextAck
@@ -118,6 +130,7 @@ module _ (h : History) (e : historyOk h ≡ true) where
         starts = mod-lt (h .start + n) (omega arith);
         holds = leaving-room a (h .start) (h .count) now (latency + 2 * mean) (r .holds);
         first = first-from h r n l;
+        fits = first-fits h r n l;
         newest = rw (grown-newest h r n l lrsn) (next-fits h r u);
         largest = r .largest;
         lastack = k;
@@ -130,7 +143,7 @@ module _ (h : History) (e : historyOk h ≡ true) where
       by-test (λ (o : Answered). historyOk (o .history) ≡ true) (isHeld h number) _ _
       (λ t.
       history-ok (withLargest h (numberAt a (ackSlot (h .start) (number - h .first))))
-      (record { starts = r .starts; holds = r .holds; first = r .first; newest = r .newest; largest = omega arith; lastack = r .lastack }))
+      (record { starts = r .starts; holds = r .holds; first = r .first; fits = r .fits; newest = r .newest; largest = omega arith; lastack = r .lastack }))
       (λ t. e)
 
   pub light-ack-kept : (lrsn : ℕ) → lrsn < 2 ^ 31 → historyOk (lightAckOf h lrsn .history) ≡ true
@@ -139,14 +152,14 @@ module _ (h : History) (e : historyOk h ≡ true) where
       let r = history-ranges h e in
       by-test (λ (o : LightAcked). historyOk (o .history) ≡ true) (before 31 lrsn (sum 31 (h .lastack) 64)) _ _
       (λ t. e)
-      (λ t. history-ok (withLast h lrsn) (record { starts = r .starts; holds = r .holds; first = r .first; newest = r .newest; largest = r .largest; lastack = k }))
+      (λ t. history-ok (withLast h lrsn) (record { starts = r .starts; holds = r .holds; first = r .first; fits = r .fits; newest = r .newest; largest = r .largest; lastack = k }))
 
   pub cleared-kept : (lrsn : ℕ) → lrsn < 2 ^ 31 → historyOk (clearedOf h lrsn) ≡ true
   unfolding clearedOf
   cleared-kept lrsn k =
       let r = history-ranges h e in
       history-ok (clearedOf h lrsn)
-      (record { starts = r .starts; holds = omega arith; first = r .first; newest = omega (arith, r .newest); largest = k; lastack = r .lastack })
+      (record { starts = r .starts; holds = omega arith; first = r .first; fits = r .fits; newest = omega (arith, r .newest); largest = k; lastack = r .lastack })
 
 -- the r of an ACK2 is an interval that is not negative
 abbrev Small : Ack2Answer → Type 0

@@ -1,6 +1,6 @@
 -- What the code of history.rt does at each return and each turn, as laws over plain values; the proof files hand them to `search`. Assumes nothing.
 use mathlib.Core.Path.{_≡_, refl, sym, _∙_}
-use mathlib.Core.Bool.{Bool, true, false, _&&_, _||_}
+use mathlib.Core.Bool.{Bool, true, false, _&&_, _||_, and-true}
 use mathlib.Core.List.{List}
 use Prim.Native.Nat.{ℕ, zero, suc, _+_, _-_, _*_, _^_, _<_, _≤_}
 use native.Mathlib.Omega.{arith}
@@ -205,10 +205,6 @@ module _ (h : History) (lrsn : ℕ) where
   unfolding clearedOf
   cleared = refl
 
-and-true : (x : Bool) → (x && true) ≡ x
-and-true true = refl
-and-true false = refl
-
 newest-test : (n : ℕ) → leb n (2 ^ 32) ≡ leb (n - 1) 4294967295
 newest-test n =
     by-order (2 ^ 32) n
@@ -220,9 +216,10 @@ module _ (h : History) where
   unfolding historyOk
   count-out k = rw (lt-leb _ _ k, and-false (ltb (h .start) 1024) {y = false} refl)
 
-  pub range-test : h .count ≤ 1024 → (ltb (h .start) 1024 && leb 1 (h .first) && leb (h .first + h .count) (2 ^ 32) && ltb (h .largest) (2 ^ 31) && ltb (h .lastack) (2 ^ 31)) ≡ historyOk h
+  pub range-test : h .count ≤ 1024 → h .first < 2 ^ 32 → (ltb (h .start) 1024 && leb 1 (h .first) && leb (h .first + h .count) (2 ^ 32) && ltb (h .largest) (2 ^ 31) && ltb (h .lastack) (2 ^ 31)) ≡ historyOk h
   unfolding historyOk
-  range-test k = rw (le-leb _ _ k, and-true (ltb (h .start) 1024), newest-test (h .first + h .count))
+  range-test k f =
+      rw (le-leb _ _ k, le-leb (h .first) 4294967295 (omega arith), and-true (ltb (h .start) 1024), and-true (ltb (h .start) 1024 && leb 1 (h .first)), newest-test (h .first + h .count))
 
 pub ruleset histories = (
   writes,

@@ -12,7 +12,8 @@ use lib.Seq.{take-suc, take-all}
 use mir.Syntax.{w64}
 use mir.Val.{Fits}
 use Rattle.numbers.proofs.Flags.{by-bool}
-use Rattle.acks.specs.Median.{medianOf, below, hasIndex, pick}
+use Rattle.acks.specs.Median.{medianOf}
+use Rattle.acks.specs.Inner.{below, hasIndex, pick}
 use Rattle.acks.proofs.Sorted.{picked}
 
 -- the loop of below

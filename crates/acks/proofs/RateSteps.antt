@@ -22,7 +22,8 @@ use Rattle.numbers.proofs.Flags.{by-test, by-order}
 use Rattle.numbers.proofs.Halves.{above, below, same, size, not-negative, above--, below--, lt-false}
 use Rattle.numbers.proofs.Signs.{clamp-in, clamp-high}
 use Rattle.acks.specs.Median.{medianOf}
-use Rattle.acks.specs.Rates.{sinceTime, nextPlace, oneMore, freshArrivals, freshLinks, arrivedFirst, arrivalOf, keeps, takeIn, keptOf, rateOf, speedKept, speedOf, withProbe, pairOf, linkOf, linkRate, capacityOf, placeBefore, windowOf, arrivalGaps, arrivalSizes, linkGaps, firstUnder, allUnder, timeOk, arrivalsOk, linksOk}
+use Rattle.acks.specs.Rates.{sinceTime, nextPlace, countAfter, freshArrivals, freshLinks, arrivedFirst, arrivalOf, keeps, takeIn, keptOf, rateOf, speedKept, speedOf, withProbe, pairOf, linkOf, linkRate, capacityOf, placeBefore, windowOf, arrivalGaps, arrivalSizes, linkGaps, allUnder, timeOk, arrivalsOk, linksOk}
+use Rattle.acks.specs.Inner.{firstUnder}
 use Rattle.acks.specs.declared.rates.Arrivals.{Arrivals}
 use Rattle.acks.specs.declared.rates.Links.{Links}
 use Rattle.acks.specs.declared.rates.Kept.{Kept}
@@ -78,7 +79,7 @@ module _ (a : Arrivals) (now : ℤ) (size : ℕ) where
   arrives-first e f p = rw (← e, f, p)
 
   pub arrives : {m : Moment} {t t₁ n n₁ : ℤ} {g count : ℕ}
-      → m ≡ a .last → m ≡ At t → g ≡ sinceTime n t₁ → n ≡ now → t₁ ≡ t → n₁ ≡ now → count ≡ oneMore (a .count)
+      → m ≡ a .last → m ≡ At t → g ≡ sinceTime n t₁ → n ≡ now → t₁ ≡ t → n₁ ≡ now → count ≡ countAfter (a .count)
       → _≡_ {A = Arrivals} (record { gaps = set (a .gaps) (a .at) g; sizes = set (a .sizes) (a .at) size; at = nextPlace (a .at); count = count; last = At n₁ }) (arrivalOf a now size)
   unfolding arrivalOf
   arrives e f g p q p₁ c = rw (← e, f, g, p, q, p₁, c)
@@ -90,7 +91,7 @@ module _ (l : Links) (now : ℤ) where
   pairs-none e f = rw (← e, f)
 
   pub pairs : {m : Moment} {t t₁ n : ℤ} {g count : ℕ}
-      → m ≡ l .probe → m ≡ At t → g ≡ sinceTime n t₁ → n ≡ now → t₁ ≡ t → count ≡ oneMore (l .count)
+      → m ≡ l .probe → m ≡ At t → g ≡ sinceTime n t₁ → n ≡ now → t₁ ≡ t → count ≡ countAfter (l .count)
       → _≡_ {A = Links} (record { gaps = set (l .gaps) (l .at) g; at = nextPlace (l .at); count = count; probe = Unset }) (pairOf l now)
   unfolding pairOf
   pairs e f g p q c = rw (← e, f, g, p, q, c)

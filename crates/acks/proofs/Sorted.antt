@@ -8,7 +8,8 @@ use borrow.Author.Tests.{ltb-true, leb-true, leb-false, lt-ltb, le-ltb, le-leb}
 use lib.Dec.{ltb, leb}
 use lib.ListN.{length, getD}
 use Rattle.numbers.proofs.Flags.{impossible, and-left, and-right, by-bool, by-test, by-order}
-use Rattle.acks.specs.Median.{insert, sort, medianOf, below, hasIndex, pick}
+use Rattle.acks.specs.Median.{insert, sort, medianOf}
+use Rattle.acks.specs.Inner.{below, hasIndex, pick}
 
 -- every element is x or more; each element is at most those after it
 abbrev AllFrom : ℕ → List ℕ → Type 0

@@ -8,7 +8,8 @@ use borrow.Author.Tests.{le-ltb}
 use lib.ListN.{length, getD, take, drop, length-append, length-drop, take-append-drop, drop-of-length-le, List·getD-append}
 use lib.Seq.{drop-cons, getD-take, getD-drop, getD-append-add, length-take-le}
 use Rattle.numbers.proofs.Flags.{by-bool, by-order}
-use Rattle.acks.specs.Median.{medianOf, below}
+use Rattle.acks.specs.Median.{medianOf}
+use Rattle.acks.specs.Inner.{below}
 use Rattle.acks.specs.Rates.{placeBefore, windowOf, arrivalGaps, arrivalSizes, linkGaps, keeps, takeIn, keptOf, speedKept, speedOf, linkRate, capacityOf}
 use Rattle.acks.specs.declared.rates.Arrivals.{Arrivals}
 use Rattle.acks.specs.declared.rates.Links.{Links}

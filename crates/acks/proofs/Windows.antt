@@ -9,7 +9,8 @@ use lib.Dec.{ltb, leb}
 use lib.ListN.{length, getD, set, drop, List·getD-eq-default}
 use lib.Seq.{getD-set-same, getD-set-other, set-out}
 use Rattle.numbers.proofs.Flags.{and-left, and-right, by-test, by-order}
-use Rattle.acks.specs.Rates.{nextPlace, oneMore, placeBefore, windowOf, arrivalGaps, arrivalSizes, linkGaps, keeps, takeIn, keptOf, firstUnder, allUnder, timeOk, arrivalsOk, linksOk}
+use Rattle.acks.specs.Rates.{nextPlace, countAfter, placeBefore, windowOf, arrivalGaps, arrivalSizes, linkGaps, keeps, takeIn, keptOf, allUnder, timeOk, arrivalsOk, linksOk}
+use Rattle.acks.specs.Inner.{firstUnder}
 use Rattle.acks.specs.declared.rates.Arrivals.{Arrivals}
 use Rattle.acks.specs.declared.rates.Links.{Links}
 use Rattle.acks.specs.declared.rates.Kept.{Kept}
@@ -28,17 +29,17 @@ module _ (l : List ℕ) (at x : ℕ) (h : at < 16) where
   unfolding windowOf
   full = entered 15 (omega arith)
 
-  written : (count : ℕ) → count ≤ 16 → windowOf (set l at x) (nextPlace at) (oneMore count) ≡ drop (count + 1 - 16) (windowOf l at count) ++ (getD (set l at x) at 0 ∷ [])
+  written : (count : ℕ) → count ≤ 16 → windowOf (set l at x) (nextPlace at) (countAfter count) ≡ drop (count + 1 - 16) (windowOf l at count) ++ (getD (set l at x) at 0 ∷ [])
   written count k =
       by-order count 16
       (λ u.
-      let p : oneMore count ≡ suc count = omega arith in
+      let p : countAfter count ≡ suc count = omega arith in
       let q : count + 1 - 16 ≡ 0 = omega arith in
       rw (p, q) (entered count u))
       (λ u. let p : count ≡ 16 = omega arith in rw p full)
 
   -- the newest 16: an interval enters at the end, and of 16 the oldest goes
-  pub enters : (count : ℕ) → count ≤ 16 → length l ≡ 16 → windowOf (set l at x) (nextPlace at) (oneMore count) ≡ drop (count + 1 - 16) (windowOf l at count) ++ (x ∷ [])
+  pub enters : (count : ℕ) → count ≤ 16 → length l ≡ 16 → windowOf (set l at x) (nextPlace at) (countAfter count) ≡ drop (count + 1 - 16) (windowOf l at count) ++ (x ∷ [])
   enters count k e = rw (getD-set-same l at x 0 (omega arith)) at (written count k)
 
 -- under a bound: the parts of a list, and its places
@@ -64,7 +65,7 @@ under-written b l at x h =
     (λ k. rw (set-out l at x k, List·getD-eq-default l 0 k) (omega arith))
 
 pub under-enters : (b : ℕ) (l : List ℕ) (at count x : ℕ) → at < 16 → count ≤ 16 → x < b
-    → allUnder b (windowOf l at count) ≡ true → allUnder b (windowOf (set l at x) (nextPlace at) (oneMore count)) ≡ true
+    → allUnder b (windowOf l at count) ≡ true → allUnder b (windowOf (set l at x) (nextPlace at) (countAfter count)) ≡ true
 under-enters b l at count x h k u f =
     let y = getD (set l at x) at 0 in
     rw (written l at x h count k)

@@ -1,9 +1,9 @@
 -- The history of full ACKs: 01, "Head and lent areas" and "ACKs, RTT, rates".
 use mathlib.Core.Bool.{Bool, true, false, _&&_, _||_, cond}
 use mathlib.Core.List.{List}
-use Prim.Native.Nat.{ℕ, zero, suc, _+_, _-_, _*_, _%_, _^_, _<_, _≤_, min}
+use Prim.Native.Nat.{ℕ, zero, suc, _+_, _-_, _*_, _%_, _^_, min}
 use lib.Dec.{eqb, ltb, leb}
-use lib.ListN.{length, getD, set}
+use lib.ListN.{getD, set}
 use Rattle.numbers.specs.Circular.{before, sum}
 use Rattle.acks.specs.declared.history.History.{History}
 use Rattle.acks.specs.declared.history.Acked.{Acked}
@@ -36,14 +36,6 @@ writeAck a p number departure = set (set a (2 * p) number) (2 * p + 1) departure
 unfoldable pub freshHistory : ℕ → History
 freshHistory number = record { start = 0; count = 0; first = 1; largest = number; lastack = number }
 
--- what the head's range test and the test of the area have shown
-pub record HistoryReady (h : History) (a : List ℕ) : Type 0 where
-  pub starts : h .start < 1024
-  pub holds : h .count ≤ 1024
-  pub first : 1 ≤ h .first
-  pub newest : h .first + h .count ≤ 2 ^ 32
-  pub words : 2048 ≤ length a
-
 -- lrsn is before the newest entry's number, or equal with interval < 2 mean RTT
 abbrev pub isRecent : List ℕ → ℕ → ℕ → ℕ → ℕ → Bool
 isRecent a p now mean lrsn =
@@ -73,12 +65,12 @@ firstKept a start now wait i zero = i
 firstKept a start now wait i (suc n) = cond (isExpired a (ackSlot start i) now wait) (firstKept a start now wait (i + 1) n) i
 
 -- a history still full loses its oldest
-abbrev pub oneMore : ℕ → ℕ → ℕ
-oneMore count gone = cond (eqb (count - gone) 1024) (gone + 1) gone
+abbrev pub withOldest : ℕ → ℕ → ℕ
+withOldest count gone = cond (eqb (count - gone) 1024) (gone + 1) gone
 
 -- how many leave the front: while more than one entry, those that are expired, and the oldest if it is still full
 unfoldable pub leaving : List ℕ → ℕ → ℕ → ℕ → ℕ → ℕ
-leaving a start count now wait = oneMore count (firstKept a start now wait 0 (count - 1))
+leaving a start count now wait = withOldest count (firstKept a start now wait 0 (count - 1))
 
 -- number the ACK newest + 1, or 1 if the history is empty
 unfoldable pub nextAck : History → ℕ
@@ -153,6 +145,7 @@ historyOk h =
     ltb (h .start) 1024
     && leb (h .count) 1024
     && leb 1 (h .first)
+    && leb (h .first) 4294967295
     && leb (newestOf h) 4294967295
     && ltb (h .largest) (2 ^ 31)
     && ltb (h .lastack) (2 ^ 31)

@@ -3,3 +3,5 @@ pub mod History
 pub mod Rtt
 pub mod Median
 pub mod Rates
+pub mod Inner
+pub mod Ready

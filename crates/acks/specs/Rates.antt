@@ -26,8 +26,8 @@ sinceTime now t = natAbs (intervalOf (cond (ltZ now t) now t) now)
 abbrev pub nextPlace : ℕ → ℕ
 nextPlace at = (at + 1) % 16
 
-abbrev pub oneMore : ℕ → ℕ
-oneMore count = min (count + 1) 16
+abbrev pub countAfter : ℕ → ℕ
+countAfter count = min (count + 1) 16
 
 -- the window as a list, oldest first: its n-th newest stands n places before the next to be written
 abbrev pub placeBefore : ℕ → ℕ → ℕ
@@ -63,7 +63,7 @@ arrivedAfter a now gap size =
       gaps = set (a .gaps) (a .at) gap;
       sizes = set (a .sizes) (a .at) size;
       at = nextPlace (a .at);
-      count = oneMore (a .count);
+      count = countAfter (a .count);
       last = At now;
     }
 
@@ -104,7 +104,7 @@ abbrev pub withProbe : Links → Moment → Links
 withProbe l m = record { gaps = l .gaps; at = l .at; count = l .count; probe = m }
 
 abbrev pub paired : Links → ℕ → Links
-paired l gap = record { gaps = set (l .gaps) (l .at) gap; at = nextPlace (l .at); count = oneMore (l .count); probe = Unset }
+paired l gap = record { gaps = set (l .gaps) (l .at) gap; at = nextPlace (l .at); count = countAfter (l .count); probe = Unset }
 
 abbrev pub pairedSince : Moment → Links → ℤ → Links
 pairedSince Unset l now = withProbe l Unset
@@ -143,8 +143,3 @@ arrivalsOk a =
 unfoldable pub linksOk : Links → Bool
 linksOk l =
     leb (l .count) 16 && ltb (l .at) 16 && allUnder (2 ^ 31) (linkGaps l) && timeOk (l .probe)
-
--- each of the first n places under a bound, in the window or not: no rule of 01, but a quick test that suffices for allUnder
-unfoldable pub firstUnder : ℕ → List ℕ → ℕ → Bool
-firstUnder b l zero = true
-firstUnder b l (suc n) = ltb (getD l n 0) b && firstUnder b l n

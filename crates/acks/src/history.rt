@@ -2,7 +2,8 @@
 ghost use mathlib.Core.Path.{_≡_};
 ghost use Prim.Native.Nat.{_+_, _-_, _*_, _<_, _≤_, _^_};
 ghost use lib.ListN.{length};
-ghost use Rattle.acks.specs.History.{HistoryReady, numberAt, departureAt, since, writeAck, freshHistory, isRecent, noneDue, isWorn, firstKept, leaving, nextAck, firstAfter, ackEnded, appendOf, fullAckOf, ack2Of, lightAckOf, clearedOf, historyOk};
+ghost use Rattle.acks.specs.History.{numberAt, departureAt, since, writeAck, freshHistory, isRecent, noneDue, isWorn, firstKept, leaving, nextAck, firstAfter, ackEnded, appendOf, fullAckOf, ack2Of, lightAckOf, clearedOf, historyOk};
+ghost use Rattle.acks.specs.Ready.{HistoryReady};
 
 // Entry i, under count, has the ACK number first + i and lies at (start + i) mod 1,024. `largest` is largest_ack2_dsn, `lastack` last_ack_dsn.
 pub struct History {

@@ -2,7 +2,8 @@
 ghost use mathlib.Core.Path.{_≡_};
 ghost use mathlib.Core.Bool.{cond};
 ghost use Prim.Native.Nat.{_<_};
-ghost use Rattle.acks.specs.Median.{medianOf, below, hasIndex};
+ghost use Rattle.acks.specs.Median.{medianOf};
+ghost use Rattle.acks.specs.Inner.{below, hasIndex};
 
 fn one_if(b: bool) -> usize
     ensures { λ r. ⌜ r ≡ cond b 1 0 ⌝ }

@@ -2,7 +2,8 @@
 ghost use mathlib.Core.Path.{_≡_};
 ghost use mathlib.Core.Bool.{true};
 ghost use Prim.Native.Nat.{_*_, _<_, _≤_, _^_};
-ghost use Rattle.acks.specs.Rates.{sinceTime, oneMore, windowOf, freshArrivals, freshLinks, arrivalOf, keeps, takeIn, keptOf, rateOf, speedOf, pairOf, linkOf, linkRate, capacityOf, firstUnder, allUnder, timeOk, arrivalsOk, linksOk};
+ghost use Rattle.acks.specs.Rates.{sinceTime, countAfter, windowOf, freshArrivals, freshLinks, arrivalOf, keeps, takeIn, keptOf, rateOf, speedOf, pairOf, linkOf, linkRate, capacityOf, allUnder, timeOk, arrivalsOk, linksOk};
+ghost use Rattle.acks.specs.Inner.{firstUnder};
 use numbers::instant::Moment;
 
 // Intervals between arrivals, with the sizes of what came; `at` is the next place to be written, `last` the last arrival.
@@ -51,7 +52,7 @@ pub fn since(now: i64, time: i64) -> u32
 
 pub fn one_more(count: usize) -> usize
     requires { ⌜ count ≤ 16 ⌝ }
-    ensures { λ r. ⌜ r ≡ oneMore count ⌝ }
+    ensures { λ r. ⌜ r ≡ countAfter count ⌝ }
 {
     if count < 16 { count + 1 } else { 16 }
 }

@@ -6,7 +6,7 @@ use Prim.Native.Nat.{ℕ, _/_, _^_, _≤_}
 use native.Mathlib.Omega.{arith}
 use borrow.Author.Needs.{needs}
 use borrow.Author.Tests.{leb-true, ltb-true}
-use lib.Dec.{ltb, leb}
+use lib.Dec.{ltb}
 use lib.IntN.{ℤ}
 use lib.ListN.{length}
 use Rattle.numbers.specs.Whole.{isReading}
@@ -15,34 +15,17 @@ use Rattle.numbers.proofs.Signs.{widens}
 use Rattle.clock.specs.Ranges.{clockOk}
 use Rattle.clock.proofs.Ranges.{ready}
 use Rattle.clock.specs.declared.time.SynchronizedRemoteClock.{SynchronizedRemoteClock}
-use Rattle.window.specs.Window.{Good, Bytes}
-use Rattle.window.specs.Push.{PacketRight}
+use Rattle.window.specs.Window.{windowOk}
+use Rattle.window.specs.Ready.{Good, Bytes, PacketRight}
 use Rattle.window.specs.declared.Window.{Window}
 use Rattle.window.specs.declared.push.Packet.{Packet}
-use Rattle.window_pop.specs.Pop.{PopReady}
-use Rattle.case_window.specs.Tests.{windowOk, wordsOk, bytesOk, areasOk, Tested, packetOk}
+use Rattle.window.proofs.Ranges.{in-window}
+use Rattle.window_pop.specs.Ready.{PopReady}
+use Rattle.case_window.specs.Tests.{wordsOk, bytesOk, areasOk, packetOk}
+use Rattle.case_window.specs.Ready.{Tested}
 
 good : (w : Window) (ws : List ℕ) → windowOk w ≡ true → wordsOk (w .capacity) (length ws) ≡ true → Good w ws
-good w ws e f =
-    let a = ltb 0 (w .capacity) in
-    let b = leb (w .capacity) 8192 in
-    let c = ltb (w .start) (w .capacity) in
-    let d = leb (w .held) (w .capacity) in
-    let s = ltb (w .seqno0) (2 ^ 31) in
-    let l = ltb (w .lrsn) (2 ^ 31) in
-    let e5 = and-left (a && b && c && d && s) l e in
-    let e4 = and-left (a && b && c && d) s e5 in
-    let e3 = and-left (a && b && c) d e4 in
-    let e2 = and-left (a && b) c e3 in
-    record {
-      some = ltb-true 0 (w .capacity) (and-left a b e2);
-      most = leb-true (w .capacity) 8192 (and-right a b e2);
-      starts = ltb-true (w .start) (w .capacity) (and-right (a && b) c e3);
-      holds = leb-true (w .held) (w .capacity) (and-right (a && b && c) d e4);
-      first = ltb-true (w .seqno0) (2 ^ 31) (and-right (a && b && c && d) s e5);
-      next = ltb-true (w .lrsn) (2 ^ 31) (and-right (a && b && c && d && s) l e);
-      words = omega (arith, leb-true (w .capacity) (length ws / 3) f);
-    }
+good w ws e f = record { ranges = in-window w e; words = omega (arith, leb-true (w .capacity) (length ws / 3) f) }
 
 -- by flags, as a program has them
 pub good-by : {w : Window} {ws : List ℕ} {a b : Bool} → a ≡ windowOk w → a ≡ true → b ≡ wordsOk (w .capacity) (length ws) → b ≡ true → Good w ws

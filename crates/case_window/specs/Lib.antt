@@ -1,2 +1,3 @@
--- The definitions of this program's range tests.
+-- The definitions of this program's range tests, and what they show.
 pub mod Tests
+pub mod Ready

@@ -1,16 +1,8 @@
--- The range tests as Bools: 01, "Refused", 1, 2 and 5, as far as the window's calls need them.
+-- The range tests as Bools: 01, "Refused", 2 and 5, as far as the window's calls need them.
 use mathlib.Core.Bool.{Bool, _&&_}
-use mathlib.Core.List.{List}
 use Prim.Native.Nat.{ℕ, _/_, _^_}
 use lib.Dec.{ltb, leb}
-use Rattle.window.specs.Window.{Good, Bytes}
-use Rattle.window.specs.declared.Window.{Window}
 use Rattle.window.specs.declared.push.Packet.{Packet}
-
--- 1 HeadBad
-abbrev pub windowOk : Window → Bool
-windowOk w =
-    ltb 0 (w .capacity) && leb (w .capacity) 8192 && ltb (w .start) (w .capacity) && leb (w .held) (w .capacity) && ltb (w .seqno0) (2 ^ 31) && ltb (w .lrsn) (2 ^ 31)
 
 -- 2 AreaShort: three words and 1,456 bytes a slot
 abbrev pub wordsOk : ℕ → ℕ → Bool
@@ -21,11 +13,6 @@ bytesOk capacity len = leb capacity (len / 1456)
 
 abbrev pub areasOk : ℕ → ℕ → ℕ → Bool
 areasOk capacity words bytes = wordsOk capacity words && bytesOk capacity bytes
-
--- what these have shown
-pub record Tested (w : Window) (ws bs : List ℕ) : Type 0 where
-  pub good : Good w ws
-  pub payloads : Bytes w bs
 
 -- 5 BadNumber
 abbrev pub packetOk : Packet → Bool

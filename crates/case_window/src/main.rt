@@ -1,6 +1,8 @@
 // Runs the window's calls behind range tests of its own and writes each answer in the words of 01's trace lines, without their numbers.
 ghost use mathlib.Core.Path.{_≡_};
-ghost use Rattle.case_window.specs.Tests.{windowOk, wordsOk, areasOk, Tested, packetOk};
+ghost use Rattle.window.specs.Window.{windowOk};
+ghost use Rattle.case_window.specs.Tests.{wordsOk, areasOk, packetOk};
+ghost use Rattle.case_window.specs.Ready.{Tested};
 use case_print::put;
 use case_print::put_bytes;
 use case_print::put_count;
@@ -55,7 +57,7 @@ struct State {
 fn window_ok(w: Window) -> bool
     ensures { λ r. ⌜ r ≡ windowOk w ⌝ }
 {
-    (0 < w.capacity)
+    (1 <= w.capacity)
         & (w.capacity <= 8192)
         & (w.start < w.capacity)
         & (w.held <= w.capacity)

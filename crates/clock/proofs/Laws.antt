@@ -23,6 +23,7 @@ use Rattle.clock.specs.declared.time.Step.{Step}
 use Rattle.clock.specs.declared.time.Synchronized.{Synchronized}
 use Rattle.clock.specs.declared.time.Synchronized.the-variants as answers
 use Rattle.clock.proofs.Ranges.{reference-near}
+use Rattle.clock.proofs.Steps.{step}
 
 -- the cases of `synchronized`, by the flag
 pub not-seen : (k : SynchronizedRemoteClock) (now : ℤ) (ts : ℕ) → k .seen ≡ false → synchronized k now ts ≡ adjustedBy k now (driftOf (k .base) now ts) answers.Nothing
@@ -32,9 +33,6 @@ not-seen k now ts e = ap (λ (t : Bool). cond (not t) (adjustedBy k now (driftOf
 pub was-seen : (k : SynchronizedRemoteClock) (now : ℤ) (ts : ℕ) → k .seen ≡ true → synchronized k now ts ≡ sampleTaken k now (driftOf (k .base) now ts)
 unfolding synchronized
 was-seen k now ts e = ap (λ (t : Bool). cond (not t) (adjustedBy k now (driftOf (k .base) now ts) answers.Nothing) (sampleTaken k now (driftOf (k .base) now ts))) e
-
-abbrev pub step : SynchronizedRemoteClock → Synchronized → Step
-step k a = record { clock = k; answer = a }
 
 module _ (k : SynchronizedRemoteClock) (now : ℤ) (ts : ℕ) where
   abbrev drift : ℤ

@@ -10,7 +10,7 @@ use Rattle.numbers.specs.Whole.{isReading}
 use Rattle.numbers.proofs.Flags.{and-left, and-right}
 use Rattle.numbers.proofs.Signs.{reading-size}
 use Rattle.clock.specs.Base.{inReference}
-use Rattle.clock.specs.Sync.{Ready}
+use Rattle.clock.specs.Ready.{Ready}
 use Rattle.clock.specs.Ranges.{lastOk, clockOk}
 use Rattle.clock.specs.declared.time.SynchronizedRemoteClock.{SynchronizedRemoteClock}
 

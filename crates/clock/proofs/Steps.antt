@@ -26,7 +26,7 @@ use Rattle.clock.specs.declared.time.Release.{Release}
 use Rattle.clock.specs.declared.time.Synchronized.{Synchronized}
 use Rattle.clock.specs.declared.time.Synchronized.the-variants as answers
 
-abbrev step : SynchronizedRemoteClock → Synchronized → Step
+abbrev pub step : SynchronizedRemoteClock → Synchronized → Step
 step k a = record { clock = k; answer = a }
 
 module _ (k : SynchronizedRemoteClock) (now : ℤ) where

@@ -5,3 +5,4 @@ pub mod Samples
 pub mod Sync
 pub mod Release
 pub mod Ranges
+pub mod Ready

@@ -1,8 +1,8 @@
 -- The clock call: 01, "Clock". What it answers, and the clock after it.
 use mathlib.Core.Bool.{true, false, not, cond}
-use Prim.Native.Nat.{ℕ, _<_, _≤_, _^_}
+use Prim.Native.Nat.{ℕ}
 use lib.Dec.{ltb}
-use lib.IntN.{ℤ, natAbs}
+use lib.IntN.{ℤ}
 use Rattle.numbers.specs.declared.instant.Moment.the-variants.{Unset}
 use Rattle.clock.specs.Base.{freshBase, driftOf, adjusted}
 use Rattle.clock.specs.Samples.{noSamples, sampled, varianceOf, deviationOf, truncatedOf}
@@ -14,12 +14,6 @@ use Rattle.clock.specs.declared.time.SynchronizedRemoteClock.{Synchroniz
 use Rattle.clock.specs.declared.time.Step.{Step}
 use Rattle.clock.specs.declared.time.Synchronized.{Synchronized}
 use Rattle.clock.specs.declared.time.Synchronized.the-variants as answers
-
--- what the head's range test and the test of a reading have shown
-pub record Ready (k : SynchronizedRemoteClock) (now : ℤ) : Type 0 where
-  pub reference : natAbs (k .base .time) ≤ 2 ^ 61
-  pub reading : natAbs now < 2 ^ 60
-  pub samples : k .stats .count < 1000
 
 -- fresh: counts and sums 0, optional times unset, no drift seen
 unfoldable pub freshClock : ℤ → SynchronizedRemoteClock

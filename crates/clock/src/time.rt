@@ -2,7 +2,8 @@
 ghost use mathlib.Core.Path.{_≡_};
 ghost use Prim.Native.Nat.{_<_, _≤_, _^_};
 ghost use lib.IntN.{natAbs};
-ghost use Rattle.clock.specs.Sync.{Ready, freshClock, settled, adjustedBy, judged, sampleTaken, synchronized};
+ghost use Rattle.clock.specs.Sync.{freshClock, settled, adjustedBy, judged, sampleTaken, synchronized};
+ghost use Rattle.clock.specs.Ready.{Ready};
 ghost use Rattle.clock.specs.Release.{laterOf, releaseOf};
 ghost use Rattle.clock.specs.Ranges.{lastOk, clockOk};
 use crate::base::Adjusted;

@@ -11,7 +11,7 @@ use Rattle.numbers.proofs.Flags.{by-bool}
 use lib.IntN.{ℤ}
 use lib.ListN.{length}
 use Rattle.window.specs.declared.push.Packet.{Packet}
-use Rattle.window.specs.declared.show.Place.{Place}
+use Rattle.window.specs.declared.show.Part.{Part}
 use Rattle.head.specs.Head.{madeOf}
 use Rattle.head.specs.declared.state.Head.{Head}
 use Rattle.head.specs.declared.state.Made.{Made}
@@ -151,7 +151,7 @@ module _ (ws : List ℕ) {c : List ℤ} where
     unfolding roomExportOf
     room-ends e i l = rw (i, l) (ap (fromRoom ws) (rw u at e))
 
-    pub show-ends : (slots payloads : List ℕ) (number : ℕ) {a : ShowAnswer} {p : Place}
+    pub show-ends : (slots payloads : List ℕ) (number : ℕ) {a : ShowAnswer} {p : Part}
         → shownEnded a ≡ shownCallOf h slots (length payloads) number → p ≡ placeCallOf h slots (length payloads) number
         → n ≡ shownLine a .refusal → c ≡ shownCells a (p .at) (p .len)
         → left n ws c [] ≡ showExportOf ws slots payloads number

@@ -6,7 +6,7 @@ use lib.Dec.{eqb}
 use lib.IntN.{ℤ}
 use lib.ListN.{length}
 use Rattle.window.specs.declared.push.Packet.{Packet}
-use Rattle.window.specs.declared.show.Place.{Place}
+use Rattle.window.specs.declared.show.Part.{Part}
 use Rattle.head.specs.Head.{madeOf}
 use Rattle.head.specs.declared.state.Head.{Head}
 use Rattle.head.specs.declared.state.Made.{Made}
@@ -77,7 +77,7 @@ module _ (ws : List ℕ) where
   abbrev pub fromRoom : RoomOutcome → Left
   fromRoom o = left (o .line .refusal) ws (cellsOf (o .line)) []
 
-  abbrev pub fromShown : ShownOutcome → Place → Left
+  abbrev pub fromShown : ShownOutcome → Part → Left
   fromShown o p = left (o .line .refusal) ws (shownCells (o .answer) (p .at) (p .len)) []
 
 -- an outcome with the counters' words as one more area

@@ -21,10 +21,11 @@ use Rattle.acks.specs.declared.rtt.Rtt.{Rtt}
 use Rattle.acks.specs.declared.rates.Arrivals.{Arrivals}
 use Rattle.acks.specs.declared.rates.Links.{Links}
 use Rattle.acks.specs.declared.history.History.{History}
-use Rattle.window.specs.Window.{Good}
+use Rattle.window.specs.Ready.{Good}
 use Rattle.window.specs.declared.Window.{Window}
 use Rattle.head.specs.Rules.{firstRefusal, makeRules}
-use Rattle.head.specs.Head.{windowOk, headOk, freshHead, madeOf}
+use Rattle.head.specs.Head.{headOk, freshHead, madeOf}
+use Rattle.window.specs.Window.{windowOk}
 use Rattle.head.specs.declared.state.Head.{Head}
 use Rattle.head.specs.declared.state.Made.{Made}
 use Rattle.head.proofs.Gates.{taken, refused}

@@ -3,29 +3,31 @@ use mathlib.Core.Path.{_≡_, refl, sym, _∙_, ap}
 use mathlib.Core.Bool.{Bool, true, false, not, _&&_}
 use mathlib.Core.List.{List}
 use Prim.Native.Nat.{ℕ, _+_, _-_, _*_, _^_, _<_, _≤_}
-use native.Mathlib.Omega.{arith}
-use borrow.Author.Tests.{leb-true, leb-false, ltb-true, ltb-false, not-false}
-use lib.Dec.{leb, ltb, lit<}
+use borrow.Author.Tests.{leb-true, leb-false, ltb-false, not-false}
+use lib.Dec.{leb, lit<}
 use lib.IntN.{ℤ, natAbs}
 use lib.ListN.{length}
 use lib.Signed.{ltZ}
 use Rattle.numbers.specs.Whole.{isReading}
 use Rattle.numbers.proofs.Flags.{and-left, and-right}
 use Rattle.numbers.proofs.Signs.{reading-size}
-use Rattle.clock.specs.Sync.{Ready}
+use Rattle.clock.specs.Ready.{Ready}
 use Rattle.clock.specs.Ranges.{clockOk}
 use Rattle.clock.proofs.Ranges.{ready, ranges, reference-size}
 use Rattle.acks.specs.Rtt.{rttOk}
 use Rattle.acks.specs.Rates.{arrivalsOk, linksOk}
-use Rattle.acks.specs.History.{historyOk, newestOf, HistoryReady}
-use Rattle.window.specs.Window.{Good, Bytes}
+use Rattle.acks.specs.History.{historyOk, newestOf}
+use Rattle.acks.specs.Ready.{HistoryReady}
+use Rattle.window.specs.Ready.{Good, Bytes}
+use Rattle.window.specs.Window.{windowOk}
 use Rattle.window.specs.Push as push
 use Rattle.window.specs.declared.Window.{Window}
 use Rattle.window.specs.declared.push.Packet.{Packet}
-use Rattle.window_pop.specs.Pop.{PopReady}
+use Rattle.window.proofs.Ranges.{in-window}
+use Rattle.window_pop.specs.Ready.{PopReady}
 use Rattle.head.specs.Rules.{Rule, firstRefusal, pushRules, popRules, timedRules, dropRules, showRules, clockRules, headRules}
-use Rattle.head.specs.Head.{windowOk, headOk}
-use Rattle.head.specs.Ready.{InRange, InWindow, Timed, PushReady}
+use Rattle.head.specs.Head.{headOk}
+use Rattle.head.specs.Ready.{InRange, Timed, PushReady}
 use Rattle.head.specs.declared.state.Head.{Head}
 use Rattle.head.proofs.Gates.{Clear, clear}
 
@@ -57,29 +59,8 @@ in-parts h e =
       latest = and-right (a && b && c && d && f && g && i) _ e;
     }
 
--- the parts of a window in range
-pub in-window : (w : Window) → windowOk w ≡ true → InWindow w
-in-window w e =
-    let a = leb 1 (w .capacity) in
-    let b = leb (w .capacity) 8192 in
-    let c = ltb (w .start) (w .capacity) in
-    let d = leb (w .held) (w .capacity) in
-    let f = ltb (w .seqno0) (2 ^ 31) in
-    let e5 = and-left (a && b && c && d && f) _ e in
-    let e4 = and-left (a && b && c && d) _ e5 in
-    let e3 = and-left (a && b && c) _ e4 in
-    let e2 = and-left (a && b) _ e3 in
-    record {
-      some = leb-true 1 (w .capacity) (and-left a _ e2);
-      most = leb-true (w .capacity) 8192 (and-right a _ e2);
-      starts = ltb-true (w .start) (w .capacity) (and-right (a && b) _ e3);
-      holds = leb-true (w .held) (w .capacity) (and-right (a && b && c) _ e4);
-      first = ltb-true (w .seqno0) (2 ^ 31) (and-right (a && b && c && d) _ e5);
-      next = ltb-true (w .lrsn) (2 ^ 31) (and-right (a && b && c && d && f) _ e);
-    }
-
 pub good : (w : Window) (ws : List ℕ) → windowOk w ≡ true → 3 * w .capacity ≤ length ws → Good w ws
-good w ws e h = let i = in-window w e in omega arith
+good w ws e h = record { ranges = in-window w e; words = h }
 
 pub head-ready : (h : Head) → firstRefusal (headRules (headOk h)) ≡ 0 → InRange h
 head-ready h e = let c = clear (headRules (headOk h)) (lit< tt, tt) e in in-parts h (not-false (headOk h) (c .0))

@@ -1,7 +1,7 @@
 -- The head and its ranges: 01, "Head and lent areas".
 use mathlib.Core.Bool.{Bool, false, _&&_}
-use Prim.Native.Nat.{ℕ, _^_}
-use lib.Dec.{ltb, leb}
+use Prim.Native.Nat.{ℕ}
+use lib.Dec.{leb}
 use lib.IntN.{ℤ, pos}
 use Rattle.numbers.specs.Whole.{isReading}
 use Rattle.clock.specs.Sync.{freshClock}
@@ -9,20 +9,10 @@ use Rattle.clock.specs.Ranges.{clockOk}
 use Rattle.acks.specs.Rtt.{freshRtt, rttOk}
 use Rattle.acks.specs.Rates.{freshArrivals, freshLinks, arrivalsOk, linksOk}
 use Rattle.acks.specs.History.{freshHistory, historyOk}
-use Rattle.window.specs.declared.Window.{Window}
+use Rattle.window.specs.Window.{windowOk}
 use Rattle.head.specs.Rules.{firstRefusal, judged, makeRules}
 use Rattle.head.specs.declared.state.Head.{Head}
 use Rattle.head.specs.declared.state.Made.{Made}
-
--- capacity 1 to 8,192, start slot (under capacity), held count (0..capacity), seqno0, lrsn
-abbrev pub windowOk : Window → Bool
-windowOk w =
-    leb 1 (w .capacity)
-    && leb (w .capacity) 8192
-    && ltb (w .start) (w .capacity)
-    && leb (w .held) (w .capacity)
-    && ltb (w .seqno0) (2 ^ 31)
-    && ltb (w .lrsn) (2 ^ 31)
 
 -- every head number is in its range; flags and the two f64 have none
 unfoldable pub headOk : Head → Bool

@@ -2,7 +2,7 @@
 use mathlib.Core.Path.{_≡_}
 use mathlib.Core.Bool.{true, false}
 use mathlib.Core.List.{List}
-use Prim.Native.Nat.{ℕ, _^_, _<_, _≤_}
+use Prim.Native.Nat.{ℕ, _≤_}
 use lib.IntN.{ℤ}
 use lib.Signed.{ltZ}
 use Rattle.numbers.specs.Whole.{isReading}
@@ -10,11 +10,9 @@ use Rattle.clock.specs.Ranges.{clockOk}
 use Rattle.acks.specs.Rtt.{rttOk}
 use Rattle.acks.specs.Rates.{arrivalsOk, linksOk}
 use Rattle.acks.specs.History.{historyOk}
-use Rattle.window.specs.Window.{Good, Bytes}
-use Rattle.window.specs.Push.{PacketRight}
-use Rattle.window.specs.declared.Window.{Window}
+use Rattle.window.specs.Ready.{Good, Bytes, PacketRight}
 use Rattle.window.specs.declared.push.Packet.{Packet}
-use Rattle.head.specs.Head.{windowOk}
+use Rattle.window.specs.Window.{windowOk}
 use Rattle.head.specs.declared.state.Head.{Head}
 
 -- the parts of a head in range
@@ -27,15 +25,6 @@ pub record InRange (h : Head) : Type 0 where
   pub links : linksOk (h .links) ≡ true
   pub history : historyOk (h .history) ≡ true
   pub latest : isReading (h .latest) ≡ true
-
--- the parts of a window in range
-pub record InWindow (w : Window) : Type 0 where
-  pub some : 0 < w .capacity
-  pub most : w .capacity ≤ 8192
-  pub starts : w .start < w .capacity
-  pub holds : w .held ≤ w .capacity
-  pub first : w .seqno0 < 2 ^ 31
-  pub next : w .lrsn < 2 ^ 31
 
 -- what every call with a reading has
 pub record Timed (h : Head) (now : ℤ) : Type 0 where

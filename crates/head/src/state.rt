@@ -1,6 +1,7 @@
 // The head of a receiver: 01, "Head and lent areas". It goes into a call by value and comes out of it.
 ghost use mathlib.Core.Path.{_≡_};
-ghost use Rattle.head.specs.Head.{windowOk, freshHead, headOk, madeOf};
+ghost use Rattle.head.specs.Head.{freshHead, headOk, madeOf};
+ghost use Rattle.window.specs.Window.{windowOk};
 ghost use Rattle.head.specs.Parts.{withWindow, withClock, withRtt, withRates, withHistory, withLatest};
 ghost use Rattle.head.specs.Rules.{firstRefusal, makeRules};
 use acks::history::History;

@@ -16,14 +16,14 @@ use Rattle.numbers.specs.declared.instant.Moment.{Moment}
 use Rattle.numbers.specs.declared.instant.Moment.the-variants.{Unset, At}
 use Rattle.numbers.specs.Whole.{isReading}
 use Rattle.acks.specs.Rates as rates
-use Rattle.acks.specs.Rates.{sinceTime, nextPlace, oneMore, arrivedAfter, arrivedFirst, arrivalOf, withProbe, paired, pairedSince, pairOf, linkOf}
+use Rattle.acks.specs.Rates.{sinceTime, nextPlace, countAfter, arrivedAfter, arrivedFirst, arrivalOf, withProbe, paired, pairedSince, pairOf, linkOf}
 use Rattle.acks.specs.History.{lightAckOf}
 use Rattle.acks.specs.declared.history.History.{History}
 use Rattle.acks.specs.declared.history.LightAcked.{LightAcked}
 use Rattle.acks.specs.declared.rates.Arrivals.{Arrivals}
 use Rattle.acks.specs.declared.rates.Links.{Links}
-use Rattle.window.specs.Window.{Good, Bytes}
-use Rattle.window.specs.Push.{PacketRight, PushOutcome, pushEnded, pushOf}
+use Rattle.window.specs.Ready.{Good, Bytes, PacketRight}
+use Rattle.window.specs.Push.{PushOutcome, pushEnded, pushOf}
 use Rattle.window.specs.declared.Window.{Window}
 use Rattle.window.proofs.push.PushAnswer.{the-type}
 use Rattle.window.specs.declared.push.Packet.{Packet}
@@ -62,14 +62,14 @@ module _ (ws : List ℕ) (place count : ℕ) (m : Moment) (now : ℤ) where
   pub arrival-first : (size : ℕ) {vs : List ℕ} {z : ℤ} → m ≡ Unset → vs ≡ putLast ws z → z ≡ now → vs ≡ putArrival ws place count m now size
   arrival-first size e f g = f ∙ rw (e, g)
 
-  pub arrival-next : (size : ℕ) {t t₁ z z₁ : ℤ} {a b c d g s : ℕ} {vs : List ℕ} → m ≡ At t → g ≡ sinceTime z t₁ → z ≡ now → t₁ ≡ t → a ≡ g → s ≡ size → b ≡ nextPlace place → c ≡ d → d ≡ oneMore count
+  pub arrival-next : (size : ℕ) {t t₁ z z₁ : ℤ} {a b c d g s : ℕ} {vs : List ℕ} → m ≡ At t → g ≡ sinceTime z t₁ → z ≡ now → t₁ ≡ t → a ≡ g → s ≡ size → b ≡ nextPlace place → c ≡ d → d ≡ countAfter count
       → vs ≡ putLast (set (set (set (set ws (18 + place) a) (34 + place) s) 50 b) 51 c) z₁ → z₁ ≡ now → vs ≡ putArrival ws place count m now size
   arrival-next size e f p q h o i j j₁ k l = k ∙ rw (h, f, p, q, o, i, j, j₁, l, e)
 
   pub pair-none : m ≡ Unset → set (set ws 72 0) 73 0 ≡ putPair ws place count m now
   pair-none e = rw e
 
-  pub pair-put : {t t₁ z : ℤ} {a b c d g : ℕ} → m ≡ At t → g ≡ sinceTime z t₁ → z ≡ now → t₁ ≡ t → a ≡ g → b ≡ nextPlace place → c ≡ d → d ≡ oneMore count
+  pub pair-put : {t t₁ z : ℤ} {a b c d g : ℕ} → m ≡ At t → g ≡ sinceTime z t₁ → z ≡ now → t₁ ≡ t → a ≡ g → b ≡ nextPlace place → c ≡ d → d ≡ countAfter count
       → set (set (set (set (set ws 72 0) 73 0) (54 + place) a) 70 b) 71 c ≡ putPair ws place count m now
   pair-put e f p q h i j j₁ = rw (h, f, p, q, i, j, j₁, e)
 
@@ -174,7 +174,7 @@ first-words ws now = refl
 arrival-words : (ws : List ℕ) (now : ℤ) (size : ℕ) → at ws 50 < 16 → (m : Moment)
     → putArrival (packOf (headOf ws)) (at ws 50) (at ws 51) m now size ≡ packOf (withRates (headOf ws) (rates.arrivedSince m (arrivalsOf ws) now size) (linksOf ws))
 arrival-words ws now size h Unset = first-words ws now
-arrival-words ws now size h (At t) = arrived-words ws (at ws 50) (sinceTime now t) size (nextPlace (at ws 50)) (oneMore (at ws 51)) now h
+arrival-words ws now size h (At t) = arrived-words ws (at ws 50) (sinceTime now t) size (nextPlace (at ws 50)) (countAfter (at ws 51)) now h
 
 module _ (ws : List ℕ) (h : Head) (a : Arrivals) where
   abbrev linked : Links → List ℕ
@@ -207,7 +207,7 @@ module _ (ws : List ℕ) (h : Head) (a : Arrivals) where
 
   pair-words : (now : ℤ) → at ws 70 < 16 → (m : Moment) → putPair (linked (linksOf ws)) (at ws 70) (at ws 71) m now ≡ linked (pairedSince m (linksOf ws) now)
   pair-words now h Unset = probe-words 0 0 Unset refl refl
-  pair-words now h (At t) = paired-words (at ws 70) (sinceTime now t) (nextPlace (at ws 70)) (oneMore (at ws 71)) h
+  pair-words now h (At t) = paired-words (at ws 70) (sinceTime now t) (nextPlace (at ws 70)) (countAfter (at ws 71)) h
 
   link-words : (now : ℤ) (number : ℕ) → at ws 70 < 16 → putLink (linked (linksOf ws)) (at ws 70) (at ws 71) (linksOf ws .probe) now number ≡ linked (linkOf (linksOf ws) now number)
   unfolding linkOf pairOf

@@ -14,7 +14,8 @@ use lib.ListN.{length, set}
 use Rattle.numbers.proofs.Flags.{by-bool, impossible}
 use Rattle.clock.specs.declared.time.SynchronizedRemoteClock.{SynchronizedRemoteClock}
 use Rattle.window.specs.declared.Window.{Window}
-use Rattle.window_pop.specs.Pop.{PopReady, PopOutcome, popEnded, popOf}
+use Rattle.window_pop.specs.Pop.{PopOutcome, popEnded, popOf}
+use Rattle.window_pop.specs.Ready.{PopReady}
 use Rattle.window_pop.proofs.pop.PopAnswer.{the-type}
 use Rattle.window_pop.specs.declared.pop.Popped.{Popped}
 use Rattle.window_pop.specs.declared.pop.PopAnswer.{PopAnswer}

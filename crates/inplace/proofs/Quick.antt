@@ -18,7 +18,8 @@ use Rattle.clock.specs.Ranges.{lastOk, clockOk}
 use Rattle.acks.specs.Rtt.{rttOk}
 use Rattle.acks.specs.Rates.{timeOk}
 use Rattle.acks.specs.History.{historyOk}
-use Rattle.head.specs.Head.{windowOk, headOk}
+use Rattle.window.specs.Window.{windowOk}
+use Rattle.head.specs.Head.{headOk}
 use Rattle.packing.specs.Words.{wholeOf, numberOf, momentOf, numberFormed, flagFormed, floatFormed, momentFormed}
 use Rattle.packing.specs.Packed.{at, windowOf, clockOf, rttOf, historyOf, firstFormed, lastFormed, unpackOf}
 use Rattle.packing.proofs.Floats.{nan-low}

@@ -26,13 +26,14 @@ use Rattle.clock.proofs.Ranges.{ranges, reference-size}
 use Rattle.acks.specs.Rtt.{rttOk}
 use Rattle.acks.specs.Rates as rates
 use Rattle.acks.specs.Rates.{timeOk, arrivalsOk, linksOk, allUnder, arrivalGaps, arrivalSizes, linkGaps}
-use Rattle.acks.specs.History.{historyOk, newestOf}
+use Rattle.acks.specs.History.{historyOk}
 use Rattle.numbers.specs.Circular.{before, sum}
 use Rattle.acks.specs.declared.history.History.{History}
 use Rattle.acks.specs.declared.history.LightAcked.{LightAcked}
 use Rattle.acks.specs.declared.rates.Arrivals.{Arrivals}
 use Rattle.acks.specs.declared.rates.Links.{Links}
 use Rattle.acks.specs.declared.rtt.Rtt.{Rtt}
+use Rattle.acks.proofs.HistoryKept.{history-ranges}
 use Rattle.acks.proofs.RateKept.{since-under}
 use Rattle.window.specs.Push.{pushOf}
 use Rattle.window.specs.declared.Window.{Window}
@@ -45,10 +46,12 @@ use Rattle.window_pop.specs.declared.pop.PopAnswer.the-variants as pops
 use Rattle.window_pop.proofs.PopLaws.{pop-cases}
 use Rattle.head.specs.Rules.{firstRefusal, popRules, pushRules}
 use Rattle.head.specs.Head as heads
-use Rattle.head.specs.Head.{windowOk, headOk}
+use Rattle.head.specs.Head.{headOk}
+use Rattle.window.specs.Window.{windowOk}
 use Rattle.head.specs.declared.state.Head.{Head}
 use Rattle.head.proofs.Gates.{clear}
-use Rattle.head.proofs.Ready.{in-parts, in-window, push-ready}
+use Rattle.head.proofs.Ready.{in-parts, push-ready}
+use Rattle.window.proofs.Ranges.{in-window}
 use lib.Ieee as ieee
 use Rattle.clock.specs.Base as bases
 use Rattle.clock.specs.Samples as samples
@@ -159,15 +162,9 @@ unfolding linksOk
 probe-time l e = and-right (leb (l .count) 16 && ltb (l .at) 16 && allUnder (2 ^ 31) (linkGaps l)) (timeOk (l .probe)) e
 
 history-small : (y : History) → historyOk y ≡ true → Number (y .first) → HistoryHolds y
-unfolding historyOk
 history-small y e f =
-    let a = ltb (y .start) 1024 && leb (y .count) 1024 && leb 1 (y .first) && leb (newestOf y) 4294967295 in
-    let b = and-left (a && ltb (y .largest) (2 ^ 31)) (ltb (y .lastack) (2 ^ 31)) e in
-    record {
-      first = f;
-      largest = let c = ltb-true (y .largest) (2 ^ 31) (and-right a (ltb (y .largest) (2 ^ 31)) b) in omega arith;
-      lastack = let c = ltb-true (y .lastack) (2 ^ 31) (and-right (a && ltb (y .largest) (2 ^ 31)) (ltb (y .lastack) (2 ^ 31)) e) in omega arith;
-    }
+    let r = history-ranges y e in
+    record { first = f; largest = let a = r .largest in omega arith; lastack = let a = r .lastack in omega arith }
 
 holds-from : (h : Head) → headOk h ≡ true → Rest h → Holds h
 holds-from h e r =
@@ -177,7 +174,7 @@ holds-from h e r =
     record {
       latest = mag-small (h .latest) (let a = reading-size (h .latest) (p .latest) in omega arith);
       latency = let a = p .latency in omega arith;
-      window = record { seqno0 = let a = w .first in omega arith; lrsn = let a = w .next in omega arith };
+      window = record { seqno0 = let a = w .seqno0 in omega arith; lrsn = let a = w .lrsn in omega arith };
       base = record { time = mag-small (h .clock .base .time) (let a = reference-size (h .clock .base .time) (k .reference) in omega arith); stamp = r .stamp; last = last-small (h .clock .last) (k .last) };
       stats = record { mean = r .mean; squares = r .squares; count = let a = leb-true (h .clock .stats .count) 999 (k .samples) in omega arith };
       rtt = rtt-small (h .rtt) (p .rtt);

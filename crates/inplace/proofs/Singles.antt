@@ -25,9 +25,11 @@ use Rattle.slots.specs.Ring.{slotOf, payloadAt}
 use Rattle.slots.specs.declared.entry.Entry.{Entry}
 use Rattle.slots.specs.declared.entry.Entry.the-variants.{Lost, Received, GivenUp}
 use Rattle.slots.proofs.Laws.{slot-zero, length-read}
-use Rattle.window.specs.Window.{Good, Bytes, entryIn, cut}
+use Rattle.window.specs.Window.{entryIn, cut}
+use Rattle.window.specs.Ready.{Good, Bytes}
 use Rattle.window.specs.declared.Window.{Window}
-use Rattle.window_pop.specs.Pop.{PopOutcome, PopReady, popEnded, runFrom, messageOf, filled, dueOf, popOf}
+use Rattle.window_pop.specs.Ready.{PopReady}
+use Rattle.window_pop.specs.Pop.{PopOutcome, popEnded, runFrom, messageOf, filled, dueOf, popOf}
 use Rattle.window_pop.specs.Pop as pop
 use Rattle.window_pop.specs.declared.pop.Message.{Message}
 use Rattle.window_pop.specs.declared.pop.PopAnswer.the-variants as pops

@@ -13,10 +13,12 @@ use Rattle.clock.specs.Release.{laterOf}
 use Rattle.clock.specs.declared.base.TimeBase.{TimeBase}
 use Rattle.slots.specs.Words.{entryAt, lengthIn, stampIn, isFirst, isLast}
 use Rattle.slots.specs.Ring.{payloadAt}
-use Rattle.window.specs.Window.{Good, Bytes, cut}
+use Rattle.window.specs.Window.{cut}
+use Rattle.window.specs.Ready.{Good, Bytes}
 use Rattle.clock.specs.declared.time.SynchronizedRemoteClock.{SynchronizedRemoteClock}
 use Rattle.window.specs.declared.Window.{Window}
-use Rattle.window_pop.specs.Pop.{PopReady, PopOutcome, popOf, dueOf}
+use Rattle.window_pop.specs.Pop.{PopOutcome, popOf, dueOf}
+use Rattle.window_pop.specs.Ready.{PopReady}
 use Rattle.window_pop.specs.declared.pop.PopAnswer.{PopAnswer}
 use Rattle.window_pop.specs.declared.pop.PopAnswer.the-variants as pops
 use Rattle.head.specs.Rules.{firstRefusal, popRules}

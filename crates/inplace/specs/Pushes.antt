@@ -9,11 +9,11 @@ use lib.ListN.{length, set}
 use Rattle.numbers.specs.Whole.{isReading}
 use Rattle.numbers.specs.declared.instant.Moment.{Moment}
 use Rattle.numbers.specs.declared.instant.Moment.the-variants.{Unset, At}
-use Rattle.acks.specs.Rates.{sinceTime, nextPlace, oneMore}
+use Rattle.acks.specs.Rates.{sinceTime, nextPlace, countAfter}
 use Rattle.acks.specs.History.{lightAckOf}
 use Rattle.acks.specs.declared.history.History.{History}
-use Rattle.window.specs.Window.{Good, Bytes}
-use Rattle.window.specs.Push.{PacketRight, pushOf}
+use Rattle.window.specs.Ready.{Good, Bytes, PacketRight}
+use Rattle.window.specs.Push.{pushOf}
 use Rattle.window.specs.declared.Window.{Window}
 use Rattle.window.specs.declared.push.Packet.{Packet}
 use Rattle.window.specs.declared.push.PushAnswer.{PushAnswer}
@@ -36,13 +36,13 @@ putLast ws now = set (set ws 52 1) 53 (wordOf now)
 abbrev pub putArrival : List ℕ → ℕ → ℕ → Moment → ℤ → ℕ → List ℕ
 putArrival ws place count Unset now size = putLast ws now
 putArrival ws place count (At t) now size =
-    putLast (set (set (set (set ws (18 + place) (sinceTime now t)) (34 + place) size) 50 (nextPlace place)) 51 (oneMore count)) now
+    putLast (set (set (set (set ws (18 + place) (sinceTime now t)) (34 + place) size) 50 (nextPlace place)) 51 (countAfter count)) now
 
 -- the second packet of a pair
 abbrev pub putPair : List ℕ → ℕ → ℕ → Moment → ℤ → List ℕ
 putPair ws place count Unset now = set (set ws 72 0) 73 0
 putPair ws place count (At t) now =
-    set (set (set (set (set ws 72 0) 73 0) (54 + place) (sinceTime now t)) 70 (nextPlace place)) 71 (oneMore count)
+    set (set (set (set (set ws 72 0) 73 0) (54 + place) (sinceTime now t)) 70 (nextPlace place)) 71 (countAfter count)
 
 abbrev pub putLink : List ℕ → ℕ → ℕ → Moment → ℤ → ℕ → List ℕ
 putLink ws place count probe now number =

@@ -2,8 +2,9 @@
 ghost use mathlib.Core.Path.{_≡_};
 ghost use Prim.Native.Nat.{_^_, _≤_, _<_};
 ghost use lib.IntN.{natAbs};
-ghost use Rattle.window.specs.Window.{Good};
-ghost use Rattle.window_pop.specs.Pop.{PopReady, popOf};
+ghost use Rattle.window.specs.Ready.{Good};
+ghost use Rattle.window_pop.specs.Pop.{popOf};
+ghost use Rattle.window_pop.specs.Ready.{PopReady};
 ghost use Rattle.packing.specs.Words.{numberOf};
 ghost use Rattle.packing.specs.Packed.{at, windowOf, clockOf};
 ghost use Rattle.inplace.specs.Calls.{popIn, messageIn};

@@ -24,17 +24,19 @@ use Rattle.window_report.specs.Report.{reportOf}
 use Rattle.window_report.specs.declared.report.ReportAnswer.{ReportAnswer}
 use Rattle.window_report.specs.declared.report.ReportAnswer.the-variants as reports
 use Rattle.head.specs.Rules.{firstRefusal, makeRules, pushRules, timedRules, headRules}
-use Rattle.head.specs.Head.{windowOk, headOk, freshHead, madeOf}
+use Rattle.head.specs.Head.{headOk, freshHead, madeOf}
+use Rattle.window.specs.Window.{windowOk}
 use Rattle.head.specs.Parts.{withLatest}
 use Rattle.head.specs.declared.state.Head.{Head}
 use Rattle.head.specs.declared.state.Made.{Made}
 use Rattle.head.proofs.Gates.{clear}
 use Rattle.head.specs.Ready.{InRange, PushReady}
-use Rattle.head.proofs.Ready.{in-parts, in-window, timed-ready, push-ready}
+use Rattle.head.proofs.Ready.{in-parts, timed-ready, push-ready}
+use Rattle.window.proofs.Ranges.{in-window, from-window}
 use Rattle.receiver.specs.Data.{DataOutcome, placedOf, ackedOf, ratedOf, gotOf, afterPush, takenOf, dataCallOf}
 use Rattle.receiver.specs.Loss.{LossOutcome, headAfter, reportedOf, reportCallOf}
 use Rattle.receiver.specs.Request.{ClearOutcome, clearedOf, clearCallOf}
-use Rattle.kept.proofs.Parts.{from-parts, from-window, from-good}
+use Rattle.kept.proofs.Parts.{from-parts}
 use Rattle.kept.proofs.Says.{Says, push-says}
 
 -- by the refusal of a call
@@ -48,7 +50,7 @@ module _ (start : ℤ) (latency : ℕ) (dropping : Bool) (first capacity : ℕ) 
   fresh-in s l f c m =
       from-parts (freshHead start latency dropping first capacity)
       (record {
-        window = from-window (freshHead start latency dropping first capacity .window) (record { some = c; most = m; starts = c; holds = omega arith; first = f; next = f });
+        window = from-window (freshHead start latency dropping first capacity .window) (record { some = c; most = m; starts = c; holds = omega arith; seqno0 = f; lrsn = f });
         latency = l;
         clock = fresh-ok start s;
         rtt = fresh-rtt-ok;
@@ -77,13 +79,13 @@ cleared-kept h e =
     let w = in-window (h .window) (r .window) in
     from-parts (clearedOf h)
     (record {
-      window = from-window (clearedOf h .window) (record { some = w .some; most = w .most; starts = w .starts; holds = omega arith; first = w .first; next = w .next });
+      window = from-window (clearedOf h .window) (record { some = w .some; most = w .most; starts = w .starts; holds = omega arith; seqno0 = w .seqno0; lrsn = w .lrsn });
       latency = r .latency;
       clock = r .clock;
       rtt = r .rtt;
       arrivals = r .arrivals;
       links = r .links;
-      history = history.cleared-kept (h .history) (r .history) (h .window .lrsn) (w .next);
+      history = history.cleared-kept (h .history) (r .history) (h .window .lrsn) (w .lrsn);
       latest = r .latest;
     }))
     e
@@ -151,7 +153,7 @@ module _ (h : Head) (r : InRange h) (now : ℤ) (n : isReading now ≡ true) (nu
       lrsn recovered l
 
   after-in : (a : PushAnswer) → Says (w .lrsn) a → InRange (afterPush h w a now number size .head)
-  after-in (pushes.Got lrsn recovered) l = got-in lrsn recovered (rw l (in-window w i .next))
+  after-in (pushes.Got lrsn recovered) l = got-in lrsn recovered (rw l (in-window w i .lrsn))
   after-in (pushes.Loss first last) l = window-in h r w now i n
   after-in pushes.BufferFull l = r
   after-in (pushes.PacketTooEarly room need) l = r
@@ -164,7 +166,7 @@ module _ (h : Head) (ws bs : List ℕ) (now : ℤ) (p : Packet) (payload : List 
   taken-in d =
       let o = pushOf (h .window) ws bs (natAbs now) p payload in
       let g = push-kept (h .window) ws bs (natAbs now) p payload (d .good) (d .payloads) (d .right) .0 in
-      after-in h (d .head) now (d .reading) (p .number) (length payload) (d .right .bytes) (o .pushed .window) (from-good (o .pushed .window) (o .slots) g) (o .pushed .answer)
+      after-in h (d .head) now (d .reading) (p .number) (length payload) (d .right .bytes) (o .pushed .window) (from-window (o .pushed .window) (g .ranges)) (o .pushed .answer)
       (push-says (h .window) ws bs (natAbs now) p payload)
 
   pub data-kept : headOk h ≡ true → headOk (dataCallOf h ws bs now p payload .handled .head) ≡ true

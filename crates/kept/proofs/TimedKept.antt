@@ -25,23 +25,24 @@ use Rattle.acks.specs.declared.history.Ack2Answer.the-variants as acks2
 use Rattle.acks.specs.declared.rtt.Rtt.{Rtt}
 use Rattle.acks.proofs.HistoryKept as histories
 use Rattle.acks.proofs.RttKept.{updated-kept}
-use Rattle.window.specs.Window.{roomOf}
+use Rattle.window.specs.Window.{roomOf, windowOk}
 use Rattle.window.specs.declared.Window.{Window}
 use Rattle.window_pop.specs.Pop.{PopOutcome, popOf}
 use Rattle.window_pop.specs.declared.pop.PopAnswer.{PopAnswer}
 use Rattle.window_pop.specs.declared.pop.PopAnswer.the-variants as pops
 use Rattle.window_pop.proofs.PopLaws.{pop-good, pop-clock}
 use Rattle.head.specs.Rules.{firstRefusal, popRules, timedRules, clockRules}
-use Rattle.head.specs.Head.{windowOk, headOk}
+use Rattle.head.specs.Head.{headOk}
 use Rattle.head.specs.Parts.{withRtt, withHistory, withLatest}
 use Rattle.head.specs.declared.state.Head.{Head}
 use Rattle.head.proofs.Gates.{clear}
 use Rattle.head.specs.Ready.{InRange}
-use Rattle.head.proofs.Ready.{in-parts, in-window, timed-ready, clock-ready, pop-ready}
+use Rattle.head.proofs.Ready.{in-parts, timed-ready, clock-ready, pop-ready}
+use Rattle.window.proofs.Ranges.{in-window, from-window}
 use Rattle.receiver.specs.Acking.{afterAck, FullAckOutcome, roomyAck, dueAck, fullAckCallOf, afterAck2, heldAck2, Ack2Outcome, ack2CallOf}
 use Rattle.receiver.specs.Message.{MessageOutcome, poppedOf, headAfter, takenOf, popCallOf}
 use Rattle.receiver.specs.Sync.{afterSync, syncOf, ClockOutcome, clockCallOf}
-use Rattle.kept.proofs.Parts.{from-parts, from-good}
+use Rattle.kept.proofs.Parts.{from-parts}
 
 -- the head with other parts in range, and a reading as its latest
 module _ (h : Head) (now : ℤ) (i : InRange h) (r : isReading now ≡ true) where
@@ -123,7 +124,7 @@ full-ack-kept h a now o =
     (λ u. rtt-set h now (t .head) (t .reading) (h .history) (h .rtt) (t .head .history) (t .head .rtt))
     (λ u.
     after-ack h now (t .head) (t .reading) (k .acked .history) (k .acked .answer) o
-    (histories.full-ack-kept (h .history) (t .head .history) a (natAbs now) (h .rtt .mean) (h .latency) (h .window .lrsn) (w .next))))
+    (histories.full-ack-kept (h .history) (t .head .history) a (natAbs now) (h .rtt .mean) (h .latency) (h .window .lrsn) (w .lrsn))))
     (λ z. o)
 
 pub clock-kept : (h : Head) (now : ℤ) (stamp : ℕ) → headOk h ≡ true → headOk (clockCallOf h now stamp .clocked .head) ≡ true
@@ -148,6 +149,6 @@ message-kept h ws bs out now o =
     let p : PopOutcome = popOf (h .clock) (h .latency) (h .dropping) (h .window) ws now bs out in
     let g = pop-good (h .clock) (h .latency) (h .dropping) (h .window) ws now bs out (pop-ready h now ws bs (eqb-true n 0 z) .good) in
     after-pop h now i (not-false (isReading now) (c .1 .1 .1 .0)) (p .popped .window) (p .popped .clock) (p .popped .answer) o
-    (from-good (p .popped .window) ws g)
+    (from-window (p .popped .window) (g .ranges))
     (pop-clock (h .clock) (h .latency) (h .dropping) (h .window) ws now bs out (i .clock)))
     (λ z. o)

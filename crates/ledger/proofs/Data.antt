@@ -21,13 +21,12 @@ use Rattle.receiver.specs.Data.{gotAnswer, dataCallOf}
 use Rattle.receiver.specs.declared.data.DataAnswer.{DataAnswer}
 use Rattle.views.specs.View as views
 use Rattle.views.specs.View.{Seen, entries, LrsnRight, packetSeen}
-use Rattle.views.proofs.Lists.{entries-length}
 use Rattle.ledger.specs.Ledger.{Place, lost, received, Ledger, numberOf, frontOf, nextOf, holding, marked, tookIn, enterData, releasedBytes}
-use Rattle.ledger.specs.Reading.{dataPlaces}
+use Rattle.ledger.specs.Seen.{dataPlaces}
 use Rattle.ledger.specs.Runs.{placeOf}
 use Rattle.ledger.proofs.Places.{map-append, map-set, map-replicate, marked-one}
 use Rattle.ledger.proofs.Owned.{held-append, held-packet, held-gaps, held-marked}
-use Rattle.ledger.proofs.Moved.{Stands, Moved, still, held-count, place-number}
+use Rattle.ledger.proofs.Moved.{Stands, Moved, still, window-count, place-number}
 use Rattle.ledger.proofs.Moves.{Admitted, Said, data-moves}
 
 -- the places before the packet that a gap names: from the next expected to the one before the packet
@@ -47,18 +46,12 @@ module _ (S : ℕ → List ℕ → Type 0) (l : Ledger) (h : Head) (ws bs : List
   abbrev es : List Seen
   es = entries w ws bs
 
-  count : w .held ≡ length (l .held)
-  count = sym (entries-length (w .capacity) (w .start) ws bs 0 (w .held)) ∙ held-count a
-
-  same : Moved S l l w es 0 []
-  same = still S l w es a
-
   -- in order
   took : p .number ≡ windows.nextOf w → LrsnRight (grown w p 1) (es ++ (packetSeen p payload ∷ []))
       → Moved S l (tookIn l (p .number) payload false) (grown w p 1) (es ++ (packetSeen p payload ∷ [])) 1 []
   took q r =
       let own : S (numberOf l (nextOf l)) payload =
-      subst (λ (x : ℕ). S x payload) (q ∙ place-number a (w .held) ∙ ap (λ (x : ℕ). numberOf l (frontOf l + x)) count) s in
+      subst (λ (x : ℕ). S x payload) (q ∙ place-number a (w .held) ∙ ap (λ (x : ℕ). numberOf l (frontOf l + x)) (window-count ws bs a)) s in
       record {
         stands =
             record {
@@ -82,7 +75,7 @@ module _ (S : ℕ → List ℕ → Type 0) (l : Ledger) (h : Head) (ws bs : List
       let at = distance 31 (p .number) (w .seqno0) in
       let number : numberOf l (frontOf l + at) ≡ p .number = sym (place-number a at) ∙ stepped 31 (p .number) (w .seqno0) ∙ mod-eq-of-lt n in
       let one : marked (l .first) (frontOf l) (p .number) payload (l .held) ≡ set (l .held) at (received payload) =
-      marked-one (l .first) (p .number) payload (l .held) (frontOf l) at (omega (arith, count)) (omega (arith, count)) number in
+      marked-one (l .first) (p .number) payload (l .held) (frontOf l) at (omega (arith, window-count ws bs a)) (omega (arith, window-count ws bs a)) number in
       record {
         stands =
             record {
@@ -113,7 +106,7 @@ module _ (S : ℕ → List ℕ → Type 0) (l : Ledger) (h : Head) (ws bs : List
       ∙ sym (stepped 31 (p .number) (windows.nextOf w))
       ∙ sum-sum 31 (w .seqno0) (w .held) gap
       ∙ place-number a (w .held + gap)
-      ∙ ap (λ (x : ℕ). numberOf l (frontOf l + x)) (omega (arith, count)) in
+      ∙ ap (λ (x : ℕ). numberOf l (frontOf l + x)) (omega (arith, window-count ws bs a)) in
       record {
         stands =
             record {
@@ -146,16 +139,16 @@ module _ (S : ℕ → List ℕ → Type 0) (l : Ledger) (h : Head) (ws bs : List
   pub data-stands : Said h ws bs now p payload hs (a .right) Kept (dataCallOf h ws bs now p payload)
   data-stands =
       data-moves h ws bs now p payload hs (a .right) Kept
-      (λ n q x y. same)
-      (λ d q c. same)
-      (λ d room need x y c. same)
-      (λ d b. same)
-      (λ d i n. same)
+      (λ n q x y. still a)
+      (λ d q c. still a)
+      (λ d room need x y c. still a)
+      (λ d b. still a)
+      (λ d i n. still a)
       next
       (λ d some room r.
       let gap = distance 31 (p .number) (windows.nextOf w) in
-      let n = gap-named (windows.nextOf w) (p .number) gap (beyond d) some (omega (arith, d .good .most)) in
-      gapped (natAbs now) (d .right .number) some (omega (arith, d .good .most)) r (distance 31 (sum 31 (p .number) (2 ^ 31 - 1)) (windows.nextOf w)) n)
+      let n = gap-named (windows.nextOf w) (p .number) gap (beyond d) some (omega (arith, d .good .ranges .most)) in
+      gapped (natAbs now) (d .right .number) some (omega (arith, d .good .ranges .most)) r (distance 31 (sum 31 (p .number) (2 ^ 31 - 1)) (windows.nextOf w)) n)
       recovered
     where
       next : Admitted h ws bs now p payload → (light : Bool) (lrsn : ℕ) → p .number ≡ windows.nextOf w
@@ -167,5 +160,5 @@ module _ (S : ℕ → List ℕ → Type 0) (l : Ledger) (h : Head) (ws bs : List
           → words.isLost (entryIn w ws (distance 31 (p .number) (w .seqno0))) ≡ true
           → LrsnRight (withLrsn w lrsn) (set es (distance 31 (p .number) (w .seqno0)) (packetSeen p payload))
           → Kept (withLrsn w lrsn) (set es (distance 31 (p .number) (w .seqno0)) (packetSeen p payload)) (gotAnswer light lrsn true)
-      recovered d true lrsn i n r = filled lrsn (omega (arith, d .good .holds, d .good .most)) (d .right .number) i r
-      recovered d false lrsn i n r = filled lrsn (omega (arith, d .good .holds, d .good .most)) (d .right .number) i r
+      recovered d true lrsn i n r = filled lrsn (omega (arith, d .good .ranges .holds, d .good .ranges .most)) (d .right .number) i r
+      recovered d false lrsn i n r = filled lrsn (omega (arith, d .good .ranges .holds, d .good .ranges .most)) (d .right .number) i r

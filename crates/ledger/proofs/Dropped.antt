@@ -14,11 +14,13 @@ use Rattle.slots.specs.Words.{entryAt}
 use Rattle.slots.specs.Ring.{slotOf}
 use Rattle.slots.specs.declared.entry.Entry.{Entry}
 use Rattle.slots.specs.declared.entry.Entry.the-variants.{Lost, Received, GivenUp}
-use Rattle.window.specs.Window.{Good}
+use Rattle.window.specs.Ready.{Good}
 use Rattle.window.specs.declared.Window.{Window}
 use Rattle.window_report.specs.Drop as dropping
 use Rattle.window_report.specs.Drop.{dropFrom, dropTo, dropOf}
-use Rattle.window_report.proofs.DropLaws.{lostAmong, drop-counts}
+use Rattle.window_report.specs.Drop.{lostAmong}
+use Rattle.window_report.proofs.DropLaws.{drop-counts}
+use Rattle.views.specs.Lists.{changedIn}
 use Rattle.views.specs.View.{Seen, seenOf, entriesFrom, entries}
 use Rattle.ledger.specs.Ledger.{Place, lost, received, givenUp, gaveUp, givenIn, lostCount}
 use Rattle.ledger.specs.Runs.{placeOf}
@@ -51,7 +53,7 @@ module _ (capacity start : ℕ) (ws bs : List ℕ) (from to : ℕ) where
   one-given false s GivenUp xs ys m h = omega arith
 
   given-counts : (n i : ℕ) → lostCount (map placeOf (entriesFrom capacity start ws bs i n)) ≡ lostCount (givenIn from to i (map placeOf (entriesFrom capacity start ws bs i n))) + within i n
-  unfolding entriesFrom givenIn lostWithin
+  unfolding entriesFrom changedIn lostWithin
   given-counts zero i = omega arith
   given-counts (suc n) i =
       one-given (leb from i && ltb i to) (slotOf capacity start i) (entryAt ws (slotOf capacity start i)) (map placeOf (entriesFrom capacity start ws bs (suc i) n)) (givenIn from to (suc i) (map placeOf (entriesFrom capacity start ws bs (suc i) n))) (within (suc i) n) (given-counts n (suc i))

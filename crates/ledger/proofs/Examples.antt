@@ -12,7 +12,8 @@ use Rattle.step.specs.declared.Call.{Call}
 use Rattle.step.specs.declared.Call.the-variants as calls
 use Rattle.step.specs.declared.Answer.{Answer}
 use Rattle.step.specs.declared.Answer.the-variants as answers
-use Rattle.ledger.specs.Ledger.{lost, received, givenUp, released, discarded, Ledger, opened, numberOf, frontOf, nextOf, marked, givenIn, enter}
+use Rattle.views.specs.Lists.{changedIn}
+use Rattle.ledger.specs.Ledger.{lost, received, givenUp, released, discarded, Ledger, opened, numberOf, frontOf, nextOf, marked, enter}
 
 abbrev sent : ℕ → Call
 sent number = calls.Data (pos 0) number 0 3 0
@@ -47,5 +48,5 @@ late-example = refl
 -- a drop request from 2147483647 to 0 gives up what is lost there, and nothing behind it
 pub drop-example : enter (record { first = 2147483647; gone = []; held = lost ∷ received (5 ∷ []) ∷ lost ∷ [] }) (calls.Drop 2147483647 0) [] (answers.Drop (drops.Gone 1))
     ≡ record { first = 2147483647; gone = []; held = givenUp ∷ received (5 ∷ []) ∷ lost ∷ [] }
-unfolding sum distance saturating before equal after givenIn
+unfolding sum distance saturating before equal after changedIn
 drop-example = refl

@@ -18,7 +18,8 @@ use Rattle.slots.specs.Words as words
 use Rattle.slots.specs.declared.entry.Entry.{Entry}
 use Rattle.slots.specs.declared.entry.Entry.the-variants.{Lost, Received, GivenUp}
 use Rattle.window.specs.Window as windows
-use Rattle.window.specs.Window.{Good, slotIn, entryIn, withLrsn, roomOf}
+use Rattle.window.specs.Window.{slotIn, entryIn, withLrsn, roomOf}
+use Rattle.window.specs.Ready.{Good}
 use Rattle.window.specs.Push.{grown}
 use Rattle.window.specs.declared.Window.{Window}
 use Rattle.window.specs.declared.push.Packet.{Packet}
@@ -31,12 +32,12 @@ use Rattle.receiver.specs.declared.data.DataAnswer.{DataAnswer}
 use Rattle.receiver.specs.declared.data.DataAnswer.the-variants as datas
 use Rattle.views.specs.View as views
 use Rattle.views.specs.View.{Seen, seenOf, seenAt, entries, LrsnRight, packetSeen}
-use Rattle.views.proofs.Lists.{entries-length, entries-at}
+use Rattle.views.proofs.Lists.{entries-at}
 use Rattle.ledger.specs.Ledger.{Place, lost, received, givenUp, Ledger, numberOf, frontOf, nextOf}
 use Rattle.ledger.specs.Runs.{placeOf}
-use Rattle.ledger.specs.Reading.{appends, recovers, isLoss, LossIs}
+use Rattle.ledger.specs.Seen.{appends, recovers, isLoss, LossIs}
 use Rattle.ledger.specs.Claims.{Judges}
-use Rattle.ledger.proofs.Moved.{Stands, held-count, place-number}
+use Rattle.ledger.proofs.Moved.{Stands, window-count, place-number}
 use Rattle.ledger.proofs.Moves.{Admitted, Said, data-moves}
 
 getD-map : {A B : Type 0} (f : A → B) (xs : List A) (i : ℕ) (d : A) → getD (map f xs) i (f d) ≡ f (getD xs i d)
@@ -66,9 +67,6 @@ module _ (S : ℕ → List ℕ → Type 0) (l : Ledger) (h : Head) (ws bs : List
   abbrev at : ℕ
   at = distance 31 (p .number) (w .seqno0)
 
-  count : w .held ≡ length (l .held)
-  count = sym (entries-length (w .capacity) (w .start) ws bs 0 (w .held)) ∙ held-count a
-
   -- the place of an entry
   place-is : (d : Seen) (i : ℕ) → i < w .held → getD (l .held) i (placeOf d) ≡ placeOf (seenAt ws bs (slotIn w i))
   place-is d i k =
@@ -80,7 +78,7 @@ module _ (S : ℕ → List ℕ → Type 0) (l : Ledger) (h : Head) (ws bs : List
   -- a held number, seen from the front and from the next expected
   index-is : Good w ws → (i : ℕ) → i ≤ w .held → numberOf l (frontOf l + i) ≡ p .number → at ≡ i
   index-is g i k e =
-      ap (λ (x : ℕ). distance 31 x (w .seqno0)) (sym e ∙ sym (place-number a i)) ∙ distance-sum 31 (w .seqno0) {n = i} (omega (arith, g .holds, g .most))
+      ap (λ (x : ℕ). distance 31 x (w .seqno0)) (sym e ∙ sym (place-number a i)) ∙ distance-sum 31 (w .seqno0) {n = i} (omega (arith, g .ranges .holds, g .ranges .most))
 
   far : Good w ws → (i : ℕ) → i < w .held → numberOf l (frontOf l + i) ≡ p .number → 2 ^ 30 ≤ distance 31 (p .number) (windows.nextOf w)
   far g i k e =
@@ -89,29 +87,29 @@ module _ (S : ℕ → List ℕ → Type 0) (l : Ledger) (h : Head) (ws bs : List
       let d : distance 31 (windows.nextOf w) (p .number) ≡ n =
       ap (λ (x : ℕ). distance 31 (windows.numberIn w x) (p .number)) (sym z)
       ∙ ap (λ (x : ℕ). distance 31 (windows.numberIn w (i + n)) x) (sym e ∙ sym (place-number a i))
-      ∙ place-distance 31 (w .seqno0) i n (omega (arith, g .holds, g .most)) in
+      ∙ place-distance 31 (w .seqno0) i n (omega (arith, g .ranges .holds, g .ranges .most)) in
       let o = around 31 (windows.nextOf w) (p .number) (omega arith) in
-      omega (arith, g .holds, g .most)
+      omega (arith, g .ranges .holds, g .ranges .most)
 
   -- the next expected, as the ledger says it
   next-is : windows.nextOf w ≡ numberOf l (nextOf l)
-  next-is = place-number a (w .held) ∙ ap (λ (x : ℕ). numberOf l (frontOf l + x)) count
+  next-is = place-number a (w .held) ∙ ap (λ (x : ℕ). numberOf l (frontOf l + x)) (window-count ws bs a)
 
   none-missing : p .number ≡ numberOf l (nextOf l) → distance 31 (p .number) (windows.nextOf w) ≡ 0
   none-missing e = ap (λ (x : ℕ). distance 31 x (windows.nextOf w)) (e ∙ sym next-is) ∙ distance-self 31 (windows.nextOf w)
 
   fresh-index : Good w ws → p .number ≡ numberOf l (nextOf l) → at ≡ w .held
-  fresh-index g e = index-is g (w .held) (omega arith) (ap (λ (x : ℕ). numberOf l (frontOf l + x)) count ∙ sym e)
+  fresh-index g e = index-is g (w .held) (omega arith) (ap (λ (x : ℕ). numberOf l (frontOf l + x)) (window-count ws bs a) ∙ sym e)
 
   not-next : Good w ws → p .number ≡ windows.nextOf w → (i : ℕ) → i < length (l .held) → numberOf l (frontOf l + i) ≡ p .number → ⊥
-  not-next g q i k e = let f = far g i (omega (arith, count)) e in let z = none-missing (q ∙ next-is) in omega arith
+  not-next g q i k e = let f = far g i (omega (arith, window-count ws bs a)) e in let z = none-missing (q ∙ next-is) in omega arith
 
   not-far : Good w ws → distance 31 (p .number) (windows.nextOf w) < 2 ^ 30 → (i : ℕ) → i < length (l .held) → numberOf l (frontOf l + i) ≡ p .number → ⊥
-  not-far g m i k e = let f = far g i (omega (arith, count)) e in omega arith
+  not-far g m i k e = let f = far g i (omega (arith, window-count ws bs a)) e in omega arith
 
   not-late : Good w ws → before 31 (p .number) (w .seqno0) ≡ true → (i : ℕ) → i ≤ w .held → numberOf l (frontOf l + i) ≡ p .number → ⊥
   not-late g b i k e =
-      let z = index-is g i k e in impossible (sym b ∙ before-not 31 (p .number) (w .seqno0) (omega (arith, g .holds, g .most)))
+      let z = index-is g i k e in impossible (sym b ∙ before-not 31 (p .number) (w .seqno0) (omega (arith, g .ranges .holds, g .ranges .most)))
 
   number : Admitted h ws bs time p payload → numberOf l (frontOf l + at) ≡ p .number
   unfolding sum
@@ -126,7 +124,7 @@ module _ (S : ℕ → List ℕ → Type 0) (l : Ledger) (h : Head) (ws bs : List
 
   gap-room : Admitted h ws bs time p payload → length (l .held) + distance 31 (p .number) (numberOf l (nextOf l)) + 1 ≤ w .capacity
       → w .held + distance 31 (p .number) (windows.nextOf w) + 1 ≤ 8192
-  gap-room d x = let n = ap (distance 31 (p .number)) next-is in omega (arith, count, n, x, d .good .most)
+  gap-room d x = let n = ap (distance 31 (p .number)) next-is in omega (arith, window-count ws bs a, n, x, d .good .ranges .most)
 
   gap-index : Admitted h ws bs time p payload → after 31 (p .number) (numberOf l (nextOf l)) ≡ true
       → length (l .held) + distance 31 (p .number) (numberOf l (nextOf l)) + 1 ≤ w .capacity → at ≡ w .held + distance 31 (p .number) (windows.nextOf w)
@@ -170,13 +168,13 @@ module _ (S : ℕ → List ℕ → Type 0) (l : Ledger) (h : Head) (ws bs : List
         afterGap = λ e. impossible (sym e);
         gapNamed = tt;
         tested = inr (d .tests, omega arith, omega arith);
-        full = λ e. (q ∙ next-is, sym count ∙ c);
+        full = λ e. (q ∙ next-is, sym (window-count ws bs a) ∙ c);
         early = λ e. absurd (omega arith);
         unplaced = λ b m. not-next (d .good) q;
         duplicate = λ e. absurd (omega arith);
         taken = λ z i k e x. absurd (not-next (d .good) q i k e);
         late = λ e. absurd (omega arith);
-        next = λ z e r. absurd (omega (arith, count, c));
+        next = λ z e r. absurd (omega (arith, window-count ws bs a, c));
         gap = λ z e r. absurd (let y = beyond-next e in let x = none-missing (q ∙ next-is) in omega arith);
       }
 
@@ -191,13 +189,13 @@ module _ (S : ℕ → List ℕ → Type 0) (l : Ledger) (h : Head) (ws bs : List
         gapNamed = tt;
         tested = inr (d .tests, omega arith, omega arith);
         full = λ e. absurd (omega arith);
-        early = λ e. omega (arith, count, n, r);
+        early = λ e. omega (arith, window-count ws bs a, n, r);
         unplaced = λ b m. not-far (d .good) under;
         duplicate = λ e. absurd (omega arith);
         taken = λ z i k e x. absurd (not-far (d .good) under i k e);
         late = λ e. absurd (omega arith);
         next = λ z e x. absurd (let y = none-missing e in omega arith);
-        gap = λ z e x. absurd (omega (arith, count, n, r, x, d .good .holds));
+        gap = λ z e x. absurd (omega (arith, window-count ws bs a, n, r, x, d .good .ranges .holds));
       }
 
   late : Admitted h ws bs time p payload → before 31 (p .number) (w .seqno0) ≡ true → Judged (datas.Refused 9)
@@ -210,15 +208,15 @@ module _ (S : ℕ → List ℕ → Type 0) (l : Ledger) (h : Head) (ws bs : List
         tested = inr (d .tests, omega arith, omega arith);
         full = λ e. absurd (omega arith);
         early = λ e. absurd (omega arith);
-        unplaced = λ c m i k e. not-late (d .good) b i (omega (arith, count)) e;
+        unplaced = λ c m i k e. not-late (d .good) b i (omega (arith, window-count ws bs a)) e;
         duplicate = λ e. absurd (omega arith);
-        taken = λ z i k e x. absurd (not-late (d .good) b i (omega (arith, count)) e);
+        taken = λ z i k e x. absurd (not-late (d .good) b i (omega (arith, window-count ws bs a)) e);
         late = λ e. ap (before 31 (p .number)) (sym (a .front)) ∙ b;
-        next = λ z e x. absurd (not-late (d .good) b (w .held) (omega arith) (ap (λ (y : ℕ). numberOf l (frontOf l + y)) count ∙ sym e));
+        next = λ z e x. absurd (not-late (d .good) b (w .held) (omega arith) (ap (λ (y : ℕ). numberOf l (frontOf l + y)) (window-count ws bs a) ∙ sym e));
         gap =
             λ z e x.
             let y = gap-index d e x in
-            impossible (sym b ∙ before-not 31 (p .number) (w .seqno0) (omega (arith, d .good .most, gap-room d x)));
+            impossible (sym b ∙ before-not 31 (p .number) (w .seqno0) (omega (arith, d .good .ranges .most, gap-room d x)));
       }
 
   twice : Admitted h ws bs time p payload → at < w .held → words.isLost (entryIn w ws at) ≡ false → Judged (datas.Refused 10)
@@ -234,10 +232,10 @@ module _ (S : ℕ → List ℕ → Type 0) (l : Ledger) (h : Head) (ws bs : List
         unplaced = λ b m j k e. omega arith;
         duplicate =
             λ e.
-            (at, omega (arith, count), number d, λ q. impossible (sym (lost-is bs (slotIn w at) (entryIn w ws at) (sym (place-is (views.lost 0 0) at i) ∙ q)) ∙ n));
+            (at, omega (arith, window-count ws bs a), number d, λ q. impossible (sym (lost-is bs (slotIn w at) (entryIn w ws at) (sym (place-is (views.lost 0 0) at i) ∙ q)) ∙ n));
         taken =
             λ z j k e q.
-            let y = index-is (d .good) j (omega (arith, count)) e in
+            let y = index-is (d .good) j (omega (arith, window-count ws bs a)) e in
             impossible (sym (lost-is bs (slotIn w at) (entryIn w ws at) (sym (place-is views.givenUp at i) ∙ ap (λ (x : ℕ). getD (l .held) x givenUp) y ∙ q)) ∙ n);
         late = λ e. absurd (omega arith);
         next = λ z e x. absurd (let y = fresh-index (d .good) e in omega arith);
@@ -271,6 +269,34 @@ module _ (S : ℕ → List ℕ → Type 0) (l : Ledger) (h : Head) (ws bs : List
         gap = λ t. m;
       }
 
+  -- an append without gap and a recovery, with a light ACK or without
+  abbrev Named : DataAnswer → Type 0
+  Named x = LossIs x (numberOf l (nextOf l)) (sum 31 (p .number) (2 ^ 31 - 1))
+
+  appended : (x : DataAnswer) → dataLine x .refusal ≡ 0 → recovers x ≡ false → isLoss x ≡ false → appends x ≡ true → Named x
+      → Admitted h ws bs time p payload → p .number ≡ windows.nextOf w → Judged x
+  appended x z v g f n d q =
+      took x z d
+      (λ e. q ∙ next-is)
+      (λ e. impossible (sym e ∙ v))
+      (λ e. impossible (sym e ∙ g))
+      n
+      (λ i k e y. absurd (not-next (d .good) q i k e))
+      (λ e. f)
+      (λ e m. absurd (let y = beyond-next e in let x = none-missing (q ∙ next-is) in omega arith))
+
+  filled : (x : DataAnswer) → dataLine x .refusal ≡ 0 → appends x ≡ false → isLoss x ≡ false → recovers x ≡ true → Named x
+      → Admitted h ws bs time p payload → at < w .held → words.isLost (entryIn w ws at) ≡ true → Judged x
+  filled x z o g v n d i m =
+      took x z d
+      (λ e. impossible (sym e ∙ o))
+      (λ e. (at, omega (arith, window-count ws bs a), number d, place-is views.givenUp at i ∙ lost-so bs (slotIn w at) (entryIn w ws at) m))
+      (λ e. impossible (sym e ∙ g))
+      n
+      (λ j k e q. v)
+      (λ e. absurd (let y = fresh-index (d .good) e in omega arith))
+      (λ e r. absurd (let y = gap-index d e r in omega arith))
+
   pub data-judged : Said h ws bs time p payload hs (a .right) (λ v fs x. Judged x) (dataCallOf h ws bs time p payload)
   data-judged =
       data-moves h ws bs time p payload hs (a .right) (λ v fs x. Judged x)
@@ -284,50 +310,18 @@ module _ (S : ℕ → List ℕ → Type 0) (l : Ledger) (h : Head) (ws bs : List
       took (datas.Loss (windows.nextOf w) (sum 31 (p .number) (2 ^ 31 - 1))) refl d
       (λ e. impossible (sym e))
       (λ e. impossible (sym e))
-      (λ e. ap (after 31 (p .number)) (sym next-is) ∙ after-at 31 (p .number) (windows.nextOf w) some (omega (arith, d .good .most)))
+      (λ e. ap (after 31 (p .number)) (sym next-is) ∙ after-at 31 (p .number) (windows.nextOf w) some (omega (arith, d .good .ranges .most)))
       (next-is, refl)
-      (λ i k e q. absurd (not-far (d .good) (omega (arith, d .good .most)) i k e))
+      (λ i k e q. absurd (not-far (d .good) (omega (arith, d .good .ranges .most)) i k e))
       (λ e. absurd (let y = none-missing e in omega arith))
       (λ e m. refl))
       recovered
     where
       next : Admitted h ws bs time p payload → (light : Bool) (lrsn : ℕ) → p .number ≡ windows.nextOf w → LrsnRight (grown w p 1) (es ++ (packetSeen p payload ∷ [])) → Judged (gotAnswer light lrsn false)
-      next d true lrsn q r =
-          took (datas.Light lrsn false) refl d
-          (λ e. q ∙ next-is)
-          (λ e. impossible (sym e))
-          (λ e. impossible (sym e))
-          tt
-          (λ i k e x. absurd (not-next (d .good) q i k e))
-          (λ e. refl)
-          (λ e m. absurd (let y = beyond-next e in let x = none-missing (q ∙ next-is) in omega arith))
-      next d false lrsn q r =
-          took (datas.Got lrsn false) refl d
-          (λ e. q ∙ next-is)
-          (λ e. impossible (sym e))
-          (λ e. impossible (sym e))
-          tt
-          (λ i k e x. absurd (not-next (d .good) q i k e))
-          (λ e. refl)
-          (λ e m. absurd (let y = beyond-next e in let x = none-missing (q ∙ next-is) in omega arith))
+      next d true lrsn q r = appended (datas.Light lrsn false) refl refl refl refl tt d q
+      next d false lrsn q r = appended (datas.Got lrsn false) refl refl refl refl tt d q
 
       recovered : Admitted h ws bs time p payload → (light : Bool) (lrsn : ℕ) → at < w .held → words.isLost (entryIn w ws at) ≡ true
           → LrsnRight (withLrsn w lrsn) (set es at (packetSeen p payload)) → Judged (gotAnswer light lrsn true)
-      recovered d true lrsn i n r =
-          took (datas.Light lrsn true) refl d
-          (λ e. impossible (sym e))
-          (λ e. (at, omega (arith, count), number d, place-is views.givenUp at i ∙ lost-so bs (slotIn w at) (entryIn w ws at) n))
-          (λ e. impossible (sym e))
-          tt
-          (λ j k e q. refl)
-          (λ e. absurd (let y = fresh-index (d .good) e in omega arith))
-          (λ e m. absurd (let y = gap-index d e m in omega arith))
-      recovered d false lrsn i n r =
-          took (datas.Got lrsn true) refl d
-          (λ e. impossible (sym e))
-          (λ e. (at, omega (arith, count), number d, place-is views.givenUp at i ∙ lost-so bs (slotIn w at) (entryIn w ws at) n))
-          (λ e. impossible (sym e))
-          tt
-          (λ j k e q. refl)
-          (λ e. absurd (let y = fresh-index (d .good) e in omega arith))
-          (λ e m. absurd (let y = gap-index d e m in omega arith))
+      recovered d true lrsn i n r = filled (datas.Light lrsn true) refl refl refl refl tt d i n
+      recovered d false lrsn i n r = filled (datas.Got lrsn true) refl refl refl refl tt d i n

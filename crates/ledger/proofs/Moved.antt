@@ -10,6 +10,7 @@ use Rattle.numbers.proofs.Circle.{sum-sum}
 use Rattle.window.specs.Window.{numberIn}
 use Rattle.window.specs.declared.Window.{Window}
 use Rattle.views.specs.View.{Seen, gapIn, LrsnRight, entries}
+use Rattle.views.proofs.Lists.{entries-length}
 use Rattle.ledger.specs.Ledger.{Place, lost, received, Fate, released, discarded, Ledger, numberOf, frontOf, nextOf, leave, receivedRun, releasedBytes}
 use Rattle.ledger.specs.Runs.{placeOf}
 use Rattle.ledger.proofs.Places.{map-drop, run-gap}
@@ -29,12 +30,15 @@ pub record Moved (S : ℕ → List ℕ → Type 0) (l l₁ : Ledger) (w : Window
   pub handed : releasedBytes (l₁ .gone) ≡ releasedBytes (l .gone) ++ out
   pub all : nextOf l₁ ≡ nextOf l + places
 
-pub still : (S : ℕ → List ℕ → Type 0) (l : Ledger) (w : Window) (es : List Seen) → Stands S l w es → Moved S l l w es 0 []
-still S l w es a = record { stands = a; handed = sym (append-nil (releasedBytes (l .gone))); all = omega arith }
+pub still : {S : ℕ → List ℕ → Type 0} {l : Ledger} {w : Window} {es : List Seen} → Stands S l w es → Moved S l l w es 0 []
+still {l = l} a = record { stands = a; handed = sym (append-nil (releasedBytes (l .gone))); all = omega arith }
 
 -- how many are held
 pub held-count : {S : ℕ → List ℕ → Type 0} {l : Ledger} {w : Window} {es : List Seen} → Stands S l w es → length es ≡ length (l .held)
 held-count {es = es} a = sym (length-map es placeOf) ∙ ap length (a .held)
+
+pub window-count : {S : ℕ → List ℕ → Type 0} {l : Ledger} {w : Window} (ws bs : List ℕ) → Stands S l w (entries w ws bs) → w .held ≡ length (l .held)
+window-count {w = w} ws bs a = sym (entries-length (w .capacity) (w .start) ws bs 0 (w .held)) ∙ held-count a
 
 -- the number of a held place, from the front's number
 pub place-number : {S : ℕ → List ℕ → Type 0} {l : Ledger} {w : Window} {es : List Seen} → Stands S l w es → (i : ℕ) → numberIn w i ≡ numberOf l (frontOf l + i)

@@ -20,9 +20,10 @@ use Rattle.acks.specs.History.{lightAckOf}
 use Rattle.slots.specs.Words as words
 use Rattle.slots.specs.Words.{writeAt}
 use Rattle.slots.specs.Ring.{withPayload}
-use Rattle.window.specs.Window.{Good, Bytes, slotIn, entryIn, nextOf, numberIn, withLrsn, roomOf}
+use Rattle.window.specs.Window.{slotIn, entryIn, nextOf, numberIn, withLrsn, roomOf}
+use Rattle.window.specs.Ready.{Good, Bytes, PacketRight}
 use Rattle.window.specs.Push as push
-use Rattle.window.specs.Push.{PushOutcome, pushEnded, PacketRight, grown, movedPast, withLost, recoveredLrsn, appendNextOf, appendWithLossOf, recoveredOf, recoverOf, pushOf}
+use Rattle.window.specs.Push.{PushOutcome, pushEnded, grown, movedPast, withLost, recoveredLrsn, appendNextOf, appendWithLossOf, recoveredOf, recoverOf, pushOf}
 use Rattle.window.specs.declared.Window.{Window}
 use Rattle.window.specs.declared.push.Packet.{Packet}
 use Rattle.window.specs.declared.push.PushAnswer.{PushAnswer}

@@ -20,7 +20,8 @@ use Rattle.acks.specs.declared.history.AckAnswer.{AckAnswer}
 use Rattle.acks.specs.declared.history.AckAnswer.the-variants as acks
 use Rattle.acks.specs.declared.history.Ack2Answer.{Ack2Answer}
 use Rattle.acks.specs.declared.history.Ack2Answer.the-variants as acks2
-use Rattle.window.specs.Window.{Good, roomOf}
+use Rattle.window.specs.Window.{roomOf}
+use Rattle.window.specs.Ready.{Good}
 use Rattle.window.specs.declared.Window.{Window}
 use Rattle.window_report.specs.Report.{ReportOutcome, reportOf}
 use Rattle.window_report.specs.Drop as dropping
@@ -37,14 +38,13 @@ use Rattle.receiver.specs.Request.{DropOutcome, goneOf, dropCallOf}
 use Rattle.receiver.specs.Sync.{ClockOutcome, afterSync, syncOf, clockCallOf}
 use Rattle.views.specs.View as views
 use Rattle.views.specs.View.{Seen, entries, LrsnRight}
-use Rattle.views.proofs.Lists.{entries-length}
 use Rattle.views.proofs.Marks.{report-seen, report-right, drop-seen, drop-right}
 use Rattle.ledger.specs.Ledger.{Place, Ledger, numberOf, frontOf, holding, givenIn, endIn, enterDrop, lostCount, releasedBytes}
 use Rattle.ledger.specs.Runs.{placeOf}
 use Rattle.ledger.specs.Claims.{Counts}
 use Rattle.ledger.proofs.Places.{given-places, given-long, reported-places}
 use Rattle.ledger.proofs.Owned.{held-given}
-use Rattle.ledger.proofs.Moved.{Stands, Moved, still, held-count}
+use Rattle.ledger.proofs.Moved.{Stands, Moved, still, window-count}
 use Rattle.ledger.proofs.Moves.{by-refusal}
 use Rattle.ledger.proofs.Dropped.{counts}
 
@@ -54,9 +54,6 @@ module _ (S : ℕ → List ℕ → Type 0) (l : Ledger) (h : Head) (ws bs : List
 
   abbrev es : List Seen
   es = entries w ws bs
-
-  same : Moved S l l w es 0 []
-  same = still S l w es a
 
   -- a loss report moves no place
   abbrev pub Reported : LossOutcome → Type 0
@@ -82,7 +79,7 @@ module _ (S : ℕ → List ℕ → Type 0) (l : Ledger) (h : Head) (ws bs : List
       let u = reading-size now (t .0 .reading) .1 in
       let o = reportOf w ws (natAbs now) (h .rtt .mean) list in
       subst (λ (v : Window). Moved S l l v (entries v (o .slots) bs) 0 []) (sym (report-window now (o .answer)))
-      (still S l w (entries w (o .slots) bs)
+      (still
       (record {
         front = a .front;
         held = ap (map placeOf) (report-seen w ws bs g (natAbs now) (h .rtt .mean) list u) ∙ report-places (natAbs now) (h .rtt .mean) (o .answer) ∙ a .held;
@@ -90,18 +87,15 @@ module _ (S : ℕ → List ℕ → Type 0) (l : Ledger) (h : Head) (ws bs : List
         ownGone = a .ownGone;
         ownHeld = a .ownHeld;
       })))
-      (λ z. same)
+      (λ z. still a)
 
   -- a drop request gives up lost places
   abbrev pub Requested : ℕ → ℕ → DropOutcome → Type 0
   Requested first last o = Moved S l (enterDrop l first last (o .answer)) w (entries w (o .slots) bs) 0 []
 
-  count : w .held ≡ length (l .held)
-  count = sym (entries-length (w .capacity) (w .start) ws bs 0 (w .held)) ∙ held-count a
-
   end-is : (number : ℕ) → dropping.endIn w number ≡ endIn l number
   unfolding dropping.endIn
-  end-is number = rw (a .front, count)
+  end-is number = rw (a .front, window-count ws bs a)
 
   pub drop-stands : (first last : ℕ) → Requested first last (dropCallOf h ws first last)
   unfolding dropCallOf
@@ -129,7 +123,7 @@ module _ (S : ℕ → List ℕ → Type 0) (l : Ledger) (h : Head) (ws bs : List
         handed = sym (append-nil (releasedBytes (l .gone)));
         all = omega (arith, long);
       })
-      (λ z. same)
+      (λ z. still a)
 
   pub drop-counted : (first last : ℕ) → Counts l first last (dropCallOf h ws first last .answer)
   unfolding dropCallOf
@@ -148,7 +142,7 @@ module _ (S : ℕ → List ℕ → Type 0) (l : Ledger) (h : Head) (ws bs : List
   Alike v = Moved S l l v (entries v ws bs) 0 []
 
   alike : (v : Window) → v ≡ w → Alike v
-  alike v e = subst Alike (sym e) same
+  alike v e = subst Alike (sym e) (still a)
 
   pub full-ack-stands : (b : List ℕ) (now : ℤ) → Alike (fullAckCallOf h b now .acked .head .window)
   unfolding fullAckCallOf dueAck roomyAck
@@ -156,11 +150,11 @@ module _ (S : ℕ → List ℕ → Type 0) (l : Ledger) (h : Head) (ws bs : List
       by-refusal (λ (o : FullAckOutcome). Alike (o .acked .head .window)) (firstRefusal (timedRules (headOk h) (length b) 2048 now (h .latest))) _ _
       (λ z.
       by-test (λ (o : FullAckOutcome). Alike (o .acked .head .window)) (eqb (roomOf w) 0) _ _
-      (λ t. same)
+      (λ t. still a)
       (λ t.
       let k = fullAckOf (h .history) b (natAbs now) (h .rtt .mean) (h .latency) (w .lrsn) in
       alike (afterAck h (k .acked .history) (k .acked .answer) now .head .window) (go (k .acked .history) (k .acked .answer))))
-      (λ z. same)
+      (λ z. still a)
     where
       go : (y : History) (x : AckAnswer) → afterAck h y x now .head .window ≡ w
       go y acks.Nothing = refl
@@ -174,7 +168,7 @@ module _ (S : ℕ → List ℕ → Type 0) (l : Ledger) (h : Head) (ws bs : List
       (λ z.
       let k = ack2Of (h .history) b (natAbs now) number in
       alike (afterAck2 h (k .history) (k .answer) now .head .window) (go (k .history) (k .answer)))
-      (λ z. same)
+      (λ z. still a)
     where
       go : (y : History) (x : Ack2Answer) → afterAck2 h y x now .head .window ≡ w
       go y acks2.NotHeld = refl
@@ -187,7 +181,7 @@ module _ (S : ℕ → List ℕ → Type 0) (l : Ledger) (h : Head) (ws bs : List
       (λ z.
       let k = synchronized (h .clock) now stamp in
       alike (afterSync h (k .clock) (k .answer) now .head .window) (go (k .clock) (k .answer)))
-      (λ z. same)
+      (λ z. still a)
     where
       go : (k : SynchronizedRemoteClock) (x : Synchronized) → afterSync h k x now .head .window ≡ w
       go k clocks.Nothing = refl

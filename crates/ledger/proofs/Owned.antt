@@ -9,6 +9,7 @@ use lib.Dec.{eqb, ltb, leb}
 use lib.ListN.{length, take, drop, replicate, getD}
 use Rattle.numbers.specs.Circular.{sum}
 use Rattle.numbers.proofs.Flags.{by-bool}
+use Rattle.views.specs.Lists.{runOf, changedIn}
 use Rattle.ledger.specs.Ledger.{Place, lost, received, givenUp, Fate, released, discarded, Ledger, numberOf, frontOf, nextOf, holding, leave, bytesOf, gaveUp, givenIn, marked, receivedRun}
 
 module _ (S : ℕ → List ℕ → Type 0) (first : ℕ) where
@@ -96,7 +97,7 @@ module _ (S : ℕ → List ℕ → Type 0) (first : ℕ) where
   given-head true givenUp bytes e = clash₂ e
 
   pub held-given : (from to j : ℕ) (xs : List Place) (p : ℕ) → OwnHeld p xs → OwnHeld p (givenIn from to j xs)
-  unfolding givenIn
+  unfolding changedIn
   held-given from to j [] p o i b e = nothing i b e
   held-given from to j (x ∷ xs) p o i b e =
       held-cons p (cond (leb from j && ltb j to) (gaveUp x) x) (givenIn from to (suc j) xs)
@@ -111,7 +112,7 @@ module _ (S : ℕ → List ℕ → Type 0) (first : ℕ) where
   gone-discarded p (x ∷ xs) (suc i) bytes e = at (suc p + i) (p + suc i) bytes (omega arith) (gone-discarded (suc p) xs i bytes e)
 
   pub gone-released : (n p : ℕ) (xs : List Place) → n ≤ receivedRun xs → OwnHeld p xs → OwnGone p (map (λ x. released (bytesOf x)) (take n xs))
-  unfolding receivedRun
+  unfolding runOf
   gone-released zero p xs h o i bytes e = empty i bytes e
   gone-released (suc n) p [] h o i bytes e = absurd (omega arith)
   gone-released (suc n) p (lost ∷ xs) h o i bytes e = absurd (omega arith)

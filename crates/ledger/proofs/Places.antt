@@ -10,6 +10,7 @@ use lib.ListN.{length, take, drop, set, replicate, getD}
 use Rattle.numbers.specs.Circular.{sum}
 use Rattle.numbers.proofs.Flags.{by-bool}
 use Rattle.numbers.proofs.Places.{place-one}
+use Rattle.views.specs.Lists.{runOf, changedIn}
 use Rattle.views.specs.View as views
 use Rattle.views.specs.View.{Seen, gapIn}
 use Rattle.ledger.specs.Ledger.{Place, lost, received, givenUp, Fate, released, discarded, bytesOf, gaveUp, givenIn, marked, receivedRun, releasedBytes}
@@ -41,7 +42,7 @@ module _ {A B : Type 0} (f : A → B) where
 
 -- the run of received places is the run of received entries
 pub run-gap : (es : List Seen) → receivedRun (map placeOf es) ≡ gapIn es
-unfolding receivedRun gapIn
+unfolding runOf
 run-gap [] = refl
 run-gap (views.lost k f ∷ es) = refl
 run-gap (views.received l m t b ∷ es) = let r = run-gap es in omega arith
@@ -89,12 +90,12 @@ given-place true (views.received l m t b) = refl
 given-place true views.givenUp = refl
 
 pub given-places : (from to i : ℕ) (es : List Seen) → map placeOf (views.givenIn from to i es) ≡ givenIn from to i (map placeOf es)
-unfolding views.givenIn givenIn
+unfolding changedIn
 given-places from to i [] = refl
 given-places from to i (e ∷ es) = rw (given-place (leb from i && ltb i to) e, given-places from to (suc i) es)
 
 pub given-long : (from to i : ℕ) (xs : List Place) → length (givenIn from to i xs) ≡ length xs
-unfolding givenIn
+unfolding changedIn
 given-long from to i [] = refl
 given-long from to i (x ∷ xs) = ap suc (given-long from to (suc i) xs)
 

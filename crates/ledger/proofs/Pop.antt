@@ -9,9 +9,11 @@ use lib.ListN.{length, take, drop}
 use lib.Seq.{take-at}
 use Rattle.numbers.specs.Circular.{distance, sum}
 use Rattle.numbers.proofs.Circle.{sum-zero, distance-sum}
-use Rattle.window.specs.Window.{Good, numberIn}
+use Rattle.window.specs.Window.{numberIn}
+use Rattle.window.specs.Ready.{Good}
 use Rattle.window.specs.declared.Window.{Window}
-use Rattle.window_pop.specs.Pop.{PopOutcome, PopReady, discardFront, popOf}
+use Rattle.window_pop.specs.Pop.{PopOutcome, discardFront, popOf}
+use Rattle.window_pop.specs.Ready.{PopReady}
 use Rattle.window_pop.specs.declared.pop.PopAnswer.{PopAnswer}
 use Rattle.window_pop.specs.declared.pop.PopAnswer.the-variants as pops
 use Rattle.window_pop.proofs.PopLaws.{pop-cases}
@@ -22,16 +24,15 @@ use Rattle.head.proofs.Ready.{pop-ready}
 use Rattle.receiver.specs.Message.{MessageOutcome, popped, takenOf, popCallOf}
 use Rattle.receiver.specs.declared.message.MessageAnswer.{MessageAnswer}
 use Rattle.views.specs.View as views
-use Rattle.views.specs.View.{Seen, entries, LrsnRight, gapIn, joined}
-use Rattle.views.proofs.Lists.{entries-length}
-use Rattle.views.proofs.Pops.{Handed, pop-seen, pop-right, pop-handed}
+use Rattle.views.specs.View.{Seen, entries, LrsnRight, gapIn, joined, Handed}
+use Rattle.views.proofs.Pops.{pop-seen, pop-right, pop-handed}
 use Rattle.ledger.specs.Ledger.{Place, Fate, released, discarded, bytesOf, Ledger, frontOf, leave, enterPop, receivedRun, releasedBytes}
-use Rattle.ledger.specs.Reading.{popBytes}
+use Rattle.ledger.specs.Seen.{popBytes}
 use Rattle.ledger.specs.Runs.{placeOf}
 use Rattle.ledger.specs.Claims.{Tells}
 use Rattle.ledger.proofs.Places.{map-take, run-gap, released-append, released-joined, discarded-none}
 use Rattle.ledger.proofs.Owned.{gone-released, gone-discarded}
-use Rattle.ledger.proofs.Moved.{Stands, Moved, still, held-count, place-number, left-stands, left-all}
+use Rattle.ledger.proofs.Moved.{Stands, Moved, still, window-count, place-number, left-stands, left-all}
 use Rattle.ledger.proofs.Moves.{by-refusal}
 
 -- how many places an answer of the window takes off the front
@@ -66,18 +67,12 @@ module _ (S : ℕ → List ℕ → Type 0) (l : Ledger) (h : Head) (ws bs out : 
   unfolding discardFront
   front g =
       pop-cases (h .clock) (h .latency) (h .dropping) w ws now bs out Front
-      (sym (sum-zero 31 (g .first)), omega arith)
-      (sym (sum-zero 31 (g .first)), omega arith)
+      (sym (sum-zero 31 (g .ranges .seqno0)), omega arith)
+      (sym (sum-zero 31 (g .ranges .seqno0)), omega arith)
       (λ some held fits. (refl, held))
       (λ n stamp some held.
-      let d : distance 31 (numberIn w n) (w .seqno0) ≡ n = distance-sum 31 (w .seqno0) {n = n} (omega (arith, g .holds, g .most)) in
+      let d : distance 31 (numberIn w n) (w .seqno0) ≡ n = distance-sum 31 (w .seqno0) {n = n} (omega (arith, g .ranges .holds, g .ranges .most)) in
       (ap (numberIn w) (sym d), omega arith))
-
-  count : w .held ≡ length (l .held)
-  count = sym (entries-length (w .capacity) (w .start) ws bs 0 (w .held)) ∙ held-count a
-
-  same : Moved S l l w es 0 []
-  same = still S l w es a
 
   module _ (d : PopReady (h .clock) (h .latency) w ws bs now) where
     seen : entries (o .popped .window) ws bs ≡ views.afterPop es (o .popped .answer)
@@ -89,9 +84,9 @@ module _ (S : ℕ → List ℕ → Type 0) (l : Ledger) (h : Head) (ws bs out : 
     -- nothing leaves
     stays : o .popped .answer ≡ pops.Nothing → Moved S l l (o .popped .window) (entries (o .popped .window) ws bs) 0 []
     stays e =
-        still S l (o .popped .window) (entries (o .popped .window) ws bs)
+        still
         (record {
-          front = front (d .good) .0 ∙ ap (λ (x : PopAnswer). numberIn w (takes x)) e ∙ sum-zero 31 (d .good .first) ∙ a .front;
+          front = front (d .good) .0 ∙ ap (λ (x : PopAnswer). numberIn w (takes x)) e ∙ sum-zero 31 (d .good .ranges .seqno0) ∙ a .front;
           held = ap (map placeOf) (seen ∙ ap (views.afterPop es) e) ∙ a .held;
           right = right;
           ownGone = a .ownGone;
@@ -104,7 +99,7 @@ module _ (S : ℕ → List ℕ → Type 0) (l : Ledger) (h : Head) (ws bs out : 
     given time bytes packets e =
         let f : Place → Fate = λ x. released (bytesOf x) in
         let m = pop-handed (h .clock) (h .latency) (h .dropping) w ws now bs out (d .good) (d .payloads) time bytes packets e in
-        let some : packets ≤ length (l .held) = omega (arith, m .held, count) in
+        let some : packets ≤ length (l .held) = omega (arith, m .held, window-count ws bs a) in
         let run : packets ≤ receivedRun (l .held) = subst (λ (x : List Place). packets ≤ receivedRun x) (a .held) (subst (λ (x : ℕ). packets ≤ x) (sym (run-gap es)) (m .whole)) in
         let own = gone-released S (l .first) packets (frontOf l) (l .held) run (a .ownHeld) in
         let laid : take bytes (o .output) ≡ joined (take packets es) =
@@ -129,7 +124,7 @@ module _ (S : ℕ → List ℕ → Type 0) (l : Ledger) (h : Head) (ws bs out : 
     dropped first end delay e =
         let n = distance 31 end first in
         let f : Place → Fate = λ x. discarded in
-        let some : n ≤ length (l .held) = subst (λ (x : ℕ). n ≤ x) count (subst (λ (x : PopAnswer). takes x ≤ w .held) e (front (d .good) .1)) in
+        let some : n ≤ length (l .held) = subst (λ (x : ℕ). n ≤ x) (window-count ws bs a) (subst (λ (x : PopAnswer). takes x ≤ w .held) e (front (d .good) .1)) in
         record {
           stands =
               left-stands S l w es a n f some (o .popped .window) (entries (o .popped .window) ws bs)
@@ -145,7 +140,7 @@ module _ (S : ℕ → List ℕ → Type 0) (l : Ledger) (h : Head) (ws bs out : 
     by-answer pops.Nothing e = rw e (stays e)
     by-answer (pops.Message time bytes packets) e = rw e (given time bytes packets e)
     by-answer (pops.Late first end delay) e = rw e (dropped first end delay e)
-    by-answer pops.OutShort e = rw e same
+    by-answer pops.OutShort e = rw e (still a)
 
     -- what the answer says of the places that leave
     abbrev Named : PopAnswer → Type 0
@@ -162,7 +157,7 @@ module _ (S : ℕ → List ℕ → Type 0) (l : Ledger) (h : Head) (ws bs out : 
         tt
         (λ some held fits. tt)
         (λ n stamp some held.
-        let e : distance 31 (numberIn w n) (w .seqno0) ≡ n = distance-sum 31 (w .seqno0) {n = n} (omega (arith, d .good .holds, d .good .most)) in
+        let e : distance 31 (numberIn w n) (w .seqno0) ≡ n = distance-sum 31 (w .seqno0) {n = n} (omega (arith, d .good .ranges .holds, d .good .ranges .most)) in
         (omega arith, refl, ap (numberIn w) (sym e)))
 
     tells : (x : PopAnswer) → o .popped .answer ≡ x → Told (popped h now o)
@@ -177,7 +172,7 @@ module _ (S : ℕ → List ℕ → Type 0) (l : Ledger) (h : Head) (ws bs out : 
         rw e (m .some, run, laid ∙ sym (ap (λ (x : List Place). releasedBytes (map f x)) places ∙ released-joined (take packets es)))
     tells (pops.Late first end delay) e =
         let n = subst Named e named in
-        let some : distance 31 end first ≤ length (l .held) = subst (λ (x : ℕ). distance 31 end first ≤ x) count (subst (λ (x : PopAnswer). takes x ≤ w .held) e (front (d .good) .1)) in
+        let some : distance 31 end first ≤ length (l .held) = subst (λ (x : ℕ). distance 31 end first ≤ x) (window-count ws bs a) (subst (λ (x : PopAnswer). takes x ≤ w .held) e (front (d .good) .1)) in
         rw e (n .0, some, n .1 ∙ a .front, n .2 ∙ place-number a (distance 31 end first))
     tells pops.OutShort e = rw e tt
 
@@ -187,7 +182,7 @@ module _ (S : ℕ → List ℕ → Type 0) (l : Ledger) (h : Head) (ws bs out : 
   pop-stands =
       by-refusal Kept (firstRefusal (popRules (headOk h) (w .capacity) (length ws) (length bs) now (h .latest))) _ _
       (λ z. by-answer (pop-ready h now ws bs z) (o .popped .answer) refl)
-      (λ z. same)
+      (λ z. still a)
 
   pub pop-tells : Told (popCallOf h ws bs out now)
   unfolding popCallOf takenOf

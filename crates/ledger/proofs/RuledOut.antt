@@ -24,10 +24,10 @@ use Rattle.step.specs.declared.Call.the-variants as calls
 use Rattle.step.specs.declared.Answer.{Answer}
 use Rattle.step.specs.declared.Answer.the-variants as answers
 use Rattle.views.specs.View.{Seen, entries}
-use Rattle.ledger.specs.Reading.{numberIn, Plain, appends, kindIn}
+use Rattle.ledger.specs.Seen.{numberIn, NotClear, appends, kindIn}
 use Rattle.ledger.specs.Ledger.{Place, lost, received, Ledger, opened, numberOf, frontOf, nextOf, lostCount, enterData, enter}
-use Rattle.ledger.specs.Runs.{Event, Book, answered, turned, after, Fresh, fresh, AllPlain, Sent, now, before, placeOf}
-use Rattle.ledger.specs.Claims.{Judges, testsOf, Says, Told, Demand3}
+use Rattle.ledger.specs.Runs.{Event, Book, answered, turned, bookAfter, Fresh, fresh, NoneClear, Sent, now, before, placeOf}
+use Rattle.ledger.specs.Claims.{Judges, earlyRefusal, Says, Told, Demand3}
 
 abbrev sight : State → List Seen
 sight s = entries (s .head .window) (s .slots) (s .payloads)
@@ -53,9 +53,9 @@ one-more l number bytes (datas.Loss a b) e = impossible (sym e)
 one-more l number bytes (datas.Refused n) e = impossible (sym e)
 one-more l number bytes (datas.PacketTooEarly room need) e = impossible (sym e)
 
-module _ (step : State → Lent → Call → Ended) (demand : Demand3 step) (first : ℕ) (s : State) (f : Fresh first s) (past : List Event) (p : AllPlain past) where
+module _ (step : State → Lent → Call → Ended) (demand : Demand3 step) (first : ℕ) (s : State) (f : Fresh first s) (past : List Event) (p : NoneClear past) where
   abbrev b : Book
-  b = after step (fresh first s) past
+  b = bookAfter step (fresh first s) past
 
   abbrev l : Ledger
   l = b .ledger
@@ -70,8 +70,8 @@ module _ (step : State → Lent → Call → Ended) (demand : Demand3 step) (fir
   held-now : length (sight (b .state)) ≡ length (l .held)
   held-now = sym (length-map (sight (b .state)) placeOf) ∙ ap length (demand first s f past p .holds .agrees .entries)
 
-  held-then : (c : Call) (t : Lent) → Plain c → map placeOf (sight (r t c .state)) ≡ enter l c (t .payload) (r t c .answer) .held
-  unfolding after
+  held-then : (c : Call) (t : Lent) → NotClear c → map placeOf (sight (r t c .state)) ≡ enter l c (t .payload) (r t c .answer) .held
+  unfolding bookAfter
   held-then c t q = demand first s f (event c t ∷ past) (q, p) .holds .agrees .entries
 
   -- a fresh packet: of the number next expected, refused by no test of 1 to 6, with room
@@ -79,18 +79,18 @@ module _ (step : State → Lent → Call → Ended) (demand : Demand3 step) (fir
     abbrev c : Call
     c = calls.Data time number message location stamp
 
-    told : (x : DataAnswer) → r t c .answer ≡ answers.Data x → Judges l (b .state .head .window .capacity) (testsOf (b .state) t c) number x
+    told : (x : DataAnswer) → r t c .answer ≡ answers.Data x → Judges l (b .state .head .window .capacity) (earlyRefusal (b .state) t c) number x
     told x q = subst (λ (a : Answer). Says l (b .state) t c a (r t c .output)) q (demand first s f past p .told (event c t) k .says)
 
     pub answer-is : (x : DataAnswer) × (r t c .answer ≡ answers.Data x)
     answer-is = data-only (r t c .answer) (demand first s f past p .told (event c t) k .kind)
 
     -- it is taken: so a program that refuses all is ruled out, and one that compares numbers as plain numbers
-    pub must-append : testsOf (b .state) t c ≡ 0 → length (l .held) < b .state .head .window .capacity → appends (answer-is .0) ≡ true
+    pub must-append : earlyRefusal (b .state) t c ≡ 0 → length (l .held) < b .state .head .window .capacity → appends (answer-is .0) ≡ true
     must-append z m = told (answer-is .0) (answer-is .1) .next z e m
 
     -- it is held: so a program that does nothing is ruled out whatever it answers, and one that works on the first call only and then echoes
-    pub must-hold : testsOf (b .state) t c ≡ 0 → length (l .held) < b .state .head .window .capacity → length (sight (r t c .state)) ≡ length (sight (b .state)) + 1
+    pub must-hold : earlyRefusal (b .state) t c ≡ 0 → length (l .held) < b .state .head .window .capacity → length (sight (r t c .state)) ≡ length (sight (b .state)) + 1
     must-hold z m =
         sym (length-map (sight (r t c .state)) placeOf)
         ∙ ap length (held-then c t k)
@@ -98,7 +98,7 @@ module _ (step : State → Lent → Call → Ended) (demand : Demand3 step) (fir
         ∙ one-more l number (t .payload) (answer-is .0) (must-append z m)
         ∙ ap (λ (x : ℕ). x + 1) (sym held-now)
 
-    pub idle : testsOf (b .state) t c ≡ 0 → length (l .held) < b .state .head .window .capacity → r t c .state ≡ b .state → ⊥
+    pub idle : earlyRefusal (b .state) t c ≡ 0 → length (l .held) < b .state .head .window .capacity → r t c .state ≡ b .state → ⊥
     idle z m q = let x = must-hold z m in let y = ap (λ (a : State). length (sight a)) q in omega arith
 
     -- and it is no duplicate
@@ -146,7 +146,7 @@ sent-has _ _ _ (before e past number bytes h) = inr (sent-has past number bytes 
 -- got every time: the first packet of a run is taken in order only if it has the first number
 pub got-in-order : (step : State → Lent → Call → Ended) → Demand3 step → (first : ℕ) (s : State) → Fresh first s → (time : ℤ) (number message location stamp : ℕ) (t : Lent) → stamp < 2 ^ 32
     → (lrsn : ℕ) → step s t (calls.Data time number message location stamp) .answer ≡ answers.Data (datas.Got lrsn false) → number ≡ sum 31 first 0
-unfolding after
+unfolding bookAfter
 got-in-order step demand first s f time number message location stamp t k lrsn q =
     let c = calls.Data time number message location stamp in
     let e : Event = record { call = c; lent = t } in
@@ -170,20 +170,20 @@ small-fresh = record { start = pos 0; latency = 0; dropping = false; capacity = 
 abbrev packet : Lent
 packet = record { payload = 7 ∷ []; output = []; list = [] }
 
-small-tests : testsOf small packet (calls.Data (pos 0) 0 0 3 0) ≡ 0
+small-tests : earlyRefusal small packet (calls.Data (pos 0) 0 0 3 0) ≡ 0
 unfolding madeOf thenOf freshHead
 small-tests = rw (made-kept (pos 0) 0 false 0 1)
 
 -- doing nothing, whatever it answers
 pub doing-nothing : (step : State → Lent → Call → Ended) → Demand3 step → ((s : State) (t : Lent) (c : Call) → step s t c .state ≡ s) → ⊥
-unfolding after madeOf thenOf freshHead sum
+unfolding bookAfter madeOf thenOf freshHead sum
 doing-nothing step demand still =
     idle step demand 0 small small-fresh [] tt (pos 0) 0 0 3 0 packet (omega arith) refl small-tests (omega arith) (still small packet (calls.Data (pos 0) 0 0 3 0))
 
 -- refusing all, by whatever number
 pub refusing-all : (step : State → Lent → Call → Ended) → Demand3 step → (n : ℕ)
     → ((s : State) (t : Lent) (time : ℤ) (number message location stamp : ℕ) → step s t (calls.Data time number message location stamp) .answer ≡ answers.Data (datas.Refused n)) → ⊥
-unfolding after madeOf thenOf freshHead sum
+unfolding bookAfter madeOf thenOf freshHead sum
 refusing-all step demand n all =
     let u = told step demand 0 small small-fresh [] tt (pos 0) 0 0 3 0 packet (omega arith) refl (datas.Refused n) (all small packet (pos 0) 0 0 3 0) in
     impossible (sym (u .next small-tests refl (omega arith)))

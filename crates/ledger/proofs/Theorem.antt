@@ -16,7 +16,8 @@ use Rattle.head.specs.Head.{headOk, freshHead, madeOf}
 use Rattle.head.specs.declared.state.Head.{Head}
 use Rattle.head.specs.declared.state.Made.{Made}
 use Rattle.head.proofs.Gates.{clear}
-use Rattle.head.proofs.Ready.{in-parts, in-window}
+use Rattle.head.proofs.Ready.{in-parts}
+use Rattle.window.proofs.Ranges.{in-window}
 use Rattle.receiver.specs.Data.{packet, dataCallOf}
 use Rattle.receiver.specs.Paper.{dataLine}
 use Rattle.receiver.specs.declared.data.DataAnswer.{DataAnswer}
@@ -32,12 +33,13 @@ use Rattle.step.specs.declared.Call.{Call}
 use Rattle.step.specs.declared.Call.the-variants as calls
 use Rattle.step.specs.declared.Answer.{Answer}
 use Rattle.step.specs.declared.Answer.the-variants as answers
-use Rattle.views.specs.View.{Seen, entriesFrom, entries, gapIn}
+use Rattle.views.specs.Lists.{runOf}
+use Rattle.views.specs.View.{Seen, entriesFrom, entries}
 use Rattle.views.proofs.Lists.{entries-length}
 use Rattle.ledger.specs.Ledger.{Fate, released, discarded, bytesOf, Ledger, opened, numberOf, frontOf, nextOf, enterData, enterPop, enterDrop, enter, releasedBytes}
-use Rattle.ledger.specs.Reading.{numberIn, lastIn, Plain, outBytes, placesIn, kindOf, kindIn}
-use Rattle.ledger.specs.Runs.{Event, Book, answered, turned, after, Fresh, fresh, AllPlain, handedOut, Sent, now, before, entered}
-use Rattle.ledger.specs.Claims.{Holds, Judges, testsOf, Says, Settled, Told, Demand3}
+use Rattle.ledger.specs.Seen.{numberIn, lastIn, NotClear, outBytes, placesIn, kindOf, kindIn}
+use Rattle.ledger.specs.Runs.{Event, Book, answered, turned, bookAfter, Fresh, fresh, NoneClear, handedOut, Sent, now, before, entered}
+use Rattle.ledger.specs.Claims.{Holds, Judges, earlyRefusal, Says, Settled, Told, Demand3}
 use Rattle.ledger.proofs.Owned.{nothing, empty}
 use Rattle.ledger.proofs.Moved.{Stands, Moved, held-count, lrsn-said}
 use Rattle.ledger.proofs.Moves.{by-refusal}
@@ -61,7 +63,7 @@ abbrev seen : State → List Seen
 seen s = entries (s .head .window) (s .slots) (s .payloads)
 
 step-stands : (S : ℕ → List ℕ → Type 0) (l : Ledger) (s : State) (t : Lent) (c : Call)
-    → Plain c → Stands S l (s .head .window) (seen s) → Fed S c (t .payload)
+    → NotClear c → Stands S l (s .head .window) (seen s) → Fed S c (t .payload)
     → Moved S l (enter l c (t .payload) (stepOf s t c .answer)) (stepOf s t c .state .head .window) (seen (stepOf s t c .state)) (placesIn (stepOf s t c .answer))
     (outBytes (stepOf s t c .answer) (stepOf s t c .output))
 step-stands S l s t (calls.Data time number message location stamp) p a f =
@@ -86,7 +88,7 @@ step-kind s t (calls.Clock time stamp) = refl
 step-kind s t calls.Clear = refl
 
 -- what its answer says is so
-step-says : (S : ℕ → List ℕ → Type 0) (l : Ledger) (s : State) (t : Lent) (c : Call) → Plain c → Stands S l (s .head .window) (seen s)
+step-says : (S : ℕ → List ℕ → Type 0) (l : Ledger) (s : State) (t : Lent) (c : Call) → NotClear c → Stands S l (s .head .window) (seen s)
     → Says l s t c (stepOf s t c .answer) (stepOf s t c .output)
 step-says S l s t (calls.Data time number message location stamp) p a =
     data-judged S l (s .head) (s .slots) (s .payloads) time (packet number message location stamp) (t .payload) p a
@@ -132,7 +134,7 @@ settled l c bytes (answers.Clock a) p h = refl
 settled l c bytes (answers.Clear a) p h = refl
 
 -- a head in range stays there
-step-kept : (s : State) (t : Lent) (c : Call) → Plain c → headOk (s .head) ≡ true → headOk (stepOf s t c .state .head) ≡ true
+step-kept : (s : State) (t : Lent) (c : Call) → NotClear c → headOk (s .head) ≡ true → headOk (stepOf s t c .state .head) ≡ true
 step-kept s t (calls.Data time number message location stamp) p e = data-kept (s .head) (s .slots) (s .payloads) time (packet number message location stamp) (t .payload) e
 step-kept s t (calls.Pop time) p e = message-kept (s .head) (s .slots) (s .payloads) (t .output) time e
 step-kept s t (calls.Report time) p e = loss-kept (s .head) (s .slots) (t .list) time e
@@ -155,7 +157,7 @@ module _ (start : ℤ) (latency : ℕ) (dropping : Bool) (first capacity : ℕ) 
       (λ e r. absurd (e r))
 
 fresh-stands : (S : ℕ → List ℕ → Type 0) (first : ℕ) (s : State) → Fresh first s → Stands S (opened first) (s .head .window) (seen s)
-unfolding freshHead entriesFrom gapIn
+unfolding freshHead entriesFrom runOf
 fresh-stands S first s f =
     let m = made-fresh (f .start) (f .latency) (f .dropping) first (f .capacity) (f .made) in
     let e : s .head ≡ freshHead (f .start) (f .latency) (f .dropping) first (f .capacity) = f .head ∙ m .0 in
@@ -191,7 +193,7 @@ module _ (first : ℕ) (s : State) (f : Fresh first s) where
   b = fresh first s
 
   abbrev at : List Event → Book
-  at past = after stepOf b past
+  at past = bookAfter stepOf b past
 
   abbrev then : Event → List Event → Ended
   then e past = answered stepOf (at past) e
@@ -206,34 +208,34 @@ module _ (first : ℕ) (s : State) (f : Fresh first s) where
   abbrev At : List Event → Type 0
   At past = Stands (Sent past) (at past .ledger) (at past .state .head .window) (seen (at past .state))
 
-  one-more : (e : Event) (past : List Event) → Plain (e .call) → At past → Next e past
+  one-more : (e : Event) (past : List Event) → NotClear (e .call) → At past → Next e past
   one-more e past p a =
       step-stands (Sent (e ∷ past)) (at past .ledger) (at past .state) (e .lent) (e .call) p (older e past (at past .ledger) (at past .state) a) (feeds (e .call) (e .lent) past)
 
-  run-stands : (past : List Event) → AllPlain past → At past
-  unfolding after
+  run-stands : (past : List Event) → NoneClear past → At past
+  unfolding bookAfter
   run-stands [] p = fresh-stands (Sent []) first s f
   run-stands (e ∷ past) p = one-more e past (p .0) (run-stands past (p .1)) .stands
 
-  run-kept : (past : List Event) → AllPlain past → headOk (at past .state .head) ≡ true
-  unfolding after
+  run-kept : (past : List Event) → NoneClear past → headOk (at past .state .head) ≡ true
+  unfolding bookAfter
   run-kept [] p = fresh-kept first s f
   run-kept (e ∷ past) p = step-kept (at past .state) (e .lent) (e .call) (p .0) (run-kept past (p .1))
 
-  run-handed : (past : List Event) → AllPlain past → handedOut stepOf b past ≡ releasedBytes (at past .ledger .gone)
-  unfolding after handedOut releasedBytes
+  run-handed : (past : List Event) → NoneClear past → handedOut stepOf b past ≡ releasedBytes (at past .ledger .gone)
+  unfolding bookAfter handedOut releasedBytes
   run-handed [] p = refl
   run-handed (e ∷ past) p =
       ap (λ (x : List ℕ). x ++ outBytes (then e past .answer) (then e past .output)) (run-handed past (p .1))
       ∙ sym (one-more e past (p .0) (run-stands past (p .1)) .handed)
 
-  run-all : (past : List Event) → AllPlain past → nextOf (at past .ledger) ≡ entered stepOf b past
-  unfolding after entered
+  run-all : (past : List Event) → NoneClear past → nextOf (at past .ledger) ≡ entered stepOf b past
+  unfolding bookAfter entered
   run-all [] p = refl
   run-all (e ∷ past) p =
       one-more e past (p .0) (run-stands past (p .1)) .all ∙ ap (λ (x : ℕ). x + placesIn (then e past .answer)) (run-all past (p .1))
 
-  run-apart : (past : List Event) → AllPlain past → (i j : ℕ) → i < length (at past .ledger .held) → j < length (at past .ledger .held)
+  run-apart : (past : List Event) → NoneClear past → (i j : ℕ) → i < length (at past .ledger .held) → j < length (at past .ledger .held)
       → numberOf (at past .ledger) (frontOf (at past .ledger) + i) ≡ numberOf (at past .ledger) (frontOf (at past .ledger) + j) → i ≡ j
   run-apart past p i j hi hj e =
       let l = at past .ledger in
@@ -244,7 +246,7 @@ module _ (first : ℕ) (s : State) (f : Fresh first s) where
       let q = place-one 31 (l .first) (frontOf l) (frontOf l + i) (frontOf l + j) (omega arith) (omega (arith, n, m, r .holds, r .most)) (omega arith) (omega (arith, n, m, r .holds, r .most)) e in
       omega arith
 
-  run-holds : (past : List Event) → AllPlain past → Holds (at past .ledger) (at past .state) past (handedOut stepOf b past) (entered stepOf b past)
+  run-holds : (past : List Event) → NoneClear past → Holds (at past .ledger) (at past .state) past (handedOut stepOf b past) (entered stepOf b past)
   run-holds past p =
       let a = run-stands past p in
       let l = at past .ledger in
@@ -261,7 +263,7 @@ module _ (first : ℕ) (s : State) (f : Fresh first s) where
       zero-add : (i : ℕ) → 0 + i ≡ i
       zero-add i = omega arith
 
-  run-told : (past : List Event) → AllPlain past → (e : Event) → Plain (e .call) → Told (at past) (turned stepOf (at past) e) e (then e past)
+  run-told : (past : List Event) → NoneClear past → (e : Event) → NotClear (e .call) → Told (at past) (turned stepOf (at past) e) e (then e past)
   run-told past p e q =
       record {
         kind = step-kind (at past .state) (e .lent) (e .call);
@@ -274,14 +276,14 @@ pub ledger-theorem : Demand3 stepOf
 ledger-theorem first s f past p = record { holds = run-holds first s f past p; told = run-told first s f past p }
 
 -- the fault that lost three passes: a fresh packet, of the number next expected after any number of wraps, is never refused as a duplicate
-pub fresh-never-duplicate : (first : ℕ) (s : State) → Fresh first s → (past : List Event) → AllPlain past → (time : ℤ) (number message location stamp : ℕ) (t : Lent) → stamp < 2 ^ 32
-    → number ≡ numberOf (after stepOf (fresh first s) past .ledger) (nextOf (after stepOf (fresh first s) past .ledger))
-    → (a : DataAnswer) → stepOf (after stepOf (fresh first s) past .state) t (calls.Data time number message location stamp) .answer ≡ answers.Data a
+pub fresh-never-duplicate : (first : ℕ) (s : State) → Fresh first s → (past : List Event) → NoneClear past → (time : ℤ) (number message location stamp : ℕ) (t : Lent) → stamp < 2 ^ 32
+    → number ≡ numberOf (bookAfter stepOf (fresh first s) past .ledger) (nextOf (bookAfter stepOf (fresh first s) past .ledger))
+    → (a : DataAnswer) → stepOf (bookAfter stepOf (fresh first s) past .state) t (calls.Data time number message location stamp) .answer ≡ answers.Data a
     → dataLine a .refusal ≡ 10 → ⊥
 fresh-never-duplicate first s f past p time number message location stamp t k e a x q =
-    let b = after stepOf (fresh first s) past in
+    let b = bookAfter stepOf (fresh first s) past in
     let u = run-told first s f past p (record { call = calls.Data time number message location stamp; lent = t }) k .says in
-    let v : Judges (b .ledger) (b .state .head .window .capacity) (testsOf (b .state) t (calls.Data time number message location stamp)) number a =
+    let v : Judges (b .ledger) (b .state .head .window .capacity) (earlyRefusal (b .state) t (calls.Data time number message location stamp)) number a =
     subst (λ (y : Answer). Says (b .ledger) (b .state) t (calls.Data time number message location stamp) y (stepOf (b .state) t (calls.Data time number message location stamp) .output)) x u in
     let d = v .duplicate q in
     let r = in-window (b .state .head .window) (in-parts (b .state .head) (run-kept first s f past p) .window) in

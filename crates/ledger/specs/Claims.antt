@@ -21,10 +21,9 @@ use Rattle.step.specs.declared.Call.{Call}
 use Rattle.step.specs.declared.Call.the-variants as calls
 use Rattle.step.specs.declared.Answer.{Answer}
 use Rattle.step.specs.declared.Answer.the-variants as answers
-use Rattle.ledger.specs.Reading.{Plain, numberIn, lastIn, appends, recovers, isLoss, LossIs, kindOf, kindIn}
+use Rattle.ledger.specs.Seen.{NotClear, numberIn, lastIn, appends, recovers, isLoss, LossIs, kindOf, kindIn}
 use Rattle.ledger.specs.Ledger.{lost, received, givenUp, released, discarded, Ledger, numberOf, frontOf, nextOf, bytesOf, receivedRun, lostCount, releasedBytes, enterDrop}
-use Rattle.ledger.specs.Runs as runs
-use Rattle.ledger.specs.Runs.{Event, Book, Fresh, fresh, AllPlain, answered, turned, handedOut, entered, Sent, Agrees}
+use Rattle.ledger.specs.Runs.{Event, Book, Fresh, fresh, NoneClear, answered, turned, bookAfter, handedOut, entered, Sent, Agrees}
 
 -- after any calls: past has them all, out is all that they handed out, count how many places they entered
 pub record Holds (l : Ledger) (s : State) (past : List Event) (out : List ℕ) (count : ℕ) : Type 0 where
@@ -42,21 +41,21 @@ pub record Holds (l : Ledger) (s : State) (past : List Event) (out : List ℕ) (
   -- no run is ever refused 1
   pub inRange : headOk (s .head) ≡ true
 
--- the answer to a packet, by its number and by the first of the tests 1 to 6 that holds (0 for none), which look at no place
-pub record Judges (l : Ledger) (capacity tests number : ℕ) (a : DataAnswer) : Type 0 where
+-- the answer to a packet, by its number and by the earlier refusal, the first of 1 to 6 (0 for none), whose tests look at no place
+pub record Judges (l : Ledger) (capacity earlier number : ℕ) (a : DataAnswer) : Type 0 where
   -- taken in order: its number is the next; for a lost place: a held place of its number is lost; after a gap: the gap is what lies between
   pub inOrder : appends a ≡ true → number ≡ numberOf l (nextOf l)
   pub forLost : recovers a ≡ true → (i : ℕ) × (i < length (l .held)) × (numberOf l (frontOf l + i) ≡ number) × (getD (l .held) i givenUp ≡ lost)
   pub afterGap : isLoss a ≡ true → after 31 number (numberOf l (nextOf l)) ≡ true
   pub gapNamed : LossIs a (numberOf l (nextOf l)) (sum 31 number (2 ^ 31 - 1))
   -- and a packet of each of these kinds is taken: one of the number next expected, after any number of wraps, if there is room ..
-  pub next : tests ≡ 0 → number ≡ numberOf l (nextOf l) → length (l .held) < capacity → appends a ≡ true
+  pub next : earlier ≡ 0 → number ≡ numberOf l (nextOf l) → length (l .held) < capacity → appends a ≡ true
   -- .. one whose held place is lost ..
-  pub taken : tests ≡ 0 → (i : ℕ) → i < length (l .held) → numberOf l (frontOf l + i) ≡ number → getD (l .held) i givenUp ≡ lost → recovers a ≡ true
+  pub taken : earlier ≡ 0 → (i : ℕ) → i < length (l .held) → numberOf l (frontOf l + i) ≡ number → getD (l .held) i givenUp ≡ lost → recovers a ≡ true
   -- .. and one after a gap, if there is room for both
-  pub gap : tests ≡ 0 → after 31 number (numberOf l (nextOf l)) ≡ true → length (l .held) + distance 31 number (numberOf l (nextOf l)) + 1 ≤ capacity → isLoss a ≡ true
+  pub gap : earlier ≡ 0 → after 31 number (numberOf l (nextOf l)) ≡ true → length (l .held) + distance 31 number (numberOf l (nextOf l)) + 1 ≤ capacity → isLoss a ≡ true
   -- refused by 1 to 6 just if a test holds, and by no number over 10
-  pub tested : (dataLine a .refusal ≡ tests) ⊎ ((tests ≡ 0) × (7 ≤ dataLine a .refusal) × (dataLine a .refusal ≤ 10))
+  pub tested : (dataLine a .refusal ≡ earlier) ⊎ ((earlier ≡ 0) × (7 ≤ dataLine a .refusal) × (dataLine a .refusal ≤ 10))
   -- 7 and 8: there is no room
   pub full : dataLine a .refusal ≡ 7 → (number ≡ numberOf l (nextOf l)) × (length (l .held) ≡ capacity)
   pub early : dataLine a .refusal ≡ 8 → capacity < length (l .held) + distance 31 number (numberOf l (nextOf l)) + 1
@@ -80,21 +79,21 @@ abbrev pub Counts : Ledger → ℕ → ℕ → DropAnswer → Type 0
 Counts l first last (drops.Gone n) = lostCount (l .held) ≡ lostCount (enterDrop l first last (drops.Gone n) .held) + n
 Counts l first last (drops.Refused n) = Unit
 
--- the first of the tests 1 to 6 that holds for a call with a packet
-abbrev pub testsOf : State → Lent → Call → ℕ
-testsOf s t (calls.Data time number message location stamp) =
+-- the first of the refusals 1 to 6 whose test holds for a call with a packet, else 0
+abbrev pub earlyRefusal : State → Lent → Call → ℕ
+earlyRefusal s t (calls.Data time number message location stamp) =
     firstRefusal (pushRules (headOk (s .head)) (s .head .window .capacity) (length (s .slots)) (length (s .payloads)) time (s .head .latest) (packet number message location stamp) (length (t .payload)))
-testsOf s t (calls.Pop time) = 0
-testsOf s t (calls.Report time) = 0
-testsOf s t (calls.FullAck time) = 0
-testsOf s t (calls.Ack2 time number) = 0
-testsOf s t (calls.Drop first last) = 0
-testsOf s t (calls.Clock time stamp) = 0
-testsOf s t calls.Clear = 0
+earlyRefusal s t (calls.Pop time) = 0
+earlyRefusal s t (calls.Report time) = 0
+earlyRefusal s t (calls.FullAck time) = 0
+earlyRefusal s t (calls.Ack2 time number) = 0
+earlyRefusal s t (calls.Drop first last) = 0
+earlyRefusal s t (calls.Clock time stamp) = 0
+earlyRefusal s t calls.Clear = 0
 
 -- what an answer says is so
 abbrev pub Says : Ledger → State → Lent → Call → Answer → List ℕ → Type 0
-Says l s t c (answers.Data a) out = Judges l (s .head .window .capacity) (testsOf s t c) (numberIn c) a
+Says l s t c (answers.Data a) out = Judges l (s .head .window .capacity) (earlyRefusal s t c) (numberIn c) a
 Says l s t c (answers.Pop a) out = Tells l a out
 Says l s t c (answers.Report a) out = Unit
 Says l s t c (answers.FullAck a) out = Unit
@@ -115,8 +114,8 @@ pub record Told (b b₁ : Book) (e : Event) (r : Ended) : Type 0 where
 
 -- demand 3, of what makes a call
 pub record Demanded (step : State → Lent → Call → Ended) (first : ℕ) (s : State) (past : List Event) : Type 0 where
-  pub holds : Holds (runs.after step (fresh first s) past .ledger) (runs.after step (fresh first s) past .state) past (handedOut step (fresh first s) past) (entered step (fresh first s) past)
-  pub told : (e : Event) → Plain (e .call) → Told (runs.after step (fresh first s) past) (turned step (runs.after step (fresh first s) past) e) e (answered step (runs.after step (fresh first s) past) e)
+  pub holds : Holds (bookAfter step (fresh first s) past .ledger) (bookAfter step (fresh first s) past .state) past (handedOut step (fresh first s) past) (entered step (fresh first s) past)
+  pub told : (e : Event) → NotClear (e .call) → Told (bookAfter step (fresh first s) past) (turned step (bookAfter step (fresh first s) past) e) e (answered step (bookAfter step (fresh first s) past) e)
 
 abbrev pub Demand3 : (State → Lent → Call → Ended) → Type 0
-Demand3 step = (first : ℕ) (s : State) → Fresh first s → (past : List Event) → AllPlain past → Demanded step first s past
+Demand3 step = (first : ℕ) (s : State) → Fresh first s → (past : List Event) → NoneClear past → Demanded step first s past

@@ -1,11 +1,13 @@
 -- The ledger of a receiver: what a station would write down that hands in packets and requests and reads the answers. It never looks at head or areas.
 -- A place is a position in the stream, counted 0, 1, 2 and never restarting; place p has the number (first + p) mod 2^31, however often that has wrapped.
-use mathlib.Core.Bool.{Bool, true, false, _&&_, cond}
+use mathlib.Core.Bool.{Bool, true, false, cond}
 use mathlib.Core.List.{List, [], _∷_, _++_, map}
-use Prim.Native.Nat.{ℕ, suc, _+_, min}
-use lib.Dec.{eqb, ltb, leb}
+use Prim.Native.Nat.{ℕ, suc, _+_}
+use lib.Dec.{eqb}
 use lib.ListN.{length, take, drop, replicate}
-use Rattle.numbers.specs.Circular.{distance, saturating, sum}
+use Rattle.numbers.specs.Circular.{distance, sum}
+use Rattle.window_report.specs.Drop.{endFrom}
+use Rattle.views.specs.Lists.{runOf, changedIn}
 use Rattle.receiver.specs.declared.data.DataAnswer.{DataAnswer}
 use Rattle.receiver.specs.declared.data.DataAnswer.the-variants as datas
 use Rattle.receiver.specs.declared.message.MessageAnswer.{MessageAnswer}
@@ -15,7 +17,7 @@ use Rattle.receiver.specs.declared.request.DropAnswer.the-variants as drops
 use Rattle.step.specs.declared.Call.{Call}
 use Rattle.step.specs.declared.Answer.{Answer}
 use Rattle.step.specs.declared.Answer.the-variants as answers
-use Rattle.ledger.specs.Reading.{numberIn, lastIn}
+use Rattle.ledger.specs.Seen.{numberIn, lastIn}
 
 -- a place that is still held: a gap, a packet with the bytes handed in for it, or a gap that a drop request gave up
 pub data Place : Type 0 where
@@ -90,12 +92,11 @@ gaveUp lost = givenUp
 gaveUp (received bytes) = received bytes
 gaveUp givenUp = givenUp
 
-unfoldable pub givenIn : ℕ → ℕ → ℕ → List Place → List Place
-givenIn from to i [] = []
-givenIn from to i (x ∷ xs) = cond (leb from i && ltb i to) (gaveUp x) x ∷ givenIn from to (suc i) xs
+abbrev pub givenIn : ℕ → ℕ → ℕ → List Place → List Place
+givenIn from to i xs = changedIn gaveUp from to i xs
 
 abbrev pub endIn : Ledger → ℕ → ℕ
-endIn l number = min (saturating 31 number (numberOf l (frontOf l))) (length (l .held))
+endIn l number = endFrom (numberOf l (frontOf l)) (length (l .held)) number
 
 abbrev pub enterDrop : Ledger → ℕ → ℕ → DropAnswer → Ledger
 enterDrop l first last (drops.Gone n) = holding l (givenIn (endIn l first) (endIn l (sum 31 last 1)) 0 (l .held))
@@ -113,11 +114,13 @@ enter l c bytes (answers.Clock a) = l
 enter l c bytes (answers.Clear a) = l
 
 -- of the places held, how many from the front on are received, and how many are lost
-unfoldable pub receivedRun : List Place → ℕ
-receivedRun [] = 0
-receivedRun (lost ∷ xs) = 0
-receivedRun (received bytes ∷ xs) = receivedRun xs + 1
-receivedRun (givenUp ∷ xs) = 0
+abbrev pub isReceived : Place → Bool
+isReceived lost = false
+isReceived (received bytes) = true
+isReceived givenUp = false
+
+abbrev pub receivedRun : List Place → ℕ
+receivedRun xs = runOf isReceived xs
 
 unfoldable pub lostCount : List Place → ℕ
 lostCount [] = 0

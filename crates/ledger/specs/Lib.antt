@@ -1,5 +1,5 @@
 -- The ledger: what it is, what a run is, and what is claimed.
-pub mod Reading
+pub mod Seen
 pub mod Ledger
 pub mod Runs
 pub mod Claims

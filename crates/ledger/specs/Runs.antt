@@ -9,7 +9,7 @@ use Rattle.step.specs.Step.{State, Lent, Ended}
 use Rattle.step.specs.declared.Call.{Call}
 use Rattle.step.specs.declared.Call.the-variants as calls
 use Rattle.views.specs.View as views
-use Rattle.ledger.specs.Reading.{Plain, outBytes, placesIn}
+use Rattle.ledger.specs.Seen.{NotClear, outBytes, placesIn}
 use Rattle.ledger.specs.Ledger.{Place, lost, received, givenUp, Ledger, opened, numberOf, frontOf, receivedRun, enter}
 
 -- a call and what is lent for it; any contents
@@ -34,9 +34,9 @@ pub record Fresh (first : ℕ) (s : State) : Type 0 where
 abbrev pub fresh : ℕ → State → Book
 fresh first s = record { ledger = opened first; state = s }
 
-abbrev pub AllPlain : List Event → Type 0
-AllPlain [] = Unit
-AllPlain (e ∷ past) = Plain (e .call) × AllPlain past
+abbrev pub NoneClear : List Event → Type 0
+NoneClear [] = Unit
+NoneClear (e ∷ past) = NotClear (e .call) × NoneClear past
 
 module _ (step : State → Lent → Call → Ended) where
   abbrev pub answered : Book → Event → Ended
@@ -47,19 +47,19 @@ module _ (step : State → Lent → Call → Ended) where
       record { ledger = enter (b .ledger) (e .call) (e .lent .payload) (answered b e .answer); state = answered b e .state }
 
   -- the book after these calls; the newest stands first in the list
-  unfoldable pub after : Book → List Event → Book
-  after b [] = b
-  after b (e ∷ past) = turned (after b past) e
+  unfoldable pub bookAfter : Book → List Event → Book
+  bookAfter b [] = b
+  bookAfter b (e ∷ past) = turned (bookAfter b past) e
 
   -- the bytes that all answers handed out, oldest first
   unfoldable pub handedOut : Book → List Event → List ℕ
   handedOut b [] = []
-  handedOut b (e ∷ past) = handedOut b past ++ outBytes (answered (after b past) e .answer) (answered (after b past) e .output)
+  handedOut b (e ∷ past) = handedOut b past ++ outBytes (answered (bookAfter b past) e .answer) (answered (bookAfter b past) e .output)
 
   -- how many places were ever entered
   unfoldable pub entered : Book → List Event → ℕ
   entered b [] = 0
-  entered b (e ∷ past) = entered b past + placesIn (answered (after b past) e .answer)
+  entered b (e ∷ past) = entered b past + placesIn (answered (bookAfter b past) e .answer)
 
 -- a packet of this number with these bytes was handed in
 pub data Sent : List Event → ℕ → List ℕ → Type 0 where

@@ -6,7 +6,8 @@ use native.Mathlib.Omega.{arith}
 use lib.IntN.{ℤ}
 use lib.Signed.{mag}
 use Rattle.numbers.specs.Circular.{distance, equal, after, before, saturating, sum, successors, signed, difference, wrap}
-use Rattle.numbers.proofs.Circle.{OneOf, distance-zero, one-order, tie, mirror, run, saturating-sum, sum-saturating}
+use Rattle.numbers.specs.Order.{OneOf}
+use Rattle.numbers.proofs.Circle.{distance-zero, one-order, tie, mirror, run, saturating-sum, sum-saturating}
 use Rattle.numbers.proofs.Places.{place-turns, place-distance, place-after, place-one}
 use Rattle.numbers.proofs.Signs.{difference-range, signed-congruent, signed-only}
 

@@ -9,7 +9,7 @@ use borrow.Author.Tests.{leb-true, leb-false, lt-ltb, le-ltb, le-leb, lt-leb, eq
 use lib.Dec.{ltb, leb}
 use lib.Pow.{pow-pos}
 use Rattle.numbers.proofs.Flags.{and-left, and-right, by-order, and-false}
-use Rattle.numbers.specs.Order.{order}
+use Rattle.numbers.specs.Order.{OneOf, first, second, third, order}
 use Rattle.numbers.specs.declared.seq.Order.{Order}
 use Rattle.numbers.specs.declared.seq.Order.the-variants.{Before, Equal, After}
 use Rattle.numbers.specs.Circular.{distance, equal, after, before, saturating, sum, successor, successors}
@@ -124,11 +124,6 @@ before-test w a b =
     (λ h. before-at w a b h ∙ sym (le-leb (2 ^ (w - 1)) (distance w a b) h))
 
 -- exactly one of equal, after and before holds for a against b
-pub data OneOf : Bool → Bool → Bool → Type 0 where
-  first : OneOf true false false
-  second : OneOf false true false
-  third : OneOf false false true
-
 pub one-order : (w a b : ℕ) → OneOf (equal w a b) (after w a b) (before w a b)
 one-order w a b =
     by-order 0 (distance w a b)

@@ -43,7 +43,7 @@ use Rattle.receiver.specs.declared.acking.FullAckAnswer.the-variants as acks
 use Rattle.receiver.specs.declared.acking.RttAnswer.{RttAnswer}
 use Rattle.receiver.specs.declared.acking.RttAnswer.the-variants as rtts
 use Rattle.receiver.specs.Paper.{Word, got, light, loss, refused, message, late, report, ack, rtt, gone, adjusted, unsteady, clear, none, made, room, received, other, Value, whole, dash, plain, Line, dataLine, messageLine, lossLine, dropLine, clearLine, roomLine, shownLine, clockLine, fullAckLine, rttLine}
-use Rattle.paper.specs.Late.{madeLine}
+use Rattle.paper.specs.Reach.{madeLine}
 
 -- a word by its place among the words
 abbrev placeOf : Word → ℕ

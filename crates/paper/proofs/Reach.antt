@@ -21,7 +21,8 @@ use Rattle.clock.specs.Sync.{synchronized}
 use Rattle.clock.specs.declared.time.SynchronizedRemoteClock.{SynchronizedRemoteClock}
 use Rattle.clock.specs.declared.time.Synchronized.{Synchronized}
 use Rattle.clock.specs.declared.time.Synchronized.the-variants as clocks
-use Rattle.window.specs.Push.{PacketRight, pushOf}
+use Rattle.window.specs.Push.{pushOf}
+use Rattle.window.specs.Ready.{PacketRight}
 use Rattle.window.specs.Show.{shownOf}
 use Rattle.window.specs.Window.{roomOf}
 use Rattle.window.specs.declared.Window.{Window}
@@ -47,7 +48,7 @@ use Rattle.receiver.specs.Show as show
 use Rattle.receiver.specs.Sync as sync
 use Rattle.receiver.specs.declared.show.ShowAnswer.the-variants as shows
 use Rattle.receiver.specs.Paper.{dataLine, messageLine, lossLine, shownLine, clockLine, fullAckLine, rttLine}
-use Rattle.paper.specs.Late.{OnlyLater}
+use Rattle.paper.specs.Reach.{OnlyLater}
 
 -- no test holds, so nothing refuses
 none-from : (k : ℕ) (l : List Rule) → k ≡ 0 → Clear l → firstFrom k l ≡ 0

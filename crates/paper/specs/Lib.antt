@@ -1,2 +1,2 @@
 -- What the theorems on the receiver's lines speak of.
-pub mod Late
+pub mod Reach

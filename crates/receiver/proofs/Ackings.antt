@@ -1,16 +1,15 @@
 -- What the code of acking.rt does at each return, as laws over plain values. A signed number stands twice, as it is and as the machine reads
 -- it back. Assumes nothing.
 use mathlib.Core.Path.{_≡_, sym, _∙_, ap}
-use mathlib.Core.Bool.{true, false, _&&_}
+use mathlib.Core.Bool.{true, false}
 use mathlib.Core.List.{List}
-use Prim.Native.Nat.{ℕ, _≤_, _^_}
+use Prim.Native.Nat.{ℕ, _≤_}
 use borrow.Author.Needs.{needs}
-use borrow.Author.Tests.{eq-eqb, ne-eqb, leb-true}
-use lib.Dec.{leb, ltb}
+use borrow.Author.Tests.{eq-eqb, ne-eqb}
 use lib.IntN.{ℤ, natAbs}
 use lib.ListN.{length}
-use Rattle.numbers.proofs.Flags.{and-left, and-right}
-use Rattle.acks.specs.History.{HistoryReady, AckOutcome, ackEnded, noneDue, isWorn, fullAckOf, ack2Of}
+use Rattle.acks.specs.History.{AckOutcome, ackEnded, noneDue, isWorn, fullAckOf, ack2Of}
+use Rattle.acks.specs.Ready.{HistoryReady}
 use Rattle.acks.specs.History as history
 use Rattle.acks.specs.Rates.{speedOf, capacityOf}
 use Rattle.acks.specs.Rtt.{updated}
@@ -29,14 +28,16 @@ use Rattle.acks.specs.declared.rtt.Rtt.{Rtt}
 use Rattle.acks.proofs.HistoryKept.{right}
 use Rattle.window.specs.Window.{roomOf}
 use Rattle.window.specs.declared.Window.{Window}
+use Rattle.window.proofs.Ranges.{in-window}
 use Rattle.head.specs.Rules.{firstRefusal, timedRules}
-use Rattle.head.specs.Head.{windowOk, headOk}
+use Rattle.head.specs.Head.{headOk}
 use Rattle.head.specs.Parts.{withRtt, withHistory, withLatest}
 use Rattle.head.specs.declared.state.Head.{Head}
 use Rattle.head.proofs.Gates.{taken, refused}
 use Rattle.head.specs.Ready.{InRange}
 use Rattle.head.proofs.Ready.{timed-ready}
-use Rattle.receiver.specs.Acking.{AckReady, figuresOf, afterAck, fullAckEnded, ofHistory, roomyAck, dueAck, fullAckCallOf, FullAckOutcome, afterAck2, heldAck2, Ack2Outcome, ack2Ended, ack2CallOf}
+use Rattle.receiver.specs.Acking.{figuresOf, afterAck, fullAckEnded, ofHistory, roomyAck, dueAck, fullAckCallOf, FullAckOutcome, afterAck2, heldAck2, Ack2Outcome, ack2Ended, ack2CallOf}
+use Rattle.receiver.specs.Ready.{AckReady}
 use Rattle.receiver.specs.declared.acking.FullAcked.{FullAcked}
 use Rattle.receiver.specs.declared.acking.FullAckAnswer.{FullAckAnswer}
 use Rattle.receiver.specs.declared.acking.FullAckAnswer.the-variants as answers
@@ -56,18 +57,9 @@ pub figured : (n : ℕ) (w : Window) (t : Rtt) (a : Arrivals) (l : Links) {room 
     → room ≡ roomOf w → speed ≡ speedOf a → link ≡ capacityOf l → answers.Ack n (w .lrsn) (t .mean) (t .variance) room speed link ≡ figuresOf n w t a l
 figured n w t a l e f g = rw (e, f, g)
 
-pub room-holds : (w : Window) → windowOk w ≡ true → w .held ≤ w .capacity
-room-holds w e =
-    let a = leb 1 (w .capacity) in
-    let b = leb (w .capacity) 8192 in
-    let c = ltb (w .start) (w .capacity) in
-    let d = leb (w .held) (w .capacity) in
-    let f = ltb (w .seqno0) (2 ^ 31) in
-    leb-true (w .held) (w .capacity) (and-right (a && b && c) d (and-left (a && b && c && d) _ (and-left (a && b && c && d && f) _ e)))
-
 module _ (h : Head) where
   pub room-ready : InRange h → h .window .held ≤ h .window .capacity
-  room-ready i = room-holds (h .window) (i .window)
+  room-ready i = in-window (h .window) (i .window) .holds
 
   pub history-ready : (a : List ℕ) → InRange h → 2048 ≤ length a → HistoryReady (h .history) a
   history-ready a i l = right (h .history) a (i .history) l

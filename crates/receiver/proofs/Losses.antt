@@ -26,7 +26,8 @@ use Rattle.head.specs.Parts.{withLatest}
 use Rattle.head.specs.declared.state.Head.{Head}
 use Rattle.head.proofs.Gates.{taken, refused}
 use Rattle.head.proofs.Ready.{timed-ready, good}
-use Rattle.receiver.specs.Loss.{ReportReady, lossEnded, answerOf, afterReport, ending, reportedOf, reportCallOf}
+use Rattle.receiver.specs.Loss.{lossEnded, answerOf, afterReport, ending, reportedOf, reportCallOf}
+use Rattle.receiver.specs.Ready.{ReportReady}
 use Rattle.receiver.specs.declared.loss.Reported.{Reported}
 use Rattle.receiver.specs.declared.loss.LossAnswer.{LossAnswer}
 use Rattle.receiver.specs.declared.loss.LossAnswer.the-variants as answers

@@ -10,7 +10,8 @@ use lib.IntN.{ℤ}
 use lib.ListN.{length}
 use Rattle.clock.specs.declared.time.SynchronizedRemoteClock.{SynchronizedRemoteClock}
 use Rattle.window.specs.declared.Window.{Window}
-use Rattle.window_pop.specs.Pop.{PopReady, popEnded, popOf}
+use Rattle.window_pop.specs.Pop.{popEnded, popOf}
+use Rattle.window_pop.specs.Ready.{PopReady}
 use Rattle.window_pop.specs.declared.pop.Popped.{Popped}
 use Rattle.window_pop.specs.declared.pop.PopAnswer.{PopAnswer}
 use Rattle.window_pop.specs.declared.pop.PopAnswer.the-variants as pops

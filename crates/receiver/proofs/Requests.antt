@@ -6,7 +6,8 @@ use borrow.Author.Needs.{needs}
 use lib.ListN.{length}
 use Rattle.acks.specs.History as histories
 use Rattle.acks.specs.declared.history.History.{History}
-use Rattle.window.specs.Window.{Good, roomOf}
+use Rattle.window.specs.Window.{roomOf}
+use Rattle.window.specs.Ready.{Good}
 use Rattle.window_report.specs.Drop as drop
 use Rattle.window_report.specs.Drop.{dropOf}
 use Rattle.head.specs.Rules.{firstRefusal, dropRules, headRules}
@@ -14,7 +15,8 @@ use Rattle.head.specs.Head.{headOk}
 use Rattle.head.specs.Parts.{withWindow, withHistory}
 use Rattle.head.specs.declared.state.Head.{Head}
 use Rattle.head.proofs.Gates.{taken, refused}
-use Rattle.head.proofs.Ready.{head-ready, in-window, drop-ready}
+use Rattle.head.proofs.Ready.{head-ready, drop-ready}
+use Rattle.window.proofs.Ranges.{in-window}
 use Rattle.receiver.specs.Request.{dropEnded, goneOf, dropCallOf, clearedOf, clearEnded, clearCallOf, roomEnded, roomCallOf}
 use Rattle.receiver.specs.declared.request.DropAnswer.the-variants as drops
 use Rattle.receiver.specs.declared.request.ClearAnswer.the-variants as clears

@@ -10,9 +10,9 @@ use denote.Ref.{RefT}
 use lib.Dec.{eqb}
 use lib.ListN.{length}
 use Rattle.numbers.proofs.Flags.{by-test}
-use Rattle.window.specs.Window.{Good}
+use Rattle.window.specs.Ready.{Good}
 use Rattle.window.specs.Show.{PartOf, ShownAt, nowhere, shownOf}
-use Rattle.window.specs.declared.show.Place.{Place}
+use Rattle.window.specs.declared.show.Part.{Part}
 use Rattle.window.proofs.Shows.{shown-within}
 use Rattle.head.specs.Rules.{firstRefusal, showRules}
 use Rattle.head.specs.Head.{headOk}
@@ -26,7 +26,7 @@ module _ (h : Head) (ws : List ℕ) (bytes number : ℕ) {n : ℕ} (b : n ≡ fi
   pub show-good : n ≡ 0 → Good (h .window) ws
   show-good z = show-ready h ws bytes number (sym b ∙ z) .0
 
-  pub place-taken : {p : Place} → n ≡ 0 → p ≡ shownOf (h .window) ws number → p ≡ placeCallOf h ws bytes number
+  pub place-taken : {p : Part} → n ≡ 0 → p ≡ shownOf (h .window) ws number → p ≡ placeCallOf h ws bytes number
   unfolding placeCallOf
   place-taken z e = e ∙ sym (taken (shownOf (h .window) ws number) (λ n. nowhere) b z)
 
@@ -34,29 +34,29 @@ module _ (h : Head) (ws : List ℕ) (bytes number : ℕ) {n : ℕ} (b : n ≡ fi
   unfolding placeCallOf
   place-refused z = sym (refused (shownOf (h .window) ws number) (λ n. nowhere) b z)
 
-  module _ {p : Place} (z : n ≡ 0) (e : p ≡ shownOf (h .window) ws number) where
+  module _ {p : Part} (z : n ≡ 0) (e : p ≡ shownOf (h .window) ws number) where
     pub is-received : p .received ≡ true → shownEnded Received ≡ shownCallOf h ws bytes number
     unfolding shownCallOf
-    is-received t = sym (taken (foundAs (shownOf (h .window) ws number)) (λ n. shownEnded (Refused n)) b z ∙ ap (λ (q : Bool). shownEnded (cond q Received Other)) (sym (ap (λ (p : Place). p .received) e) ∙ t))
+    is-received t = sym (taken (foundAs (shownOf (h .window) ws number)) (λ n. shownEnded (Refused n)) b z ∙ ap (λ (q : Bool). shownEnded (cond q Received Other)) (sym (ap (λ (p : Part). p .received) e) ∙ t))
 
     pub is-other : p .received ≡ false → shownEnded Other ≡ shownCallOf h ws bytes number
     unfolding shownCallOf
-    is-other t = sym (taken (foundAs (shownOf (h .window) ws number)) (λ n. shownEnded (Refused n)) b z ∙ ap (λ (q : Bool). shownEnded (cond q Received Other)) (sym (ap (λ (p : Place). p .received) e) ∙ t))
+    is-other t = sym (taken (foundAs (shownOf (h .window) ws number)) (λ n. shownEnded (Refused n)) b z ∙ ap (λ (q : Bool). shownEnded (cond q Received Other)) (sym (ap (λ (p : Part). p .received) e) ∙ t))
 
   pub shown-refused : (n ≡ 0 → ⊥) → shownEnded (Refused n) ≡ shownCallOf h ws bytes number
   unfolding shownCallOf
   shown-refused z = sym (refused (foundAs (shownOf (h .window) ws number)) (λ n. shownEnded (Refused n)) b z)
 
 -- what is shown lies within the area
-pub place-within : (h : Head) (ws : List ℕ) (bytes number : ℕ) {p : Place} → p ≡ placeCallOf h ws bytes number → p .at + p .len ≤ bytes
+pub place-within : (h : Head) (ws : List ℕ) (bytes number : ℕ) {p : Part} → p ≡ placeCallOf h ws bytes number → p .at + p .len ≤ bytes
 unfolding placeCallOf
 place-within h ws bytes number e =
     rw e
-    (by-test (λ (q : Place). q .at + q .len ≤ bytes) (eqb (refusalOf h ws bytes number) 0) _ _
+    (by-test (λ (q : Part). q .at + q .len ≤ bytes) (eqb (refusalOf h ws bytes number) 0) _ _
     (λ t. let r = show-ready h ws bytes number (eqb-true (refusalOf h ws bytes number) 0 t) in shown-within (h .window) ws number refl (r .0) (r .1))
     (λ t. omega arith))
 
-pub part-shown : (h : Head) (ws : List ℕ) (bytes number : ℕ) {s r : RefT (List ℕ)} {p : Place} → p ≡ placeCallOf h ws bytes number → PartOf s (p .at) (p .len) r → ShownAt (placeCallOf h ws bytes number) s r
-part-shown h ws bytes number {s} {r} e q = subst (λ (x : Place). ShownAt x s r) e q
+pub part-shown : (h : Head) (ws : List ℕ) (bytes number : ℕ) {s r : RefT (List ℕ)} {p : Part} → p ≡ placeCallOf h ws bytes number → PartOf s (p .at) (p .len) r → ShownAt (placeCallOf h ws bytes number) s r
+part-shown h ws bytes number {s} {r} e q = subst (λ (x : Part). ShownAt x s r) e q
 
 pub ruleset shows = (show-good, place-taken, place-refused, is-received, is-other, shown-refused, place-within, part-shown, needs)

@@ -1,5 +1,5 @@
 -- A refused pop and a refused loss report leave head, areas and output: 01, "Each returns its number; head, areas and output stay". Assumes nothing.
-use mathlib.Core.Path.{_≡_, refl}
+use mathlib.Core.Path.{refl}
 use mathlib.Core.Bool.{Bool, true, false, _&&_, cond}
 use mathlib.Core.List.{List}
 use Prim.Native.Nat.{ℕ, _*_}
@@ -23,25 +23,22 @@ use Rattle.window_report.specs.declared.report.ReportAnswer.the-variants as rep
 use Rattle.head.specs.Rules.{firstRefusal, popRules, timedRules}
 use Rattle.head.specs.Head.{headOk}
 use Rattle.head.specs.declared.state.Head.{Head}
+use Rattle.receiver.specs.Stays.{LossStays, MessageStays}
 use Rattle.receiver.specs.Loss as loss
 use Rattle.receiver.specs.declared.loss.LossAnswer.the-variants as losses
 use Rattle.receiver.specs.Message as message
 use Rattle.receiver.specs.declared.message.MessageAnswer.the-variants as messages
 
 module _ (h : Head) (ws list : List ℕ) (now : ℤ) where
-  -- refused, an outcome has the head and the areas of the call
-  abbrev pub LossStays : loss.LossOutcome → Type 0
-  LossStays x = (x .line .refusal ≡ 0 → ⊥) → x ≡ loss.lossEnded (record { head = h; answer = x .reported .answer }) ws list
-
-  loss-by : (t : Bool) (x y : loss.LossOutcome) → LossStays x → LossStays y → LossStays (cond t x y)
+  loss-by : (t : Bool) (x y : loss.LossOutcome) → LossStays h ws list x → LossStays h ws list y → LossStays h ws list (cond t x y)
   loss-by true x y p q = p
   loss-by false x y p q = q
 
-  report-by : (t : Bool) (x y : report.ReportOutcome) → LossStays (loss.ending h now x) → LossStays (loss.ending h now y) → LossStays (loss.ending h now (cond t x y))
+  report-by : (t : Bool) (x y : report.ReportOutcome) → LossStays h ws list (loss.ending h now x) → LossStays h ws list (loss.ending h now y) → LossStays h ws list (loss.ending h now (cond t x y))
   report-by true x y p q = p
   report-by false x y p q = q
 
-  reported-stays : LossStays (loss.reportedOf h ws list now)
+  reported-stays : LossStays h ws list (loss.reportedOf h ws list now)
   unfolding loss.reportedOf report.reportOf
   reported-stays =
       let w = h .window in
@@ -54,26 +51,23 @@ module _ (h : Head) (ws list : List ℕ) (now : ℤ) where
       (λ e. absurd (e refl))
       (report-by (ltb (length list) n) short done (λ e. refl) (λ e. absurd (e refl)))
 
-  pub loss-stays : LossStays (loss.reportCallOf h ws list now)
+  pub loss-stays : LossStays h ws list (loss.reportCallOf h ws list now)
   unfolding loss.reportCallOf
   loss-stays =
       let n = firstRefusal (timedRules (headOk h) (length ws) (3 * h .window .capacity) now (h .latest)) in
       loss-by (eqb n 0) (loss.reportedOf h ws list now) (loss.lossEnded (record { head = h; answer = losses.Refused n }) ws list) reported-stays (λ e. refl)
 
 module _ (h : Head) (ws bs out : List ℕ) (now : ℤ) where
-  abbrev pub MessageStays : message.MessageOutcome → Type 0
-  MessageStays x = (x .line .refusal ≡ 0 → ⊥) → x ≡ message.messageEnded (record { head = h; answer = x .given .answer }) out
-
-  given-by : (t : Bool) (x y : message.MessageOutcome) → MessageStays x → MessageStays y → MessageStays (cond t x y)
+  given-by : (t : Bool) (x y : message.MessageOutcome) → MessageStays h out x → MessageStays h out y → MessageStays h out (cond t x y)
   given-by true x y p q = p
   given-by false x y p q = q
 
-  pop-by : (t : Bool) (x y : pop.PopOutcome) → MessageStays (message.popped h now x) → MessageStays (message.popped h now y) → MessageStays (message.popped h now (cond t x y))
+  pop-by : (t : Bool) (x y : pop.PopOutcome) → MessageStays h out (message.popped h now x) → MessageStays h out (message.popped h now y) → MessageStays h out (message.popped h now (cond t x y))
   pop-by true x y p q = p
   pop-by false x y p q = q
 
   abbrev PopStays : Popped → Type 0
-  PopStays p = MessageStays (message.popped h now (pop.popEnded p out))
+  PopStays p = MessageStays h out (message.popped h now (pop.popEnded p out))
 
   late-by : (t : Bool) (x y : Popped) → PopStays x → PopStays y → PopStays (cond t x y)
   late-by true x y p q = p
@@ -100,7 +94,7 @@ module _ (h : Head) (ws bs out : List ℕ) (now : ℤ) where
       (discarded-stays k latency w walk)
       (λ e. absurd (e refl))
 
-  released-stays : (k : SynchronizedRemoteClock) (w : Window) (stamp : ℕ) (m : Message) → MessageStays (message.popped h now (pop.releasedOf k w ws bs out stamp m))
+  released-stays : (k : SynchronizedRemoteClock) (w : Window) (stamp : ℕ) (m : Message) → MessageStays h out (message.popped h now (pop.releasedOf k w ws bs out stamp m))
   unfolding pop.releasedOf
   released-stays k w stamp m =
       pop-by (ltb (length out) (m .bytes))
@@ -115,7 +109,7 @@ module _ (h : Head) (ws bs out : List ℕ) (now : ℤ) where
       (λ e. refl)
       (λ e. absurd (e refl))
 
-  front-stays : (k : SynchronizedRemoteClock) (latency : ℕ) (drop : Bool) (w : Window) (stamp : ℕ) → MessageStays (message.popped h now (pop.frontOf k latency drop w ws now bs out stamp))
+  front-stays : (k : SynchronizedRemoteClock) (latency : ℕ) (drop : Bool) (w : Window) (stamp : ℕ) → MessageStays h out (message.popped h now (pop.frontOf k latency drop w ws now bs out stamp))
   unfolding pop.frontOf
   front-stays k latency drop w stamp =
       let m = pop.messageOf w ws in
@@ -125,7 +119,7 @@ module _ (h : Head) (ws bs out : List ℕ) (now : ℤ) where
       (λ e. absurd (e refl))
       (pop-by (ltb 0 (m .packets)) whole late (released-stays k w stamp m) (late-stays k latency drop w))
 
-  taken-stays : MessageStays (message.takenOf h ws bs out now)
+  taken-stays : MessageStays h out (message.takenOf h ws bs out now)
   unfolding message.takenOf pop.popOf
   taken-stays =
       let w = h .window in
@@ -136,7 +130,7 @@ module _ (h : Head) (ws bs out : List ℕ) (now : ℤ) where
       (front-stays (h .clock) (h .latency) (h .dropping) w (stampIn e))
       (late-stays (h .clock) (h .latency) (h .dropping) w)
 
-  pub message-stays : MessageStays (message.popCallOf h ws bs out now)
+  pub message-stays : MessageStays h out (message.popCallOf h ws bs out now)
   unfolding message.popCallOf
   message-stays =
       let n = firstRefusal (popRules (headOk h) (h .window .capacity) (length ws) (length bs) now (h .latest)) in

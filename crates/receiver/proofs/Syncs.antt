@@ -5,7 +5,8 @@ use Prim.Native.Nat.{ℕ}
 use borrow.Author.Needs.{needs}
 use lib.Ieee.{Float}
 use lib.IntN.{ℤ}
-use Rattle.clock.specs.Sync.{Ready, synchronized}
+use Rattle.clock.specs.Sync.{synchronized}
+use Rattle.clock.specs.Ready.{Ready}
 use Rattle.clock.proofs.Ranges.{ready}
 use Rattle.clock.specs.declared.time.SynchronizedRemoteClock.{SynchronizedRemoteClock}
 use Rattle.clock.specs.declared.time.Step.{Step}

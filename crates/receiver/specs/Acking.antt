@@ -1,7 +1,7 @@
 -- The calls for full ACKs and ACK2s: 01, "ACKs, RTT, rates", with refusals 1 to 4 and 13.
 use mathlib.Core.Bool.{cond}
 use mathlib.Core.List.{List}
-use Prim.Native.Nat.{ℕ, _≤_}
+use Prim.Native.Nat.{ℕ}
 use lib.Dec.{eqb}
 use lib.IntN.{ℤ, natAbs}
 use lib.ListN.{length}
@@ -22,18 +22,12 @@ use Rattle.head.specs.Rules.{firstRefusal, judged, timedRules}
 use Rattle.head.specs.Head.{headOk}
 use Rattle.head.specs.Parts.{withRtt, withHistory, withLatest}
 use Rattle.head.specs.declared.state.Head.{Head}
-use Rattle.head.specs.Ready.{InRange}
 use Rattle.receiver.specs.Paper.{Line, fullAckLine, rttLine}
 use Rattle.receiver.specs.declared.acking.FullAcked.{FullAcked}
 use Rattle.receiver.specs.declared.acking.FullAckAnswer.{FullAckAnswer}
 use Rattle.receiver.specs.declared.acking.FullAckAnswer.the-variants as answers
 use Rattle.receiver.specs.declared.acking.Ack2ed.{Ack2ed}
 use Rattle.receiver.specs.declared.acking.RttAnswer.the-variants as rtts
-
--- what the tests of these calls have shown
-pub record AckReady (h : Head) (a : List ℕ) : Type 0 where
-  pub head : InRange h
-  pub words : 2048 ≤ length a
 
 -- an ACK of this number with the head's figures: lrsn, the round trip, the room, the rates
 abbrev pub figuresOf : ℕ → Window → Rtt → Arrivals → Links → FullAckAnswer

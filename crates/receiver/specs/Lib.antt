@@ -4,6 +4,8 @@ pub mod Data
 pub mod Loss
 pub mod Message
 pub mod Paper
+pub mod Ready
 pub mod Request
 pub mod Show
+pub mod Stays
 pub mod Sync

@@ -1,9 +1,8 @@
 -- The loss report call: 01, "Window", with refusals 1 to 4 and 12.
 use mathlib.Core.List.{List}
-use Prim.Native.Nat.{ℕ, _*_, _^_, _<_}
+use Prim.Native.Nat.{ℕ, _*_}
 use lib.IntN.{ℤ, natAbs}
 use lib.ListN.{length}
-use Rattle.window.specs.Window.{Good}
 use Rattle.window_report.specs.Report.{ReportOutcome, reportOf}
 use Rattle.window_report.specs.declared.report.ReportAnswer.{ReportAnswer}
 use Rattle.window_report.specs.declared.report.ReportAnswer.the-variants as reports
@@ -54,8 +53,3 @@ reportCallOf h ws list now =
     judged (firstRefusal (timedRules (headOk h) (length ws) (3 * h .window .capacity) now (h .latest)))
     (reportedOf h ws list now)
     (λ n. lossEnded (record { head = h; answer = answers.Refused n }) ws list)
-
--- what the tests of head and slot area have shown
-pub record ReportReady (h : Head) (ws : List ℕ) : Type 0 where
-  pub good : Good (h .window) ws
-  pub mean : h .rtt .mean < 2 ^ 31

@@ -4,7 +4,7 @@ use mathlib.Core.List.{List}
 use Prim.Native.Nat.{ℕ}
 use lib.ListN.{length}
 use Rattle.window.specs.Show.{nowhere, shownOf}
-use Rattle.window.specs.declared.show.Place.{Place}
+use Rattle.window.specs.declared.show.Part.{Part}
 use Rattle.head.specs.Rules.{firstRefusal, judged, showRules}
 use Rattle.head.specs.Head.{headOk}
 use Rattle.head.specs.declared.state.Head.{Head}
@@ -17,7 +17,7 @@ abbrev pub refusalOf : Head → List ℕ → ℕ → ℕ → ℕ
 refusalOf h ws bytes number = firstRefusal (showRules (headOk h) (h .window .capacity) (length ws) bytes number)
 
 -- the part of an area of that many bytes
-unfoldable pub placeCallOf : Head → List ℕ → ℕ → ℕ → Place
+unfoldable pub placeCallOf : Head → List ℕ → ℕ → ℕ → Part
 placeCallOf h ws bytes number = judged (refusalOf h ws bytes number) (shownOf (h .window) ws number) (λ n. nowhere)
 
 -- all that the second question leaves
@@ -29,7 +29,7 @@ abbrev pub shownEnded : ShowAnswer → ShownOutcome
 shownEnded a = record { answer = a; line = shownLine a }
 
 -- which of these, or received
-abbrev pub foundAs : Place → ShownOutcome
+abbrev pub foundAs : Part → ShownOutcome
 foundAs p = shownEnded (cond (p .received) Received Other)
 
 unfoldable pub shownCallOf : Head → List ℕ → ℕ → ℕ → ShownOutcome

@@ -1,6 +1,7 @@
 // The loss report call, arq.rs `on_nak_event`: 01, "Window", with refusals 1 to 4 and 12.
 ghost use mathlib.Core.Path.{_≡_};
-ghost use Rattle.receiver.specs.Loss.{ReportReady, lossEnded, answerOf, afterReport, reportedOf, reportCallOf};
+ghost use Rattle.receiver.specs.Loss.{lossEnded, answerOf, afterReport, reportedOf, reportCallOf};
+ghost use Rattle.receiver.specs.Ready.{ReportReady};
 use head::state::Head;
 use window_report::report::ReportAnswer;
 

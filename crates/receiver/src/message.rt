@@ -1,7 +1,7 @@
 // The pop call, arq.rs `pop_next_message`: 01, "Window", with refusals 1 to 4 and 11.
 ghost use mathlib.Core.Path.{_≡_};
 ghost use Rattle.receiver.specs.Message.{messageEnded, poppedOf, answerOf, afterPop, takenOf, popCallOf};
-ghost use Rattle.window_pop.specs.Pop.{PopReady};
+ghost use Rattle.window_pop.specs.Ready.{PopReady};
 use clock::time::SynchronizedRemoteClock;
 use head::state::Head;
 use window::Window;

@@ -4,7 +4,7 @@ ghost use lib.ListN.{length};
 ghost use Rattle.window.specs.Show.{ShownAt};
 ghost use Rattle.receiver.specs.Show.{placeCallOf, shownEnded, shownCallOf};
 use head::state::Head;
-use window::show::Place;
+use window::show::Part;
 
 // Why a part is empty, or that it is a received entry's.
 pub enum ShowAnswer {
@@ -14,7 +14,7 @@ pub enum ShowAnswer {
 }
 
 // Where the payload of a number lies, or nowhere.
-pub fn place_in(h: Head, words: &[u64], size: usize, number: u32) -> Place
+pub fn place_in(h: Head, words: &[u64], size: usize, number: u32) -> Part
     ensures { λ r. ⌜ r ≡ placeCallOf h (now (words .entry)) size number ⌝ }
 {
     let w = h.window;
@@ -22,7 +22,7 @@ pub fn place_in(h: Head, words: &[u64], size: usize, number: u32) -> Place
     if n == 0 {
         return window::show::find(w, words, number);
     }
-    Place {
+    Part {
         received: false,
         at: 0,
         len: 0,
@@ -33,7 +33,7 @@ pub fn show<'a>(h: Head, words: &[u64], bytes: &'a [u8], number: u32) -> &'a [u8
     ensures { λ r. ⌜ ShownAt (placeCallOf h (now (words .entry)) (length (now (bytes .entry))) number) (bytes .entry) r ⌝ }
 {
     let p = place_in(h, words, bytes.len(), number);
-    window::show::part(bytes, p.at, p.len)
+    window::show::part_at(bytes, p.at, p.len)
 }
 
 pub fn shown(h: Head, words: &[u64], bytes: &[u8], number: u32) -> ShowAnswer

@@ -11,8 +11,10 @@ use lib.Dec.{eqb}
 use lib.ListN.{length, getD, set, take, drop, length-set, length-drop, take-append-drop}
 use lib.Seq.{getD-set-same, getD-set-other, length-paste, length-take-le, take-length, take-at, drop-at, drop-drop, drop-paste, take-append-le, drop-append-le, drop-set-lt}
 use Rattle.numbers.proofs.Flags.{impossible, by-test, by-order}
-use Rattle.slots.specs.Words.{markOf, entryOf, Fit, wordsOf, isLost, entryAt, writeAt, writeReport, lengthIn}
-use Rattle.slots.specs.Ring.{slotOf, nextSlot, payloadAt, withPayload}
+use Rattle.slots.specs.Words.{markOf, entryOf, wordsOf, isLost, entryAt, writeAt, writeReport, lengthIn}
+use Rattle.slots.specs.Ready.{Fit}
+use Rattle.slots.specs.Ring.{slotOf, payloadAt, withPayload}
+use Rattle.slots.specs.Inner.{nextSlot}
 use Rattle.slots.specs.declared.entry.Entry.{Entry}
 use Rattle.slots.specs.declared.entry.Entry.the-variants.{Lost, Received, GivenUp}
 
@@ -179,16 +181,16 @@ module _ (capacity start : ℕ) (hs : start < capacity) where
       (λ a. slot-is j (omega arith) (λ b bl. omega arith) (λ b. ne (omega arith)))
 
 -- the slot of an entry lies within the areas
-module _ (capacity start i : ℕ) {s n : ℕ} (h : 0 < capacity) (e : s ≡ slotOf capacity start i) where
+module _ (capacity start i : ℕ) {s n : ℕ} (e : s ≡ slotOf capacity start i) (h : start < capacity) where
   pub slot-words : 3 * capacity ≤ n → 3 * s + 3 ≤ n
-  slot-words k = omega (arith, slot-lt capacity start i h)
+  slot-words k = omega (arith, slot-lt capacity start i (omega arith))
 
   pub slot-bytes : 1456 * capacity ≤ n → 1456 * s + 1456 ≤ n
-  slot-bytes k = omega (arith, slot-lt capacity start i h)
+  slot-bytes k = omega (arith, slot-lt capacity start i (omega arith))
 
   -- the same of a list that has the length of another
   pub slot-words-kept : {m : ℕ} → n ≡ m → 3 * capacity ≤ m → 3 * s + 3 ≤ n
-  slot-words-kept f k = omega (arith, slot-lt capacity start i h)
+  slot-words-kept f k = omega (arith, slot-lt capacity start i (omega arith))
 
 -- a part of the front of two joined lists
 in-front : (xs ys : List ℕ) (a n : ℕ) → a + n ≤ length xs → take n (drop a (xs ++ ys)) ≡ take n (drop a xs)

@@ -9,7 +9,8 @@ use borrow.Author.Tests.{eq-eqb, ne-eqb, lt-ltb, le-ltb}
 use lib.Dec.{eqb, leb}
 use lib.ListN.{length, getD, set, length-set}
 use Rattle.slots.specs.Words.{lengthRead, entryOf, wordsOf, entryAt, writeAt, writeReport, isFirst, isLast, inMessage}
-use Rattle.slots.specs.Ring.{slotOf, nextSlot}
+use Rattle.slots.specs.Ring.{slotOf}
+use Rattle.slots.specs.Inner.{nextSlot}
 use Rattle.slots.specs.declared.entry.Entry.{Entry}
 use Rattle.slots.specs.declared.entry.Entry.the-variants.{Lost, Received, GivenUp}
 use Rattle.slots.specs.declared.entry.Words.{Words}

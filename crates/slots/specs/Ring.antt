@@ -1,17 +1,12 @@
 -- The ring of slots and the places of payloads: 01, "Head and lent areas".
-use mathlib.Core.Bool.{cond}
 use mathlib.Core.List.{List}
 use Prim.Native.Nat.{ℕ, _+_, _*_, _%_}
-use lib.Dec.{ltb}
 use lib.ListN.{length, take, drop}
 use lib.Seq.{paste}
 
 -- entry i lies in slot (start + i) mod capacity
 unfoldable pub slotOf : ℕ → ℕ → ℕ → ℕ
 slotOf capacity start i = (start + i) % capacity
-
-abbrev pub nextSlot : ℕ → ℕ → ℕ
-nextSlot capacity s = cond (ltb (s + 1) capacity) (s + 1) 0
 
 -- the payload area has 1,456 bytes a slot
 abbrev pub payloadStart : ℕ → ℕ

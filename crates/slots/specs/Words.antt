@@ -1,7 +1,7 @@
 -- An entry of the window and the three words that hold it: 01, "Head and lent areas".
 use mathlib.Core.Bool.{Bool, true, false, cond}
 use mathlib.Core.List.{List}
-use Prim.Native.Nat.{ℕ, _+_, _*_, _/_, _%_, _^_, _<_, _≤_, min}
+use Prim.Native.Nat.{ℕ, _+_, _*_, _/_, _%_, _^_, min}
 use lib.Dec.{eqb, leb}
 use lib.ListN.{getD, set}
 use Rattle.slots.specs.declared.entry.Entry.{Entry}
@@ -32,12 +32,6 @@ entryOf a b c =
     (cond (eqb (markOf a) 1)
     (Received (lengthOf a) (locationOf a) (messageOf a) (b % 2 ^ 32))
     GivenUp)
-
--- the numbers of an entry that can be written
-abbrev pub Fit : Entry → Type 0
-Fit (Lost k f) = (k < 2 ^ 16) × (f < 2 ^ 60)
-Fit (Received n l m t) = (n ≤ 1456) × (l < 4) × (m < 2 ^ 26) × (t < 2 ^ 32)
-Fit GivenUp = Unit {0}
 
 -- written: given up as 2, word 2 as 0 if received, unused bits as 0
 abbrev pub wordsOf : Entry → Words

@@ -2,7 +2,8 @@
 ghost use mathlib.Core.Path.{_≡_};
 ghost use Prim.Native.Nat.{_+_, _*_, _<_, _≤_};
 ghost use lib.ListN.{length};
-ghost use Rattle.slots.specs.Words.{Fit, isLost, isReceived, entryOf, entryAt, writeAt, writeReport, wordsOf, lengthRead, lengthIn, stampIn, messageIn, isFirst, isLast, inMessage};
+ghost use Rattle.slots.specs.Words.{isLost, isReceived, entryOf, entryAt, writeAt, writeReport, wordsOf, lengthRead, lengthIn, stampIn, messageIn, isFirst, isLast, inMessage};
+ghost use Rattle.slots.specs.Ready.{Fit};
 
 pub enum Entry {
     Lost {

@@ -1,7 +1,8 @@
 // The ring of slots and the places of payloads: 01, "Head and lent areas".
 ghost use mathlib.Core.Path.{_≡_};
 ghost use Prim.Native.Nat.{_+_, _<_, _≤_, _^_};
-ghost use Rattle.slots.specs.Ring.{slotOf, nextSlot};
+ghost use Rattle.slots.specs.Ring.{slotOf};
+ghost use Rattle.slots.specs.Inner.{nextSlot};
 
 // The slot of entry i.
 pub fn slot(capacity: usize, start: usize, i: usize) -> usize

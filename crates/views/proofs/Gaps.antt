@@ -13,6 +13,7 @@ use Rattle.slots.specs.Ring.{slotOf}
 use Rattle.slots.specs.declared.entry.Entry.{Entry}
 use Rattle.slots.specs.declared.entry.Entry.the-variants.{Lost, Received, GivenUp}
 use Rattle.window.specs.Window.{firstGap}
+use Rattle.views.specs.Lists.{runOf}
 use Rattle.views.specs.View.{Seen, lost, received, givenUp, seenOf, seenAt, entriesFrom, isReceived, gapIn}
 
 seen-mark : (bs : List ℕ) (s : ℕ) (e : Entry) → isReceived (seenOf bs s e) ≡ words.isReceived e
@@ -22,7 +23,7 @@ seen-mark bs s GivenUp = refl
 
 -- the search over the words is the search over the list
 pub gap-found : (capacity start : ℕ) (ws bs : List ℕ) (n i : ℕ) → firstGap capacity start ws i n ≡ i + gapIn (entriesFrom capacity start ws bs i n)
-unfolding firstGap gapIn entriesFrom
+unfolding firstGap runOf entriesFrom
 gap-found capacity start ws bs zero i = omega arith
 gap-found capacity start ws bs (suc n) i = go (words.isReceived (entryAt ws (slotOf capacity start i))) refl (gap-found capacity start ws bs n (suc i))
   where
@@ -38,7 +39,7 @@ gap-found capacity start ws bs (suc n) i = go (words.isReceived (entryAt ws (slo
 
 -- it is at most the length
 pub gap-most : (es : List Seen) → gapIn es ≤ length es
-unfolding gapIn
+unfolding runOf
 gap-most [] = omega arith
 gap-most (lost k f ∷ es) = omega arith
 gap-most (received l m t b ∷ es) = let r = gap-most es in omega arith
@@ -46,14 +47,14 @@ gap-most (givenUp ∷ es) = omega arith
 
 -- more entries behind it change it only if all before them are received
 pub gap-append : (es fs : List Seen) → gapIn es < length es → gapIn (es ++ fs) ≡ gapIn es
-unfolding gapIn
+unfolding runOf
 gap-append [] fs h = absurd (omega arith)
 gap-append (lost k f ∷ es) fs h = refl
 gap-append (received l m t b ∷ es) fs h = ap suc (gap-append es fs (omega arith))
 gap-append (givenUp ∷ es) fs h = refl
 
 pub gap-whole : (es fs : List Seen) → gapIn es ≡ length es → gapIn (es ++ fs) ≡ length es + gapIn fs
-unfolding gapIn
+unfolding runOf
 gap-whole [] fs h = omega arith
 gap-whole (lost k f ∷ es) fs h = absurd (omega arith)
 gap-whole (received l m t b ∷ es) fs h = let r = gap-whole es fs (omega arith) in omega arith
@@ -61,7 +62,7 @@ gap-whole (givenUp ∷ es) fs h = absurd (omega arith)
 
 -- an entry past the gap may change and it stays; an entry not received is not before it
 pub gap-set-past : (es : List Seen) (i : ℕ) (e : Seen) → gapIn es < i → gapIn (set es i e) ≡ gapIn es
-unfolding gapIn
+unfolding runOf
 gap-set-past [] i e h = refl
 gap-set-past (x ∷ es) zero e h = absurd (omega arith)
 gap-set-past (lost k f ∷ es) (suc i) e h = refl
@@ -69,7 +70,7 @@ gap-set-past (received l m t b ∷ es) (suc i) e h = ap suc (gap-set-past es i e
 gap-set-past (givenUp ∷ es) (suc i) e h = refl
 
 pub gap-not-before : (es : List Seen) (i : ℕ) (d : Seen) → i < length es → isReceived (getD es i d) ≡ false → gapIn es ≤ i
-unfolding gapIn
+unfolding runOf
 gap-not-before [] i d h e = omega arith
 gap-not-before (lost k f ∷ es) i d h e = omega arith
 gap-not-before (received l m t b ∷ es) zero d h e = impossible e
@@ -78,7 +79,7 @@ gap-not-before (givenUp ∷ es) i d h e = omega arith
 
 -- entries before the gap may leave the front
 pub gap-drop : (n : ℕ) (es : List Seen) → n ≤ gapIn es → gapIn (drop n es) ≡ gapIn es - n
-unfolding gapIn
+unfolding runOf
 gap-drop zero es h = omega arith
 gap-drop (suc n) [] h = absurd (omega arith)
 gap-drop (suc n) (lost k f ∷ es) h = absurd (omega arith)
@@ -91,7 +92,7 @@ gap-from n es h = let r = gap-drop n es h in omega arith
 
 -- changing the entry at the gap moves it no nearer
 pub gap-set-at : (i : ℕ) (es : List Seen) (e : Seen) → i ≤ gapIn es → i ≤ gapIn (set es i e)
-unfolding gapIn
+unfolding runOf
 gap-set-at zero es e h = omega arith
 gap-set-at (suc i) [] e h = absurd (omega arith)
 gap-set-at (suc i) (lost k f ∷ es) e h = absurd (omega arith)

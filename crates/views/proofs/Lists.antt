@@ -5,7 +5,8 @@ use Prim.Native.Nat.{ℕ, zero, suc, _+_, _-_, _*_, _<_, _≤_}
 use native.Mathlib.Nat.{add-zero}
 use native.Mathlib.Omega.{arith}
 use lib.ListN.{length, getD, set, drop}
-use Rattle.slots.specs.Words.{Fit, entryAt, writeAt}
+use Rattle.slots.specs.Words.{entryAt, writeAt}
+use Rattle.slots.specs.Ready.{Fit}
 use Rattle.slots.specs.Ring.{slotOf, withPayload}
 use Rattle.slots.specs.declared.entry.Entry.{Entry}
 use Rattle.slots.specs.declared.entry.Entry.the-variants.{Lost, Received, GivenUp}

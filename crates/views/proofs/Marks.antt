@@ -11,7 +11,8 @@ use Rattle.slots.specs.Words as words
 use Rattle.slots.specs.Ring.{slotOf}
 use Rattle.slots.specs.declared.entry.Entry.{Entry}
 use Rattle.slots.specs.declared.entry.Entry.the-variants.{Lost, Received, GivenUp}
-use Rattle.window.specs.Window.{Good, slotIn, entryIn, numberIn}
+use Rattle.window.specs.Window.{slotIn, entryIn, numberIn}
+use Rattle.window.specs.Ready.{Good}
 use Rattle.window.specs.declared.Window.{Window}
 use Rattle.window_report.specs.Report.{ReportOutcome, isDue, kAfter, slotsTo, reportOf}
 use Rattle.window_report.specs.Drop.{dropFrom, dropTo, dropOf}
@@ -19,6 +20,7 @@ use Rattle.window_report.specs.declared.report.ReportAnswer.{ReportAnswer}
 use Rattle.window_report.specs.declared.report.ReportAnswer.the-variants as reports
 use Rattle.window_report.proofs.ReportLaws.{by-outcome, report-held}
 use Rattle.window_report.proofs.DropLaws.{drop-in, drop-before, drop-after}
+use Rattle.views.specs.Lists.{runOf, changedIn}
 use Rattle.views.specs.View.{Seen, lost, received, givenUp, seenOf, seenAt, entriesFrom, entries, isReceived, gapIn, LrsnRight, reportedSeen, afterReport, gaveUp, givenIn}
 
 -- a list whose entries are those of another under a map, or under a map by place
@@ -32,7 +34,7 @@ module _ (capacity start : ℕ) (ws bs ws₁ : List ℕ) where
   entries-given : (from to n i : ℕ)
       → ((j : ℕ) → i ≤ j → j < i + n → seenAt ws₁ bs (slotOf capacity start j) ≡ cond (leb from j && ltb j to) (gaveUp (seenAt ws bs (slotOf capacity start j))) (seenAt ws bs (slotOf capacity start j)))
       → entriesFrom capacity start ws₁ bs i n ≡ givenIn from to i (entriesFrom capacity start ws bs i n)
-  unfolding entriesFrom givenIn
+  unfolding entriesFrom changedIn
   entries-given from to zero i h = refl
   entries-given from to (suc n) i h = rw (h i (omega arith) (omega arith), entries-given from to n (suc i) (λ j a b. h j (omega arith) (omega arith)))
 
@@ -43,7 +45,7 @@ reported-mark time mean (received l m t b) = refl
 reported-mark time mean givenUp = refl
 
 gap-reported : (time mean : ℕ) (es : List Seen) → gapIn (map (reportedSeen time mean) es) ≡ gapIn es
-unfolding gapIn
+unfolding runOf
 gap-reported time mean [] = refl
 gap-reported time mean (e ∷ es) = rw (reported-mark time mean e, gap-reported time mean es)
 
@@ -54,7 +56,7 @@ given-mark true (received l m t b) = refl
 given-mark true givenUp = refl
 
 gap-given : (from to i : ℕ) (es : List Seen) → gapIn (givenIn from to i es) ≡ gapIn es
-unfolding gapIn givenIn
+unfolding runOf changedIn
 gap-given from to i [] = refl
 gap-given from to i (e ∷ es) = rw (given-mark (leb from i && ltb i to) e, gap-given from to (suc i) es)
 

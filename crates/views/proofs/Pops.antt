@@ -16,14 +16,16 @@ use Rattle.slots.specs.Ring.{slotOf, payloadAt}
 use Rattle.slots.specs.declared.entry.Entry.{Entry}
 use Rattle.slots.specs.declared.entry.Entry.the-variants.{Lost, Received, GivenUp}
 use Rattle.slots.proofs.Laws.{length-read, slot-lt}
-use Rattle.window.specs.Window.{Good, Bytes, slotIn, entryIn, numberIn, cut, firstGap}
+use Rattle.window.specs.Window.{slotIn, entryIn, numberIn, cut, firstGap}
+use Rattle.window.specs.Ready.{Good, Bytes}
 use Rattle.window.specs.declared.Window.{Window}
 use Rattle.window_pop.specs.Pop.{PopOutcome, Filled, runFrom, messageOf, filled, discardFront, popOf}
 use Rattle.window_pop.specs.declared.pop.Message.{Message}
 use Rattle.window_pop.specs.declared.pop.PopAnswer.the-variants as pops
 use Rattle.window_pop.proofs.Fills.{front-whole}
 use Rattle.window_pop.proofs.PopLaws.{pop-cases}
-use Rattle.views.specs.View.{Seen, givenUp, seenOf, seenAt, isReceived, entriesFrom, entries, gapIn, LrsnRight, afterPop, bytesIn, joined}
+use Rattle.views.specs.Lists.{runOf}
+use Rattle.views.specs.View.{Seen, givenUp, seenOf, seenAt, isReceived, entriesFrom, entries, gapIn, LrsnRight, afterPop, bytesIn, joined, Handed}
 use Rattle.views.proofs.Lists.{entries-length, entries-at, entries-cut}
 use Rattle.views.proofs.Gaps.{gap-found, gap-from}
 
@@ -36,7 +38,7 @@ in-received bs s message GivenUp h = impossible (sym h)
 -- all entries of a whole message are received
 run-gap : (capacity start : ℕ) (ws bs : List ℕ) (message n i total : ℕ) → 0 < runFrom capacity start ws message i total n .packets
     → runFrom capacity start ws message i total n .packets ≤ i + gapIn (entriesFrom capacity start ws bs i n)
-unfolding runFrom entriesFrom gapIn
+unfolding runFrom entriesFrom runOf
 run-gap capacity start ws bs message zero i total = λ h. absurd (omega arith)
 run-gap capacity start ws bs message (suc n) i total =
     let e = entryAt ws (slotOf capacity start i) in
@@ -99,7 +101,7 @@ module _ (w : Window) (ws bs out : List ℕ) (g : Good w ws) (gb : Bytes w bs) w
       let q = payloadAt bs s len in
       let f = filled (w .capacity) (w .start) ws bs out n in
       let i = filled-joined n (omega arith) in
-      let room : len ≤ length (drop (1456 * s) bs) = rw length-drop (omega (arith, length-read ws s, slot-lt (w .capacity) (w .start) n (g .some))) in
+      let room : len ≤ length (drop (1456 * s) bs) = rw length-drop (omega (arith, length-read ws s, slot-lt (w .capacity) (w .start) n (g .ranges .some))) in
       let long : length q ≡ len = length-take-le len (drop (1456 * s) bs) room in
       let z : 0 + n ≡ n = omega arith in
       let one : bytesIn (getD es n givenUp) ≡ q = ap bytesIn (entries-at (w .capacity) (w .start) ws bs 0 (w .held) n givenUp (omega arith) ∙ ap (λ (x : ℕ). seenAt ws bs (slotIn w x)) z) ∙ slot-bytes bs s (entryIn w ws n) in
@@ -145,17 +147,10 @@ module _ (k : SynchronizedRemoteClock) (latency : ℕ) (late : Bool) (w : Window
       let z : c .held - 0 ≡ c .held = omega arith in
       ap (numberIn c) (ap (firstGap (c .capacity) (c .start) ws 0) z ∙ gap-found (c .capacity) (c .start) ws bs (c .held) 0 ∙ omega arith))
 
-  -- a message's output is the bytes of its entries, one after the other, all of them received; past them the output stays
-  pub record Handed (x : PopOutcome) (bytes packets : ℕ) : Type 0 where
-    pub some : 0 < packets
-    pub held : packets ≤ w .held
-    pub whole : packets ≤ gapIn es
-    pub long : bytes ≡ length (joined (take packets es))
-    pub output : x .output ≡ joined (take packets es) ++ drop bytes out
-
-  pub pop-handed : Bytes w bs → (time : ℤ) (bytes packets : ℕ) → outcome .popped .answer ≡ pops.Message time bytes packets → Handed outcome bytes packets
+  -- what a message hands out
+  pub pop-handed : Bytes w bs → (time : ℤ) (bytes packets : ℕ) → outcome .popped .answer ≡ pops.Message time bytes packets → Handed w es out outcome bytes packets
   pop-handed gb time bytes packets =
-      pop-cases k latency late w ws now bs out (λ (x : PopOutcome). x .popped .answer ≡ pops.Message time bytes packets → Handed x bytes packets)
+      pop-cases k latency late w ws now bs out (λ (x : PopOutcome). x .popped .answer ≡ pops.Message time bytes packets → Handed w es out x bytes packets)
       (λ e. absurd (let z : _≡_ {A = ℕ} 0 1 = cc in omega arith))
       (λ e. absurd (let z : _≡_ {A = ℕ} 0 1 = cc in omega arith))
       (λ some held fits e.

@@ -16,9 +16,10 @@ use Rattle.slots.specs.Words as words
 use Rattle.slots.specs.Words.{writeAt}
 use Rattle.slots.specs.Ring.{withPayload}
 use Rattle.slots.proofs.Laws.{length-write, length-payload, slot-lt}
-use Rattle.window.specs.Window.{Good, Bytes, slotIn, entryIn, nextOf, roomOf, firstGap}
+use Rattle.window.specs.Window.{slotIn, entryIn, nextOf, roomOf, firstGap}
+use Rattle.window.specs.Ready.{Good, Bytes, PacketRight}
 use Rattle.window.specs.Push as push
-use Rattle.window.specs.Push.{PushOutcome, PacketRight, withLost, movedPast, recoveredLrsn, appendNextOf, appendWithLossOf, recoveredOf, recoverOf, pushOf}
+use Rattle.window.specs.Push.{PushOutcome, withLost, movedPast, recoveredLrsn, appendNextOf, appendWithLossOf, recoveredOf, recoverOf, pushOf}
 use Rattle.window.specs.declared.Window.{Window}
 use Rattle.window.specs.declared.push.Packet.{Packet}
 use Rattle.window.proofs.Pushes.{length-lost}
@@ -29,10 +30,10 @@ module _ (w : Window) (ws bs : List ℕ) (time : ℕ) (p : Packet) (payload : Li
 
   moved-lt : movedPast (w .lrsn) (p .number) < 2 ^ 31
   unfolding successor
-  moved-lt = by-test (λ (x : ℕ). x < 2 ^ 31) (eqb (w .lrsn) (p .number)) _ _ (λ t. sum-below 31 (p .number) 1) (λ t. g .next)
+  moved-lt = by-test (λ (x : ℕ). x < 2 ^ 31) (eqb (w .lrsn) (p .number)) _ _ (λ t. sum-below 31 (p .number) 1) (λ t. g .ranges .lrsn)
 
   bytes-kept : (i : ℕ) → length (withPayload bs (slotIn w i) payload) ≡ length bs
-  bytes-kept i = length-payload bs (slotIn w i) payload (r .bytes) (omega (arith, slot-lt (w .capacity) (w .start) i (g .some)))
+  bytes-kept i = length-payload bs (slotIn w i) payload (r .bytes) (omega (arith, slot-lt (w .capacity) (w .start) i (g .ranges .some)))
 
   next-kept : Kept (appendNextOf w ws bs time p payload)
   unfolding appendNextOf
@@ -65,7 +66,7 @@ module _ (w : Window) (ws bs : List ℕ) (time : ℕ) (p : Packet) (payload : Li
       let ws₁ = writeAt ws (slotIn w i) (push.received p payload) in
       let a = length-write ws (slotIn w i) (push.received p payload) in
       let b = bytes-kept i in
-      let m : recoveredLrsn w (p .number) ws₁ i < 2 ^ 31 = by-test (λ (x : ℕ). x < 2 ^ 31) (eqb (w .lrsn) (p .number)) _ _ (λ t. sum-below 31 (w .seqno0) (firstGap (w .capacity) (w .start) ws₁ i (w .held - i))) (λ t. g .next) in
+      let m : recoveredLrsn w (p .number) ws₁ i < 2 ^ 31 = by-test (λ (x : ℕ). x < 2 ^ 31) (eqb (w .lrsn) (p .number)) _ _ (λ t. sum-below 31 (w .seqno0) (firstGap (w .capacity) (w .start) ws₁ i (w .held - i))) (λ t. g .ranges .lrsn) in
       (omega arith, omega arith)
 
   recover-kept : Kept (recoverOf w ws bs time p payload)

@@ -20,23 +20,25 @@ use Rattle.slots.specs.Words.{writeAt}
 use Rattle.slots.specs.Ring.{withPayload}
 use Rattle.slots.specs.declared.entry.Entry.{Entry}
 use Rattle.slots.specs.declared.entry.Entry.the-variants.{Lost, Received, GivenUp}
-use Rattle.window.specs.Window.{Good, Bytes, slotIn, entryIn, nextOf, numberIn, roomOf, lrsnFrom}
+use Rattle.window.specs.Window.{slotIn, entryIn, nextOf, numberIn, roomOf, lrsnFrom}
+use Rattle.window.specs.Ready.{Good, Bytes, PacketRight}
 use Rattle.window.specs.Push as push
-use Rattle.window.specs.Push.{PushOutcome, PacketRight, movedPast, appendNextOf, appendWithLossOf, recoveredOf, recoverOf, pushOf}
+use Rattle.window.specs.Push.{PushOutcome, movedPast, appendNextOf, appendWithLossOf, recoveredOf, recoverOf, pushOf}
 use Rattle.window.specs.declared.Window.{Window}
 use Rattle.window.specs.declared.push.Packet.{Packet}
-use Rattle.views.specs.View.{Seen, lost, givenUp, seenOf, seenAt, isReceived, entriesFrom, entries, gapIn, LrsnRight, packetSeen}
+use Rattle.views.specs.Lists.{runOf}
+use Rattle.views.specs.View.{Seen, lost, givenUp, seenOf, seenAt, isReceived, entriesFrom, entries, gapIn, LrsnRight, packetSeen, SeenAfter, RightAfter}
 use Rattle.views.proofs.Lists.{entries-length, entries-at, entries-drop}
 use Rattle.views.proofs.Gaps.{gap-found, gap-most, gap-append, gap-whole, gap-set-past, gap-set-at, gap-not-before, gap-from}
-use Rattle.views.proofs.Pushes.{Seen-after, number-is, next-seen, loss-seen, recovered-seen}
+use Rattle.views.proofs.Pushes.{number-is, next-seen, loss-seen, recovered-seen}
 
 one-received : (p : Packet) (payload : List ℕ) → gapIn (packetSeen p payload ∷ []) ≡ 1
-unfolding gapIn
+unfolding runOf
 one-received p payload = refl
 
 -- a lost entry behind the list: the gap stays
 lost-behind : (es : List Seen) (n k f : ℕ) (fs : List Seen) → 0 < n → gapIn (es ++ (replicate n (lost k f) ++ fs)) ≡ gapIn es
-unfolding gapIn
+unfolding runOf
 lost-behind es zero k f fs h = absurd (omega arith)
 lost-behind es (suc n) k f fs h =
     by-order (gapIn es) (length es)
@@ -67,14 +69,11 @@ module _ (w : Window) (ws bs : List ℕ) (time : ℕ) (p : Packet) (payload : Li
       let e : w .lrsn ≡ p .number = l ∙ ap (numberIn w) h ∙ sym n in
       rw (eq-eqb (w .lrsn) (p .number) e) (ap (λ (x : ℕ). sum 31 x 1) n ∙ sum-sum 31 (w .seqno0) (w .held) 1)
 
-  abbrev Right-after : PushOutcome → Type 0
-  Right-after o = LrsnRight (o .pushed .window) (entries (o .pushed .window) (o .slots) (o .payloads))
-
   -- the entries after are those of the list, by the answer
   abbrev Then : PushOutcome → Type 0
-  Then o = Seen-after w ws bs time p payload g gb r ht hs o → Right-after o
+  Then o = SeenAfter w ws bs time p payload o → RightAfter o
 
-  next-right : p .number ≡ nextOf w → Right-after (appendNextOf w ws bs time p payload)
+  next-right : p .number ≡ nextOf w → RightAfter (appendNextOf w ws bs time p payload)
   unfolding appendNextOf
   next-right n =
       by-test Then (eqb (w .held) (w .capacity)) _ _
@@ -97,7 +96,7 @@ module _ (w : Window) (ws bs : List ℕ) (time : ℕ) (p : Packet) (payload : Li
       ∙ sym (stepped 31 (p .number) (nextOf w))
       ∙ sum-sum 31 (w .seqno0) (w .held) (distance 31 (p .number) (nextOf w))
 
-  loss-right : order 31 (p .number) (nextOf w) ≡ After → Right-after (appendWithLossOf w ws bs time p payload (distance 31 (p .number) (nextOf w)))
+  loss-right : order 31 (p .number) (nextOf w) ≡ After → RightAfter (appendWithLossOf w ws bs time p payload (distance 31 (p .number) (nextOf w)))
   unfolding appendWithLossOf
   loss-right n =
       let gap = distance 31 (p .number) (nextOf w) in
@@ -112,7 +111,7 @@ module _ (w : Window) (ws bs : List ℕ) (time : ℕ) (p : Packet) (payload : Li
       ∙ ap (numberIn w) (sym (ap gapIn (append-assoc es (replicate gap (lost 2 time)) (packetSeen p payload ∷ [])) ∙ lost-behind es gap 2 time (packetSeen p payload ∷ []) some))))
       (loss-seen w ws bs time p payload g gb r ht hs)
 
-  recovered-right : (i : ℕ) → i ≡ distance 31 (p .number) (w .seqno0) → i < w .held → words.isLost (entryIn w ws i) ≡ true → Right-after (recoveredOf w ws bs time p payload i)
+  recovered-right : (i : ℕ) → i ≡ distance 31 (p .number) (w .seqno0) → i < w .held → words.isLost (entryIn w ws i) ≡ true → RightAfter (recoveredOf w ws bs time p payload i)
   unfolding recoveredOf
   recovered-right i d h u =
       let pk = packetSeen p payload in
@@ -142,20 +141,20 @@ module _ (w : Window) (ws bs : List ℕ) (time : ℕ) (p : Packet) (payload : Li
       not-received bs s (Received n l m t) e = impossible (sym e)
       not-received bs s GivenUp e = refl
 
-  recover-right : before 31 (p .number) (nextOf w) ≡ true → Right-after (recoverOf w ws bs time p payload)
+  recover-right : before 31 (p .number) (nextOf w) ≡ true → RightAfter (recoverOf w ws bs time p payload)
   unfolding recoverOf
   recover-right b =
       let i = distance 31 (p .number) (w .seqno0) in
-      by-test Right-after (before 31 (p .number) (w .seqno0)) _ _
+      by-test RightAfter (before 31 (p .number) (w .seqno0)) _ _
       (λ t. l)
-      (λ t. by-test Right-after (words.isLost (entryIn w ws i)) _ _ (λ u. recovered-right i refl (within 31 (p .number) (w .seqno0) (w .held) b t) u) (λ u. l))
+      (λ t. by-test RightAfter (words.isLost (entryIn w ws i)) _ _ (λ u. recovered-right i refl (within 31 (p .number) (w .seqno0) (w .held) b t) u) (λ u. l))
 
   -- lrsn after a push
-  pub push-right : Right-after (pushOf w ws bs time p payload)
+  pub push-right : RightAfter (pushOf w ws bs time p payload)
   unfolding pushOf
   push-right = go (order 31 (p .number) (nextOf w)) refl
     where
-      go : (o : Order) → order 31 (p .number) (nextOf w) ≡ o → Right-after (push.byOrder w ws bs time p payload o)
+      go : (o : Order) → order 31 (p .number) (nextOf w) ≡ o → RightAfter (push.byOrder w ws bs time p payload o)
       go Equal q = next-right (distance-zero 31 (r .number) (sum-below 31 (w .seqno0) (w .held)) (order-equal 31 (p .number) (nextOf w) q))
       go After q = loss-right q
       go Before q = recover-right (order-before 31 (p .number) (nextOf w) q)

@@ -18,19 +18,21 @@ use Rattle.numbers.proofs.Circle.{stepped, around, before-not, within, order-be
 use Rattle.numbers.proofs.Places.{place-distance}
 use Rattle.numbers.proofs.Steps.{is-before}
 use Rattle.slots.specs.Words as words
-use Rattle.slots.specs.Words.{Fit, writeAt}
+use Rattle.slots.specs.Words.{writeAt}
+use Rattle.slots.specs.Ready.{Fit}
 use Rattle.slots.specs.Ring.{withPayload}
 use Rattle.slots.specs.declared.entry.Entry.{Entry}
 use Rattle.slots.specs.declared.entry.Entry.the-variants.{Lost}
 use Rattle.slots.proofs.Laws.{read-same, payload-same, slot-lt, slot-apart}
-use Rattle.window.specs.Window.{Good, Bytes, slotIn, entryIn, nextOf, numberIn, roomOf}
+use Rattle.window.specs.Window.{slotIn, entryIn, nextOf, numberIn, roomOf}
+use Rattle.window.specs.Ready.{Good, Bytes, PacketRight}
 use Rattle.window.specs.Push as push
-use Rattle.window.specs.Push.{PushOutcome, PacketRight, withLost, appendNextOf, appendWithLossOf, recoveredOf, recoverOf, pushOf}
+use Rattle.window.specs.Push.{PushOutcome, withLost, appendNextOf, appendWithLossOf, recoveredOf, recoverOf, pushOf}
 use Rattle.window.specs.declared.Window.{Window}
 use Rattle.window.specs.declared.push.Packet.{Packet}
 use Rattle.window.specs.declared.push.PushAnswer.the-variants as answers
 use Rattle.window.proofs.Pushes.{length-lost}
-use Rattle.views.specs.View.{Seen, lost, seenAt, entriesFrom, entries, packetSeen, afterPush}
+use Rattle.views.specs.View.{Seen, lost, seenAt, entriesFrom, entries, packetSeen, SeenAfter}
 use Rattle.views.proofs.Lists.{seen-other, seen-words, one-more, one-changed}
 
 module _ (w : Window) (ws bs : List ℕ) (time : ℕ) (p : Packet) (payload : List ℕ) (g : Good w ws) (gb : Bytes w bs) (r : PacketRight p payload) (ht : time < 2 ^ 60) (hs : p .stamp < 2 ^ 32) where
@@ -44,10 +46,10 @@ module _ (w : Window) (ws bs : List ℕ) (time : ℕ) (p : Packet) (payload : Li
   fit = omega arith
 
   in-area : (i : ℕ) → 1456 * slotIn w i + 1456 ≤ length bs
-  in-area i = omega (arith, slot-lt (w .capacity) (w .start) i (g .some))
+  in-area i = omega (arith, slot-lt (w .capacity) (w .start) i (g .ranges .some))
 
   in-words : (i : ℕ) (vs : List ℕ) → length vs ≡ length ws → 3 * slotIn w i + 3 ≤ length vs
-  in-words i vs h = omega (arith, slot-lt (w .capacity) (w .start) i (g .some))
+  in-words i vs h = omega (arith, slot-lt (w .capacity) (w .start) i (g .ranges .some))
 
   -- the packet's own slot, and another's
   own : (i : ℕ) (vs : List ℕ) → length vs ≡ length ws → seenAt (writeAt vs (slotIn w i) e) (withPayload bs (slotIn w i) payload) (slotIn w i) ≡ packetSeen p payload
@@ -55,16 +57,13 @@ module _ (w : Window) (ws bs : List ℕ) (time : ℕ) (p : Packet) (payload : Li
 
   other : (i j : ℕ) (vs : List ℕ) → i < w .capacity → j < w .capacity → (j ≡ i → ⊥)
       → seenAt (writeAt vs (slotIn w i) e) (withPayload bs (slotIn w i) payload) (slotIn w j) ≡ seenAt vs bs (slotIn w j)
-  other i j vs hi hj ne = seen-other vs bs (slotIn w i) e payload (slotIn w j) (r .bytes) (in-area i) (slot-apart (w .capacity) (w .start) (g .starts) j i hj hi ne)
-
-  abbrev pub Seen-after : PushOutcome → Type 0
-  Seen-after o = entries (o .pushed .window) (o .slots) (o .payloads) ≡ afterPush w time p payload es (o .pushed .answer)
+  other i j vs hi hj ne = seen-other vs bs (slotIn w i) e payload (slotIn w j) (r .bytes) (in-area i) (slot-apart (w .capacity) (w .start) (g .ranges .starts) j i hj hi ne)
 
   -- at the next expected number: one entry more
-  pub next-seen : Seen-after (appendNextOf w ws bs time p payload)
+  pub next-seen : SeenAfter w ws bs time p payload (appendNextOf w ws bs time p payload)
   unfolding appendNextOf
   next-seen =
-      by-test Seen-after (eqb (w .held) (w .capacity)) _ _
+      by-test (SeenAfter w ws bs time p payload) (eqb (w .held) (w .capacity)) _ _
       (λ t. refl)
       (λ t.
       let ne = eqb-false (w .held) (w .capacity) t in
@@ -85,21 +84,21 @@ module _ (w : Window) (ws bs : List ℕ) (time : ℕ) (p : Packet) (payload : Li
       let z : w .held + suc n ≡ k + 1 = omega arith in
       let own : seenAt (writeAt vs (slotIn w k) (Lost 2 time)) bs (slotIn w k) ≡ lost 2 time = rw (read-same vs (slotIn w k) (Lost 2 time) (in-words k vs (length-lost (w .capacity) (w .start) ws time (w .held) n)) (omega arith)) in
       rw z
-      (one-more (w .capacity) (w .start) vs bs (writeAt vs (slotIn w k) (Lost 2 time)) bs k (λ j l. seen-words vs bs (slotIn w k) (Lost 2 time) (slotIn w j) (slot-apart (w .capacity) (w .start) (g .starts) j k (omega arith) (omega arith) (omega arith)))
+      (one-more (w .capacity) (w .start) vs bs (writeAt vs (slotIn w k) (Lost 2 time)) bs k (λ j l. seen-words vs bs (slotIn w k) (Lost 2 time) (slotIn w j) (slot-apart (w .capacity) (w .start) (g .ranges .starts) j k (omega arith) (omega arith) (omega arith)))
       ∙ rw (own, lost-seen n (omega arith)) (append-assoc es (replicate n (lost 2 time)) (lost 2 time ∷ []) ∙ ap (λ (l : List Seen). es ++ l) (snoc n)))
     where
       snoc : (n : ℕ) → replicate n (lost 2 time) ++ (lost 2 time ∷ []) ≡ replicate (suc n) (lost 2 time)
       snoc n = replicate-append-replicate n 1 (lost 2 time) ∙ rw add-one
 
   -- .. and then the packet
-  pub loss-seen : Seen-after (appendWithLossOf w ws bs time p payload (distance 31 (p .number) (nextOf w)))
+  pub loss-seen : SeenAfter w ws bs time p payload (appendWithLossOf w ws bs time p payload (distance 31 (p .number) (nextOf w)))
   unfolding appendWithLossOf
   loss-seen =
       let gap = distance 31 (p .number) (nextOf w) in
       let k = w .held + gap in
       let vs = withLost (w .capacity) (w .start) ws time (w .held) gap in
       let z : w .held + (gap + 1) ≡ k + 1 = omega arith in
-      by-test Seen-after (ltb (roomOf w) (gap + 1)) _ _
+      by-test (SeenAfter w ws bs time p payload) (ltb (roomOf w) (gap + 1)) _ _
       (λ t. refl)
       (λ t.
       let l = ltb-false (roomOf w) (gap + 1) t in
@@ -108,7 +107,7 @@ module _ (w : Window) (ws bs : List ℕ) (time : ℕ) (p : Packet) (payload : Li
       ∙ rw (own k vs (length-lost (w .capacity) (w .start) ws time (w .held) gap), lost-seen gap (omega arith))))
 
   -- before it: one entry, which was lost, is the packet
-  pub recovered-seen : (i : ℕ) → i ≡ distance 31 (p .number) (w .seqno0) → i < w .held → Seen-after (recoveredOf w ws bs time p payload i)
+  pub recovered-seen : (i : ℕ) → i ≡ distance 31 (p .number) (w .seqno0) → i < w .held → SeenAfter w ws bs time p payload (recoveredOf w ws bs time p payload i)
   unfolding recoveredOf
   recovered-seen i d h =
       let z : 0 + i ≡ i = omega arith in
@@ -116,23 +115,23 @@ module _ (w : Window) (ws bs : List ℕ) (time : ℕ) (p : Packet) (payload : Li
       (one-changed (w .capacity) (w .start) ws bs (writeAt ws (slotIn w i) e) (withPayload bs (slotIn w i) payload) (w .held) 0 i h (λ j ne a b. other i j ws (omega arith) (omega arith) (omega (arith, ne)))
       ∙ rw z (ap (λ (x : Seen). set es i x) (own i ws refl)))
 
-  recover-seen : before 31 (p .number) (nextOf w) ≡ true → Seen-after (recoverOf w ws bs time p payload)
+  recover-seen : before 31 (p .number) (nextOf w) ≡ true → SeenAfter w ws bs time p payload (recoverOf w ws bs time p payload)
   unfolding recoverOf
   recover-seen b =
-      by-test Seen-after (before 31 (p .number) (w .seqno0)) _ _
+      by-test (SeenAfter w ws bs time p payload) (before 31 (p .number) (w .seqno0)) _ _
       (λ t. refl)
       (λ t.
       let i = distance 31 (p .number) (w .seqno0) in
-      by-test Seen-after (words.isLost (entryIn w ws i)) _ _
+      by-test (SeenAfter w ws bs time p payload) (words.isLost (entryIn w ws i)) _ _
       (λ u. recovered-seen i refl (within 31 (p .number) (w .seqno0) (w .held) b t))
       (λ u. refl))
 
   -- a push, by its answer
-  pub push-seen : Seen-after (pushOf w ws bs time p payload)
+  pub push-seen : SeenAfter w ws bs time p payload (pushOf w ws bs time p payload)
   unfolding pushOf
   push-seen = go (order 31 (p .number) (nextOf w)) refl
     where
-      go : (o : Order) → order 31 (p .number) (nextOf w) ≡ o → Seen-after (push.byOrder w ws bs time p payload o)
+      go : (o : Order) → order 31 (p .number) (nextOf w) ≡ o → SeenAfter w ws bs time p payload (push.byOrder w ws bs time p payload o)
       go Equal q = next-seen
       go After q = loss-seen
       go Before q = recover-seen (order-before 31 (p .number) (nextOf w) q)

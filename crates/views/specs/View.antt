@@ -1,24 +1,27 @@
 -- The entries of a window as a list, front first: what a reader of 01, "Window", thinks of.
 use mathlib.Core.Path.{_≡_}
-use mathlib.Core.Bool.{Bool, true, false, _&&_, cond}
+use mathlib.Core.Bool.{Bool, true, false, cond}
 use mathlib.Core.List.{List, [], _∷_, _++_, map}
-use Prim.Native.Nat.{ℕ, zero, suc, _+_, _*_, min}
-use lib.Dec.{ltb, leb}
-use lib.ListN.{set, drop, replicate}
+use Prim.Native.Nat.{ℕ, zero, suc, _+_, _*_, _<_, _≤_, min}
+use lib.Dec.{ltb}
+use lib.ListN.{length, set, take, drop, replicate}
 use Rattle.numbers.specs.Circular.{distance}
 use Rattle.slots.specs.Words.{entryAt}
 use Rattle.slots.specs.Ring.{slotOf, payloadAt}
 use Rattle.slots.specs.declared.entry.Entry.{Entry}
 use Rattle.slots.specs.declared.entry.Entry.the-variants.{Lost, Received, GivenUp}
 use Rattle.window.specs.Window.{numberIn, nextOf}
+use Rattle.window.specs.Push.{PushOutcome}
 use Rattle.window.specs.declared.Window.{Window}
 use Rattle.window.specs.declared.push.Packet.{Packet}
 use Rattle.window.specs.declared.push.PushAnswer.{PushAnswer}
 use Rattle.window.specs.declared.push.PushAnswer.the-variants as answers
+use Rattle.window_pop.specs.Pop.{PopOutcome}
 use Rattle.window_pop.specs.declared.pop.PopAnswer.{PopAnswer}
 use Rattle.window_pop.specs.declared.pop.PopAnswer.the-variants as pops
 use Rattle.window_report.specs.declared.report.ReportAnswer.{ReportAnswer}
 use Rattle.window_report.specs.declared.report.ReportAnswer.the-variants as reports
+use Rattle.views.specs.Lists.{runOf, changedIn}
 
 -- an entry with its bytes
 pub data Seen : Type 0 where
@@ -48,9 +51,8 @@ isReceived (received l m t b) = true
 isReceived givenUp = false
 
 -- how many entries are received before the first that is not
-unfoldable pub gapIn : List Seen → ℕ
-gapIn [] = 0
-gapIn (e ∷ es) = cond (isReceived e) (suc (gapIn es)) 0
+abbrev pub gapIn : List Seen → ℕ
+gapIn es = runOf isReceived es
 
 -- lrsn names the first held entry not received, else the next expected number
 abbrev pub LrsnRight : Window → List Seen → Type 0
@@ -69,6 +71,14 @@ afterPush w time p payload es (answers.PacketTooEarly room need) = es
 afterPush w time p payload es answers.PacketTooLate = es
 afterPush w time p payload es answers.DiscardedDuplicate = es
 
+-- the entries after a push are that list
+abbrev pub SeenAfter : Window → List ℕ → List ℕ → ℕ → Packet → List ℕ → PushOutcome → Type 0
+SeenAfter w ws bs time p payload o = entries (o .pushed .window) (o .slots) (o .payloads) ≡ afterPush w time p payload (entries w ws bs) (o .pushed .answer)
+
+-- lrsn is right after a push
+abbrev pub RightAfter : PushOutcome → Type 0
+RightAfter o = LrsnRight (o .pushed .window) (entries (o .pushed .window) (o .slots) (o .payloads))
+
 -- what a pop does to the list, by its answer: a message takes its packets off the front, a late drop its range
 abbrev pub afterPop : List Seen → PopAnswer → List Seen
 afterPop es pops.Nothing = es
@@ -86,6 +96,14 @@ unfoldable pub joined : List Seen → List ℕ
 joined [] = []
 joined (e ∷ es) = bytesIn e ++ joined es
 
+-- a message's output is the bytes of its entries, one after the other, all of them received; past them the output stays
+pub record Handed (w : Window) (es : List Seen) (out : List ℕ) (x : PopOutcome) (bytes packets : ℕ) : Type 0 where
+  pub some : 0 < packets
+  pub held : packets ≤ w .held
+  pub whole : packets ≤ gapIn es
+  pub long : bytes ≡ length (joined (take packets es))
+  pub output : x .output ≡ joined (take packets es) ++ drop bytes out
+
 -- what a loss report does to the list: only k and feedback of lost entries that are due change
 abbrev pub reportedSeen : ℕ → ℕ → Seen → Seen
 reportedSeen time mean (lost k f) = cond (ltb (f + k * mean) time) (lost (min (k + 1) 65535) time) (lost k f)
@@ -97,12 +115,11 @@ afterReport time mean es reports.Nothing = es
 afterReport time mean es (reports.Report words) = map (reportedSeen time mean) es
 afterReport time mean es reports.ListShort = es
 
--- what a drop request does to the list: lost entries in its range, counted from the front, are given up; the first of the list is entry i
+-- what a drop request does to the list: lost entries in its range, counted from the front, are given up
 abbrev pub gaveUp : Seen → Seen
 gaveUp (lost k f) = givenUp
 gaveUp (received l m t b) = received l m t b
 gaveUp givenUp = givenUp
 
-unfoldable pub givenIn : ℕ → ℕ → ℕ → List Seen → List Seen
-givenIn from to i [] = []
-givenIn from to i (e ∷ es) = cond (leb from i && ltb i to) (gaveUp e) e ∷ givenIn from to (suc i) es
+abbrev pub givenIn : ℕ → ℕ → ℕ → List Seen → List Seen
+givenIn from to i es = changedIn gaveUp from to i es

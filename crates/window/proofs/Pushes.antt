@@ -14,16 +14,18 @@ use Rattle.numbers.specs.declared.seq.Order.{Order}
 use Rattle.numbers.specs.declared.seq.Order.the-variants.{Before, Equal, After}
 use Rattle.numbers.proofs.Circle.{distance-below, before-at, before-not, within, order-before}
 use Rattle.slots.specs.Words.{isLost, entryAt, writeAt}
-use Rattle.slots.specs.Ring.{slotOf, nextSlot, withPayload}
+use Rattle.slots.specs.Ring.{slotOf, withPayload}
+use Rattle.slots.specs.Inner.{nextSlot}
 use Rattle.slots.specs.declared.entry.Entry.{Entry}
 use Rattle.slots.specs.declared.entry.Entry.the-variants.{Lost}
-use Rattle.slots.proofs.Laws.{length-write, slot-next}
-use Rattle.window.specs.Window.{Good, slotIn, nextOf, lrsnFrom, roomOf}
+use Rattle.slots.proofs.Laws.{length-write, slot-next, slot-words, slot-words-kept, slot-bytes}
+use Rattle.window.specs.Window.{slotIn, nextOf, lrsnFrom, roomOf}
+use Rattle.window.specs.Ready.{Good}
 use Rattle.window.specs.Push.{PushOutcome, pushEnded, received, movedPast, withLost, recoveredLrsn, refused, appendNextOf, appendWithLossOf, recoveredOf, recoverOf, pushOf}
 use Rattle.window.specs.declared.Window.{Window}
 use Rattle.window.specs.declared.push.Packet.{Packet}
 use Rattle.window.specs.declared.push.PushAnswer.the-variants as answers
-use Rattle.window.proofs.Walks.{walk-words, walk-words-kept, walk-bytes, walk-slot}
+use Rattle.window.proofs.Walks.{walk-slot}
 
 -- moved_past, recovered_lrsn
 pub moved : {l n x : ℕ} → l ≡ n → x ≡ successor 31 n → x ≡ movedPast l n
@@ -145,9 +147,9 @@ module _ (w : Window) (ws bs : List ℕ) (time : ℕ) (p : Packet) (payload : Li
     push-recover e f = rw (← a, ← b, e) f
 
 pub ruleset pushes = (
-  walk-words,
-  walk-words-kept,
-  walk-bytes,
+  slot-words,
+  slot-words-kept,
+  slot-bytes,
   walk-slot,
   moved,
   stayed,

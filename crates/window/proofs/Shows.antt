@@ -16,12 +16,12 @@ use Rattle.slots.specs.Words.{isReceived, entryAt}
 use Rattle.slots.specs.Ring.{slotOf}
 use Rattle.slots.specs.declared.entry.Entry.{Entry}
 use Rattle.slots.specs.declared.entry.Entry.the-variants.{Lost, Received, GivenUp}
-use Rattle.slots.proofs.Laws.{slot-lt, length-read}
-use Rattle.window.specs.Window.{Good, slotIn, entryIn}
+use Rattle.slots.proofs.Laws.{slot-lt, length-read, slot-words}
+use Rattle.window.specs.Window.{slotIn, entryIn}
+use Rattle.window.specs.Ready.{Good}
 use Rattle.window.specs.Show.{PartOf, ShownAt, nowhere, shownOf}
 use Rattle.window.specs.declared.Window.{Window}
-use Rattle.window.specs.declared.show.Place.{Place}
-use Rattle.window.proofs.Walks.{walk-words}
+use Rattle.window.specs.declared.show.Part.{Part}
 
 module _ (w : Window) (ws : List ℕ) (number : ℕ) {i : ℕ} (a : i ≡ distance 31 number (w .seqno0)) where
   pub not-held : w .held ≤ i → nowhere ≡ shownOf w ws number
@@ -29,7 +29,7 @@ module _ (w : Window) (ws : List ℕ) (number : ℕ) {i : ℕ} (a : i ≡ distan
   not-held h = rw (← a, le-ltb _ _ h)
 
   module _ {s : ℕ} {e : Entry} (h : i < w .held) (b : s ≡ slotIn w i) (c : e ≡ entryAt ws s) where
-    pub shows : {n l m t : ℕ} → e ≡ Received n l m t → _≡_ {A = Place} (record { received = true; at = 1456 * s; len = n }) (shownOf w ws number)
+    pub shows : {n l m t : ℕ} → e ≡ Received n l m t → _≡_ {A = Part} (record { received = true; at = 1456 * s; len = n }) (shownOf w ws number)
     unfolding shownOf
     shows d = rw (← a, lt-ltb _ _ h, ← b, ← c, d)
 
@@ -48,17 +48,17 @@ pub index-fits : (w : Window) {i : ℕ} → i < w .held → w .held ≤ w .capac
 index-fits w h k = omega arith
 
 -- what is shown lies within the area
-pub shown-within : (w : Window) (ws : List ℕ) (number : ℕ) {n : ℕ} {p : Place} → p ≡ shownOf w ws number → Good w ws → 1456 * w .capacity ≤ n → p .at + p .len ≤ n
+pub shown-within : (w : Window) (ws : List ℕ) (number : ℕ) {n : ℕ} {p : Part} → p ≡ shownOf w ws number → Good w ws → 1456 * w .capacity ≤ n → p .at + p .len ≤ n
 unfolding shownOf
 shown-within w ws number {n} e g h =
     let i = distance 31 number (w .seqno0) in
     rw e
-    (by-test (λ (q : Place). q .at + q .len ≤ n) (ltb i (w .held) && isReceived (entryIn w ws i)) _ _
-    (λ t. let l = slot-lt (w .capacity) (w .start) i (g .some) in let m = length-read ws (slotIn w i) in omega arith)
+    (by-test (λ (q : Part). q .at + q .len ≤ n) (ltb i (w .held) && isReceived (entryIn w ws i)) _ _
+    (λ t. let l = slot-lt (w .capacity) (w .start) i (g .ranges .some) in let m = length-read ws (slotIn w i) in omega arith)
     (λ t. omega arith))
 
 -- show: the part that `part` gives is the one that was found
-pub shown-part : (w : Window) (ws : List ℕ) (number : ℕ) {s r : RefT (List ℕ)} {p : Place} → p ≡ shownOf w ws number → PartOf s (p .at) (p .len) r → ShownAt (shownOf w ws number) s r
-shown-part w ws number {s} {r} e q = subst (λ (x : Place). ShownAt x s r) e q
+pub shown-part : (w : Window) (ws : List ℕ) (number : ℕ) {s r : RefT (List ℕ)} {p : Part} → p ≡ shownOf w ws number → PartOf s (p .at) (p .len) r → ShownAt (shownOf w ws number) s r
+shown-part w ws number {s} {r} e q = subst (λ (x : Part). ShownAt x s r) e q
 
-pub ruleset showing = (walk-words, not-held, shows, shows-no-lost, shows-no-given, place-fits, index-fits, shown-within, shown-part, needs)
+pub ruleset showing = (slot-words, not-held, shows, shows-no-lost, shows-no-given, place-fits, index-fits, shown-within, shown-part, needs)

@@ -2,15 +2,17 @@
 use mathlib.Core.Path.{_≡_, ap, sym, _∙_}
 use mathlib.Core.Bool.{Bool, true, false}
 use mathlib.Core.List.{List}
-use Prim.Native.Nat.{ℕ, zero, suc, _+_, _-_, _*_, _<_, _≤_}
+use Prim.Native.Nat.{ℕ, zero, suc, _+_, _-_, _<_, _≤_}
 use native.Mathlib.Omega.{arith}
 use borrow.Author.Needs.{needs}
 use Rattle.numbers.proofs.Flags.{by-test}
 use Rattle.slots.specs.Words.{isReceived, entryAt}
-use Rattle.slots.specs.Ring.{slotOf, nextSlot}
+use Rattle.slots.specs.Ring.{slotOf}
+use Rattle.slots.specs.Inner.{nextSlot}
 use Rattle.slots.specs.declared.entry.Entry.{Entry}
 use Rattle.slots.proofs.Laws.{slot-lt, slot-zero, slot-next, slot-words, slot-words-kept, slot-bytes}
-use Rattle.window.specs.Window.{Good, slotIn, numberIn, firstGap, lrsnFrom, cut}
+use Rattle.window.specs.Window.{slotIn, numberIn, firstGap, lrsnFrom, cut}
+use Rattle.window.specs.Ready.{Good}
 use Rattle.window.specs.declared.Window.{Window}
 
 -- a walk begins in the start slot
@@ -30,21 +32,14 @@ held-most k l = omega arith
 pub walk-on : (capacity start i : ℕ) {s t held : ℕ} → s ≡ slotOf capacity start i → t ≡ nextSlot capacity s → start < capacity → i < held → held ≤ capacity → t ≡ slotOf capacity start (i + 1)
 walk-on capacity start i e f h k l = f ∙ rw e (sym (slot-next capacity start h i (omega arith)))
 
--- and it lies within the areas, also after writes that kept their length
-module _ (capacity start i : ℕ) {s n : ℕ} (e : s ≡ slotOf capacity start i) (h : start < capacity) where
-  pub walk-words : 3 * capacity ≤ n → 3 * s + 3 ≤ n
-  walk-words k = slot-words capacity start i (omega arith) e k
-
-  pub walk-words-kept : {m : ℕ} → n ≡ m → 3 * capacity ≤ m → 3 * s + 3 ≤ n
-  walk-words-kept f k = slot-words-kept capacity start i (omega arith) e f k
-
-  pub walk-bytes : 1456 * capacity ≤ n → 1456 * s + 1456 ≤ n
-  walk-bytes k = slot-bytes capacity start i (omega arith) e k
-
 -- `cut_front` and `search_lrsn`
 pub cuts : (w : Window) (n : ℕ) {s x : ℕ} → s ≡ slotIn w n → x ≡ numberIn w n
     → _≡_ {A = Window} (record { capacity = w .capacity; start = s; held = w .held - n; seqno0 = x; lrsn = w .lrsn }) (cut w n)
 cuts w n e f = rw (e, f)
+
+-- a turn less to go
+pub one-less : {i held : ℕ} → i < held → held - i ≡ suc (held - (i + 1))
+one-less h = omega arith
 
 -- the search for the first entry not received
 module _ (capacity start : ℕ) (ws : List ℕ) (i held : ℕ) where
@@ -53,16 +48,13 @@ module _ (capacity start : ℕ) (ws : List ℕ) (i held : ℕ) where
   gap-end h = let e : held - i ≡ 0 = omega arith in rw e
 
   module _ (h : i < held) where
-    left : held - i ≡ suc (held - (i + 1))
-    left = omega arith
-
     pub gap-here : isReceived (entryAt ws (slotOf capacity start i)) ≡ false → firstGap capacity start ws i (held - i) ≡ i
     unfolding firstGap
-    gap-here t = rw left (rw t)
+    gap-here t = rw (one-less h) (rw t)
 
     pub gap-on : isReceived (entryAt ws (slotOf capacity start i)) ≡ true → firstGap capacity start ws i (held - i) ≡ firstGap capacity start ws (i + 1) (held - (i + 1))
     unfolding firstGap
-    gap-on t = rw left (rw t)
+    gap-on t = rw (one-less h) (rw t)
 
 -- it stays within the entries that it is given
 pub gap-le : (capacity start : ℕ) (ws : List ℕ) (n i : ℕ) → firstGap capacity start ws i n ≤ i + n
@@ -94,4 +86,4 @@ searched w ws i e f = f ∙ ap (numberIn w) e
 pub gap-small : (w : Window) (ws : List ℕ) (i : ℕ) {g : ℕ} → g ≡ firstGap (w .capacity) (w .start) ws i (w .held - i) → Good w ws → i ≤ w .held → g ≤ 8192
 gap-small w ws i e g h = gap-bound (w .capacity) (w .start) ws i (w .held) e h (omega arith)
 
-pub ruleset walks = (walk-words, walk-words-kept, walk-bytes, walk-slot, walk-on, cuts, gap-again, gap-found, gap-done, searched, gap-small, needs)
+pub ruleset walks = (slot-words, slot-words-kept, slot-bytes, walk-slot, walk-on, cuts, gap-again, gap-found, gap-done, searched, gap-small, needs)

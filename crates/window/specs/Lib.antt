@@ -2,3 +2,4 @@
 pub mod Window
 pub mod Push
 pub mod Show
+pub mod Ready

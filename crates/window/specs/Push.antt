@@ -1,7 +1,7 @@
 -- Push: 01, "Window", from "Next expected" to "else next expected", with refusals 7 to 10.
 use mathlib.Core.Bool.{true, false, cond}
 use mathlib.Core.List.{List}
-use Prim.Native.Nat.{ℕ, zero, suc, _+_, _-_, _^_, _<_, _≤_}
+use Prim.Native.Nat.{ℕ, zero, suc, _+_, _-_, _^_}
 use lib.Dec.{ltb, eqb}
 use lib.ListN.{length}
 use Rattle.numbers.specs.Circular.{distance, before, sum, successor}
@@ -27,13 +27,6 @@ pub record PushOutcome : Type 0 where
 
 abbrev pub pushEnded : Pushed → List ℕ → List ℕ → PushOutcome
 pushEnded r ws bs = record { pushed = r; slots = ws; payloads = bs }
-
--- what refusals 5 and 6 have shown of a packet
-pub record PacketRight (p : Packet) (payload : List ℕ) : Type 0 where
-  pub number : p .number < 2 ^ 31
-  pub message : p .message < 2 ^ 26
-  pub location : p .location < 4
-  pub bytes : length payload ≤ 1456
 
 -- the entry that a packet becomes
 abbrev pub received : Packet → List ℕ → Entry

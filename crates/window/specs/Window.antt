@@ -1,34 +1,23 @@
 -- The window's numbers and entries: 01, "Head and lent areas" and "Window".
-use mathlib.Core.Bool.{cond}
+use mathlib.Core.Bool.{Bool, _&&_, cond}
 use mathlib.Core.List.{List}
-use Prim.Native.Nat.{ℕ, zero, suc, _+_, _-_, _*_, _^_, _<_, _≤_}
-use lib.ListN.{length}
+use Prim.Native.Nat.{ℕ, zero, suc, _+_, _-_, _^_}
+use lib.Dec.{ltb, leb}
 use Rattle.numbers.specs.Circular.{sum}
 use Rattle.slots.specs.Words.{isReceived, entryAt}
 use Rattle.slots.specs.Ring.{slotOf}
 use Rattle.slots.specs.declared.entry.Entry.{Entry}
 use Rattle.window.specs.declared.Window.{Window}
 
--- capacity 1 to 8,192; start slot under capacity; held count 0..capacity; sequence numbers under 2^31; three words a slot
-pub record Good (w : Window) (ws : List ℕ) : Type 0 where
-  pub some : 0 < w .capacity
-  pub most : w .capacity ≤ 8192
-  pub starts : w .start < w .capacity
-  pub holds : w .held ≤ w .capacity
-  pub first : w .seqno0 < 2 ^ 31
-  pub next : w .lrsn < 2 ^ 31
-  pub words : 3 * w .capacity ≤ length ws
-
--- the part of it that a walk of the ring needs
-pub record Ring (capacity start held : ℕ) (ws : List ℕ) : Type 0 where
-  pub most : capacity ≤ 8192
-  pub starts : start < capacity
-  pub holds : held ≤ capacity
-  pub words : 3 * capacity ≤ length ws
-
--- and 1,456 bytes a slot
-abbrev pub Bytes : Window → List ℕ → Type 0
-Bytes w bs = 1456 * w .capacity ≤ length bs
+-- capacity 1 to 8,192, start slot (under capacity), held count (0..capacity), seqno0, lrsn
+abbrev pub windowOk : Window → Bool
+windowOk w =
+    leb 1 (w .capacity)
+    && leb (w .capacity) 8192
+    && ltb (w .start) (w .capacity)
+    && leb (w .held) (w .capacity)
+    && ltb (w .seqno0) (2 ^ 31)
+    && ltb (w .lrsn) (2 ^ 31)
 
 -- entry i lies in slot (start + i) mod capacity
 abbrev pub slotIn : Window → ℕ → ℕ

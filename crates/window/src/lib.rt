@@ -5,7 +5,8 @@ pub mod show;
 
 ghost use mathlib.Core.Path.{_≡_};
 ghost use Prim.Native.Nat.{_-_, _<_, _≤_};
-ghost use Rattle.window.specs.Window.{Ring, Good, numberIn, firstGap, lrsnFrom, cut, roomOf};
+ghost use Rattle.window.specs.Window.{numberIn, firstGap, lrsnFrom, cut, roomOf};
+ghost use Rattle.window.specs.Ready.{Ring, Good};
 
 // Entry i, under held, has the number seqno0 + i and lies in slot (start + i) mod capacity.
 pub struct Window {

@@ -15,9 +15,9 @@ use Rattle.window.specs.Window.{entryIn}
 use Rattle.window.specs.declared.Window.{Window}
 use Rattle.window_pop.specs.declared.pop.Message.{Message}
 use Rattle.window_pop.specs.Pop.{runFrom, messageOf, filled}
-use Rattle.window.proofs.Walks.{walk-words, walk-bytes, walk-slot, walk-on}
-use Rattle.window_pop.proofs.Runs.{walk-start, run-bytes, run-fits}
-use Rattle.slots.proofs.Laws.{length-read}
+use Rattle.window.proofs.Walks.{walk-slot, walk-on, walk-start}
+use Rattle.window_pop.proofs.Runs.{run-bytes, run-fits}
+use Rattle.slots.proofs.Laws.{length-read, slot-words, slot-bytes}
 
 -- put_payload: the part of the area is the slot's payload
 payload-long : (bs : List ℕ) (s n : ℕ) → n ≤ 1456 → 1456 * s + 1456 ≤ length bs → length (payloadAt bs s n) ≡ n
@@ -82,7 +82,7 @@ module _ (capacity start : ℕ) (ws bs out : List ℕ) where
       let s = slotOf capacity start i in
       let n = lengthIn (entryAt ws s) in
       let r = fill-length i (omega arith) hs hb in
-      let l = payload-long bs s n (length-read ws s) (walk-bytes capacity start i refl hs hb) in
+      let l = payload-long bs s n (length-read ws s) (slot-bytes capacity start i refl hs hb) in
       length-paste (filled capacity start ws bs out i .out) (filled capacity start ws bs out i .at) (payloadAt bs s n) n (omega arith) (omega arith) ∙ r
 
   -- so each payload has room if the last has
@@ -149,8 +149,8 @@ pub ruleset fills = (
   fill-room,
   fill-same,
   read-most,
-  walk-words,
-  walk-bytes,
+  slot-words,
+  slot-bytes,
   walk-slot,
   walk-on,
   walk-start,

@@ -21,10 +21,11 @@ use Rattle.clock.proofs.Kept.{instant-near}
 use Rattle.slots.specs.Words.{isReceived, entryAt, stampIn, isFirst}
 use Rattle.slots.specs.Ring.{slotOf}
 use Rattle.slots.specs.declared.entry.Entry.{Entry}
-use Rattle.window_pop.specs.Pop.{isLate, isKept, walkedTo, walkPast, walkFrom, noWalk, dueOf, limitOf}
+use Rattle.window_pop.specs.Pop.{isLate, walkedTo, walkFrom, noWalk, dueOf, limitOf}
+use Rattle.window_pop.specs.Inner.{isKept, walkPast}
 use Rattle.window_pop.specs.declared.pop.Walk.{Walk}
-use Rattle.window.proofs.Walks.{walk-words, walk-slot, walk-on}
-use Rattle.window_pop.proofs.Runs.{walk-start}
+use Rattle.window.proofs.Walks.{walk-slot, walk-on, walk-start}
+use Rattle.slots.proofs.Laws.{slot-words}
 
 -- a latency as a signed number
 pub latency-reads : (latency : ℕ) → latency ≤ 65535000 → toZ w64 latency ≡ pos latency
@@ -205,7 +206,7 @@ pub ruleset lates = (
   late-end,
   late-found,
   late-again,
-  walk-words,
+  slot-words,
   walk-slot,
   walk-on,
   walk-start,

@@ -17,7 +17,8 @@ use Rattle.clock.specs.Ranges.{clockOk}
 use Rattle.clock.specs.declared.time.SynchronizedRemoteClock.{SynchronizedRemoteClock}
 use Rattle.clock.proofs.Kept.{release-kept}
 use Rattle.slots.specs.Words.{isReceived, stampIn}
-use Rattle.window.specs.Window.{Good, Bytes, entryIn, numberIn, cut}
+use Rattle.window.specs.Window.{entryIn, numberIn, cut}
+use Rattle.window.specs.Ready.{Good, Bytes}
 use Rattle.window_pop.specs.Pop.{PopOutcome, popEnded, messageOf, filled, walkFrom, noWalk, dueOf, limitOf, nothing, discardFront, discarded, releasedOf, lateOf, frontOf, popOf}
 use Rattle.window.specs.declared.Window.{Window}
 use Rattle.window_pop.specs.declared.pop.Walk.{Walk}
@@ -31,7 +32,11 @@ pub discard-good : (w : Window) (ws : List ℕ) (n : ℕ) → Good w ws → n �
 unfolding discardFront
 discard-good w ws n g h =
     let c : Good (cut w n) ws = cut-good n refl g h in
-    record { some = c .some; most = c .most; starts = c .starts; holds = c .holds; first = c .first; next = sum-below 31 _ _; words = c .words }
+    let r = c .ranges in
+    record {
+      ranges = record { some = r .some; most = r .most; starts = r .starts; holds = r .holds; seqno0 = r .seqno0; lrsn = sum-below 31 _ _ };
+      words = c .words;
+    }
 
 -- what a message and a late drop leave
 pub record Delivered (w : Window) (out : List ℕ) (x : PopOutcome) (bytes packets : ℕ) : Type 0 where

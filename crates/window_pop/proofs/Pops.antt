@@ -22,8 +22,10 @@ use Rattle.slots.specs.Words.{isReceived, entryAt, stampIn}
 use Rattle.slots.specs.declared.entry.Entry.{Entry}
 use Rattle.slots.specs.declared.entry.Entry.the-variants.{GivenUp}
 use Rattle.slots.proofs.Laws.{slot-lt}
-use Rattle.window.specs.Window.{Good, Ring, entryIn, lrsnFrom, cut}
-use Rattle.window_pop.specs.Pop.{popEnded, messageOf, filled, walkFrom, noWalk, frontIn, dueOf, limitOf, discardFront, discarded, releasedOf, lateOf, frontOf, popOf}
+use Rattle.window.specs.Window.{entryIn, lrsnFrom, cut}
+use Rattle.window.specs.Ready.{Good, Ring}
+use Rattle.window_pop.specs.Pop.{popEnded, messageOf, filled, walkFrom, noWalk, dueOf, limitOf, discardFront, discarded, releasedOf, lateOf, frontOf, popOf}
+use Rattle.window_pop.specs.Inner.{frontIn}
 use Rattle.window.specs.declared.Window.{Window}
 use Rattle.window_pop.specs.declared.pop.Message.{Message}
 use Rattle.window_pop.specs.declared.pop.Walk.{Walk}
@@ -40,10 +42,13 @@ popped w k a = record { window = w; clock = k; answer = a }
 -- discard_front: what is left of a window is one
 pub cut-good : {w c : Window} {ws : List ℕ} (n : ℕ) → c ≡ cut w n → Good w ws → n ≤ w .held → Good c ws
 cut-good {w} n e g h =
-    let s = slot-lt (w .capacity) (w .start) n (g .some) in
+    let s = slot-lt (w .capacity) (w .start) n (g .ranges .some) in
     let f = sum-below 31 (w .seqno0) n in
     rw e
-    (record { some = g .some; most = g .most; starts = s; holds = omega (arith, g .holds); first = f; next = g .next; words = g .words })
+    (record {
+      ranges = record { some = g .ranges .some; most = g .ranges .most; starts = s; holds = omega (arith, g .ranges .holds); seqno0 = f; lrsn = g .ranges .lrsn };
+      words = g .words;
+    })
 
 pub front-discarded : (w : Window) (ws : List ℕ) (n : ℕ) {c : Window} {l : ℕ} → c ≡ cut w n → l ≡ lrsnFrom c ws 0
     → _≡_ {A = Window} (record { capacity = c .capacity; start = c .start; held = c .held; seqno0 = c .seqno0; lrsn = l }) (discardFront w ws n)
@@ -81,7 +86,7 @@ module _ (k : SynchronizedRemoteClock) (latency : ℕ) (drop : Bool) (w : Window
 -- release
 pub front-ring : (w : Window) (ws : List ℕ) {m : Message} → m ≡ messageOf w ws → 0 < m .packets → Good w ws → Ring (w .capacity) (w .start) (m .packets) ws
 front-ring w ws c h g =
-    record { most = g .most; starts = g .starts; holds = omega (arith, front-held w ws c h, g .holds); words = g .words }
+    record { most = g .ranges .most; starts = g .ranges .starts; holds = omega (arith, front-held w ws c h, g .ranges .holds); words = g .words }
 
 module _ (k : SynchronizedRemoteClock) (w : Window) (ws bs out : List ℕ) (stamp : ℕ) (m : Message) where
   pub release-short : length out < m .bytes → popEnded (popped w k answers.OutShort) out ≡ releasedOf k w ws bs out stamp m

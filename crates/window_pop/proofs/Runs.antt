@@ -2,7 +2,7 @@
 use mathlib.Core.Path.{_≡_, ap, sym, _∙_}
 use mathlib.Core.Bool.{Bool, true, false, cond}
 use mathlib.Core.List.{List}
-use Prim.Native.Nat.{ℕ, suc, _+_, _-_, _*_, _<_, _≤_}
+use Prim.Native.Nat.{ℕ, _+_, _-_, _*_, _<_, _≤_}
 use native.Mathlib.Omega.{arith}
 use borrow.Author.Needs.{needs}
 use mir.Syntax.{w64}
@@ -10,16 +10,13 @@ use mir.Val.{Fits}
 use Rattle.slots.specs.Words.{entryAt, lengthIn, isFirst, isLast, inMessage, messageIn}
 use Rattle.slots.specs.Ring.{slotOf}
 use Rattle.slots.specs.declared.entry.Entry.{Entry}
-use Rattle.slots.proofs.Laws.{slot-zero, length-read}
-use Rattle.window.specs.Window.{Ring, entryIn}
+use Rattle.slots.proofs.Laws.{length-read, slot-words}
+use Rattle.window.specs.Window.{entryIn}
+use Rattle.window.specs.Ready.{Ring}
 use Rattle.window_pop.specs.Pop.{noMessage, runFrom, messageOf}
 use Rattle.window.specs.declared.Window.{Window}
 use Rattle.window_pop.specs.declared.pop.Message.{Message}
-use Rattle.window.proofs.Walks.{walk-words, walk-slot, walk-on}
-
--- a walk from the front starts in the start slot
-pub walk-start : (capacity start : ℕ) → start < capacity → start ≡ slotOf capacity start 0
-walk-start capacity start h = sym (slot-zero capacity start h)
+use Rattle.window.proofs.Walks.{walk-start, one-less, walk-slot, walk-on}
 
 -- count_run: a turn, its ways out, its start and its end
 pub run-start : (capacity start : ℕ) (ws : List ℕ) (message held : ℕ)
@@ -32,9 +29,6 @@ module _ (capacity start : ℕ) (ws : List ℕ) (message i total held : ℕ) whe
   run-none h = let e : held - i ≡ 0 = omega arith in rw e
 
   module _ (h : i < held) where
-    left : held - i ≡ suc (held - (i + 1))
-    left = omega arith
-
     abbrev here : Entry
     here = entryAt ws (slotOf capacity start i)
 
@@ -43,7 +37,7 @@ module _ (capacity start : ℕ) (ws : List ℕ) (message i total held : ℕ) whe
         (cond (isLast here) (record { packets = i + 1; bytes = total + lengthIn here }) (runFrom capacity start ws message (i + 1) (total + lengthIn here) (held - (i + 1))))
         noMessage
     unfolding runFrom
-    run-here = rw left
+    run-here = rw (one-less h)
 
   module _ {r : Message} (a : r ≡ runFrom capacity start ws message i total (held - i)) where
     pub run-end : held ≤ i → noMessage ≡ r
@@ -80,7 +74,7 @@ module _ (w : Window) (ws : List ℕ) {e : Entry} {t : Bool} (c : e ≡ entryAt 
   front-none f = rw (← front-entry w ws c h, ← d, f)
 
 pub ruleset runs = (
-  walk-words,
+  slot-words,
   walk-slot,
   walk-on,
   walk-start,

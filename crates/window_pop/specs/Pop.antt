@@ -1,9 +1,9 @@
 -- Pop: 01, "Window", from "Pop: if the front is received" to "+ latency)".
 use mathlib.Core.Bool.{Bool, not, _&&_, _||_, cond}
 use mathlib.Core.List.{List}
-use Prim.Native.Nat.{ℕ, zero, suc, _+_, _^_, _<_, _≤_}
+use Prim.Native.Nat.{ℕ, zero, suc, _+_}
 use lib.Dec.{ltb, eqb}
-use lib.IntN.{ℤ, pos, natAbs, _+ℤ_, _-ℤ_}
+use lib.IntN.{ℤ, pos, _+ℤ_, _-ℤ_}
 use lib.ListN.{length}
 use lib.Seq.{paste}
 use lib.Signed.{ltZ, leZ}
@@ -15,8 +15,7 @@ use Rattle.clock.specs.declared.time.SynchronizedRemoteClock.{SynchronizedRemot
 use Rattle.slots.specs.Words.{isReceived, entryAt, lengthIn, stampIn, messageIn, isFirst, isLast, inMessage}
 use Rattle.slots.specs.Ring.{slotOf, payloadAt}
 use Rattle.slots.specs.declared.entry.Entry.{Entry}
-use Rattle.slots.specs.declared.entry.Entry.the-variants.{GivenUp}
-use Rattle.window.specs.Window.{Good, Bytes, entryIn, numberIn, lrsnFrom, cut, withLrsn}
+use Rattle.window.specs.Window.{entryIn, numberIn, lrsnFrom, cut, withLrsn}
 use Rattle.window.specs.declared.Window.{Window}
 use Rattle.window_pop.specs.declared.pop.Message.{Message}
 use Rattle.window_pop.specs.declared.pop.Walk.{Walk}
@@ -76,13 +75,6 @@ walkedTo k i e = record { count = i + 1; first = cond (eqb (k .count) 0) (stampI
 -- no received entry walked
 abbrev pub noWalk : Walk
 noWalk = record { count = 0; first = 0 }
-
--- an entry that ends the walk, and the walk after one that does not: entry i
-unfoldable pub isKept : TimeBase → ℤ → Entry → Bool
-isKept base limit e = isReceived e && not (isLate base limit e)
-
-unfoldable pub walkPast : Walk → ℕ → Entry → Walk
-walkPast k i e = cond (isReceived e) (walkedTo k i e) k
 
 -- the walk over entries not received, or late: how many entries go through the last received one walked, and the stamp of the first
 unfoldable pub walkFrom : TimeBase → ℤ → ℕ → ℕ → List ℕ → ℕ → Walk → ℕ → Walk
@@ -153,15 +145,3 @@ module _ (k : SynchronizedRemoteClock) (latency : ℕ) (drop : Bool) (w : Window
         cond (ltb 0 (w .held) && isReceived (entryIn w ws 0))
         (frontOf (stampIn (entryIn w ws 0)))
         (popEnded lateOf out)
-
--- the front, or given up where there is none: `popOf` by one test, as the code has it
-unfoldable pub frontIn : Window → List ℕ → Entry
-frontIn w ws = cond (eqb (w .held) 0) GivenUp (entryIn w ws 0)
-
--- what the tests of head, areas and reading have shown
-pub record PopReady (k : SynchronizedRemoteClock) (latency : ℕ) (w : Window) (ws bs : List ℕ) (now : ℤ) : Type 0 where
-  pub good : Good w ws
-  pub payloads : Bytes w bs
-  pub reference : natAbs (k .base .time) ≤ 2 ^ 61
-  pub reading : natAbs now < 2 ^ 60
-  pub setting : latency ≤ 65535000

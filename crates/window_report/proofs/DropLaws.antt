@@ -10,8 +10,9 @@ use Rattle.slots.specs.Words.{isLost, entryAt}
 use Rattle.slots.specs.Ring.{slotOf}
 use Rattle.slots.specs.declared.entry.Entry.the-variants.{GivenUp}
 use Rattle.slots.proofs.Laws.{length-write, read-same, read-other, words-outside, slot-lt, slot-words, slot-apart}
-use Rattle.window.specs.Window.{Good, entryIn}
-use Rattle.window_report.specs.Drop.{Dropped, giveUp, sweep, endIn, dropFrom, dropTo, dropOf}
+use Rattle.window.specs.Window.{entryIn}
+use Rattle.window.specs.Ready.{Good}
+use Rattle.window_report.specs.Drop.{Dropped, giveUp, sweep, endIn, dropFrom, dropTo, dropOf, lostAmong}
 use Rattle.window.specs.declared.Window.{Window}
 
 -- one slot: the count grows by one at most, the words keep their number, and no other slot changes
@@ -91,14 +92,9 @@ module _ (capacity start : ℕ) (ws : List ℕ) (i : ℕ) where
         let e : i + n ≡ j = omega arith in
         let a = sweep-out n (omega arith) (λ m q p. omega arith) in
         rw e
-        (one-same (slotOf capacity start j) (sweep capacity start ws i n) (rw sweep-long (slot-words capacity start j (omega arith) refl w)) ∙ rw a))
+        (one-same (slotOf capacity start j) (sweep capacity start ws i n) (rw sweep-long (slot-words capacity start j refl hs w)) ∙ rw a))
 
--- how many of the n entries from entry i on are lost
-unfoldable pub lostAmong : ℕ → ℕ → List ℕ → ℕ → ℕ → ℕ
-lostAmong capacity start ws i zero = 0
-lostAmong capacity start ws i (suc n) = lostAmong capacity start ws i n + cond (isLost (entryAt ws (slotOf capacity start (i + n)))) 1 0
-
--- the count is that number: what is given up on the way is not counted again
+-- the count is the number of lost ones: what is given up on the way is not counted again
 pub sweep-counts : (capacity start : ℕ) (ws : List ℕ) (i n : ℕ) → start < capacity → i + n ≤ capacity → sweep capacity start ws i n .count ≡ lostAmong capacity start ws i n
 unfolding sweep giveUp lostAmong
 sweep-counts capacity start ws i zero hs h = refl
@@ -134,18 +130,18 @@ module _ (w : Window) (ws : List ℕ) (first last : ℕ) where
 
     pub drop-counts : dropped .count ≡ lostAmong (w .capacity) (w .start) ws (dropFrom w first) (dropTo w last - dropFrom w first)
     unfolding dropOf
-    drop-counts = sweep-counts (w .capacity) (w .start) ws (dropFrom w first) (dropTo w last - dropFrom w first) (g .starts) within
+    drop-counts = sweep-counts (w .capacity) (w .start) ws (dropFrom w first) (dropTo w last - dropFrom w first) (g .ranges .starts) within
 
     -- a lost entry in the range is given up, and every other entry is as it was
     pub drop-in : (j : ℕ) → dropFrom w first ≤ j → j < dropTo w last → entryIn w (dropped .slots) j ≡ cond (isLost (entryIn w ws j)) GivenUp (entryIn w ws j)
     unfolding dropOf
     drop-in j h k =
-        sweep-in (w .capacity) (w .start) ws (dropFrom w first) (g .starts) j (omega (arith, within)) (dropTo w last - dropFrom w first) (g .words) within h
+        sweep-in (w .capacity) (w .start) ws (dropFrom w first) (g .ranges .starts) j (omega (arith, within)) (dropTo w last - dropFrom w first) (g .words) within h
         (omega arith)
 
     drop-out : (j : ℕ) → j < w .capacity → ((m : ℕ) → m < dropTo w last - dropFrom w first → j ≡ dropFrom w first + m → ⊥) → entryIn w (dropped .slots) j ≡ entryIn w ws j
     unfolding dropOf
-    drop-out j h f = sweep-out (w .capacity) (w .start) ws (dropFrom w first) (g .starts) j h (dropTo w last - dropFrom w first) within f
+    drop-out j h f = sweep-out (w .capacity) (w .start) ws (dropFrom w first) (g .ranges .starts) j h (dropTo w last - dropFrom w first) within f
 
     pub drop-before : (j : ℕ) → j < w .capacity → j < dropFrom w first → entryIn w (dropped .slots) j ≡ entryIn w ws j
     drop-before j h k = drop-out j h (λ m l e. omega arith)

@@ -13,7 +13,8 @@ use Rattle.slots.specs.declared.entry.Entry.{Entry}
 use Rattle.slots.specs.declared.entry.Entry.the-variants.{GivenUp}
 use Rattle.window_report.specs.Drop.{Dropped, dropEnded, giveUp, sweep, endIn, dropOf}
 use Rattle.window.specs.declared.Window.{Window}
-use Rattle.window.proofs.Walks.{walk-words-kept, walk-slot, walk-on}
+use Rattle.window.proofs.Walks.{walk-slot, walk-on}
+use Rattle.slots.proofs.Laws.{slot-words-kept}
 use Rattle.window_report.proofs.DropLaws.{sweep-most, sweep-long}
 
 -- end_in
@@ -47,7 +48,7 @@ module _ (capacity start : ℕ) (ws : List ℕ) (from : ℕ) where
     sweep-same = ap (λ (x : Dropped). length (x .slots)) a ∙ sweep-long capacity start ws from (i - from)
 
     pub sweep-words : {s : ℕ} → s ≡ slotOf capacity start i → start < capacity → 3 * capacity ≤ length ws → 3 * s + 3 ≤ length words
-    sweep-words e h k = walk-words-kept capacity start i e h sweep-same k
+    sweep-words e h k = slot-words-kept capacity start i e h sweep-same k
 
     pub sweep-count : {to : ℕ} → i < to → to ≤ capacity → capacity ≤ 8192 → n ≤ 8192
     sweep-count h k l =

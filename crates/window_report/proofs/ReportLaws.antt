@@ -14,8 +14,9 @@ use Rattle.slots.specs.Words.{isLost, entryAt, writeReport}
 use Rattle.slots.specs.declared.entry.Entry.{Entry}
 use Rattle.slots.specs.declared.entry.Entry.the-variants.{Lost, Received, GivenUp}
 use Rattle.slots.proofs.Laws.{length-report, read-report, report-other, report-outside, slot-lt, slot-words, slot-apart}
-use Rattle.window.specs.Window.{Good}
-use Rattle.window_report.specs.Report.{isDue, kAfter, runWords, runsAfter, Within, slotNo, dueAt, slotsTo, runsTo, runPut, listTo, needed, reporting, reportOne, listAll, reportedTo, ReportOutcome, reportEnded, reportOf}
+use Rattle.window.specs.Ready.{Good}
+use Rattle.window_report.specs.Report.{isDue, kAfter, runWords, runsAfter, slotNo, dueAt, slotsTo, runsTo, runPut, listTo, needed, listAll, ReportOutcome, reportEnded, reportOf}
+use Rattle.window_report.specs.Inner.{Within, reporting, reportOne, reportedTo}
 use Rattle.window.specs.declared.Window.{Window}
 use Rattle.window_report.specs.declared.report.Runs.{Runs}
 use Rattle.window_report.specs.declared.report.ReportAnswer.the-variants as answers
@@ -208,22 +209,22 @@ module _ (w : Window) (ws : List ℕ) (time mean : ℕ) where
       let ih = slots-behind i j g ht l (omega arith) in
       let n : (j ≡ i → ⊥) = omega arith in
       by-test (λ (x : List ℕ). entryAt x (slotNo w ws time mean j) ≡ entryAfter j) (dueAt w ws time mean i) _ _
-      (λ t. report-other _ _ _ (slot-apart (w .capacity) (w .start) (g .starts) j i (omega arith) (omega arith) n) _ _ ∙ ih)
+      (λ t. report-other _ _ _ (slot-apart (w .capacity) (w .start) (g .ranges .starts) j i (omega arith) (omega arith) n) _ _ ∙ ih)
       (λ t. ih))
       (λ l.
       let e : j ≡ i = omega arith in
       rw e
       (same time mean (slotsTo w ws time mean i) (slotNo w ws time mean i) (entryAt ws (slotNo w ws time mean i))
-      (rw (length-slots i) (slot-words (w .capacity) (w .start) i (g .some) refl (g .words)))
+      (rw (length-slots i) (slot-words (w .capacity) (w .start) i refl (g .ranges .starts) (g .words)))
       ht
-      (slots-ahead i i (g .starts) (omega arith) (omega arith))))
+      (slots-ahead i i (g .ranges .starts) (omega arith) (omega arith))))
 
   -- a report changes only k and feedback time of due entries: those held, those that are not, and the words past the capacity
   pub report-held : (j : ℕ) → Good w ws → time < 2 ^ 60 → j < w .held → entryAt (slotsTo w ws time mean (w .held)) (slotNo w ws time mean j) ≡ entryAfter j
-  report-held j g ht h = slots-behind (w .held) j g ht h (g .holds)
+  report-held j g ht h = slots-behind (w .held) j g ht h (g .ranges .holds)
 
   pub report-not-held : (j : ℕ) → Good w ws → w .held ≤ j → j < w .capacity → entryAt (slotsTo w ws time mean (w .held)) (slotNo w ws time mean j) ≡ entryAt ws (slotNo w ws time mean j)
-  report-not-held j g h k = slots-ahead (w .held) j (g .starts) h k
+  report-not-held j g h k = slots-ahead (w .held) j (g .ranges .starts) h k
 
   pub report-past : (i : ℕ) → 0 < w .capacity → drop (3 * w .capacity) (slotsTo w ws time mean i) ≡ drop (3 * w .capacity) ws
   unfolding slotsTo

@@ -13,17 +13,19 @@ use mir.Syntax.{w32, w64}
 use mir.Val.{Fits}
 use Rattle.numbers.proofs.Flags.{by-bool}
 use Rattle.numbers.proofs.Circle.{sum-below}
-use Rattle.slots.specs.Words.{Fit, entryAt, writeReport}
+use Rattle.slots.specs.Words.{entryAt, writeReport}
+use Rattle.slots.specs.Ready.{Fit}
 use Rattle.slots.specs.Ring.{slotOf}
 use Rattle.slots.specs.declared.entry.Entry.{Entry}
 use Rattle.slots.specs.declared.entry.Entry.the-variants.{Lost}
-use Rattle.slots.proofs.Laws.{entry-fit}
+use Rattle.slots.proofs.Laws.{entry-fit, slot-words, slot-words-kept}
 use Rattle.window.specs.Window.{numberIn}
-use Rattle.window_report.specs.Report.{isDue, kAfter, runWords, closed, runsAfter, Within, slotsTo, runsTo, runPut, listTo, needed, Reporting, reporting, reportOne, reportedTo, listAll, reportEnded, reportOf}
+use Rattle.window_report.specs.Report.{isDue, kAfter, runWords, closed, runsAfter, slotsTo, runsTo, runPut, listTo, needed, listAll, reportEnded, reportOf}
+use Rattle.window_report.specs.Inner.{Within, Reporting, reporting, reportOne, reportedTo}
 use Rattle.window.specs.declared.Window.{Window}
 use Rattle.window_report.specs.declared.report.Runs.{Runs}
 use Rattle.window_report.specs.declared.report.ReportAnswer.the-variants as answers
-use Rattle.window.proofs.Walks.{walk-start, walk-words, walk-words-kept, walk-slot, walk-most, held-most, walk-on}
+use Rattle.window.proofs.Walks.{walk-start, walk-slot, walk-most, held-most, walk-on}
 use Rattle.window_report.proofs.ReportLaws.{words-most, runs-within, runs-more, words-rise, needed-held, slots-same, list-same, length-slots, length-list, report-more}
 
 -- is_due: feedback and k round trips are under 2^60 + 2^47
@@ -182,7 +184,7 @@ module _ (w : Window) (ws : List ℕ) (time mean : ℕ) (list : List ℕ) where
     report-list-long = ap (λ (x : Reporting). length (x .list)) a ∙ length-list w ws time mean list i
 
     pub report-words : {s : ℕ} → s ≡ slotOf (w .capacity) (w .start) i → w .start < w .capacity → 3 * w .capacity ≤ length ws → 3 * s + 3 ≤ length words
-    report-words e h k = walk-words-kept (w .capacity) (w .start) i e h report-slots-long k
+    report-words e h k = slot-words-kept (w .capacity) (w .start) i e h report-slots-long k
 
     pub report-within : Within r i
     report-within = runs-kept w ws time mean i report-runs
@@ -294,7 +296,7 @@ pub ruleset reports = (
   report-fits,
   held-fits,
   walk-start,
-  walk-words,
+  slot-words,
   walk-slot,
   walk-most,
   held-most,

@@ -26,8 +26,11 @@ sweep capacity start ws i zero = dropEnded 0 ws
 sweep capacity start ws i (suc n) = giveUp (slotOf capacity start (i + n)) (sweep capacity start ws i n)
 
 -- an end becomes a saturating difference from seqno0, at most held
+abbrev pub endFrom : ℕ → ℕ → ℕ → ℕ
+endFrom seqno0 held number = min (saturating 31 number seqno0) held
+
 unfoldable pub endIn : Window → ℕ → ℕ
-endIn w number = min (saturating 31 number (w .seqno0)) (w .held)
+endIn w number = endFrom (w .seqno0) (w .held) number
 
 abbrev pub dropFrom : Window → ℕ → ℕ
 dropFrom w first = endIn w first
@@ -39,3 +42,8 @@ dropTo w last = endIn w (sum 31 last 1)
 -- lost entries from start to before end; none if end is below start, where the difference is 0
 unfoldable pub dropOf : Window → List ℕ → ℕ → ℕ → Dropped
 dropOf w ws first last = sweep (w .capacity) (w .start) ws (dropFrom w first) (dropTo w last - dropFrom w first)
+
+-- how many of the n entries from entry i on are lost
+unfoldable pub lostAmong : ℕ → ℕ → List ℕ → ℕ → ℕ → ℕ
+lostAmong capacity start ws i zero = 0
+lostAmong capacity start ws i (suc n) = lostAmong capacity start ws i n + cond (isLost (entryAt ws (slotOf capacity start (i + n)))) 1 0

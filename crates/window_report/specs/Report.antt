@@ -1,8 +1,7 @@
 -- The loss report: 01, "Window", from "Loss report: lost entries" to "No entry, no report."
-use mathlib.Core.Path.{_≡_}
 use mathlib.Core.Bool.{Bool, true, false, cond}
 use mathlib.Core.List.{List}
-use Prim.Native.Nat.{ℕ, zero, suc, _+_, _-_, _*_, _^_, _<_, _≤_, min}
+use Prim.Native.Nat.{ℕ, zero, suc, _+_, _-_, _*_, _^_, min}
 use lib.Dec.{ltb, eqb}
 use lib.ListN.{length, set}
 use Rattle.slots.specs.Words.{entryAt, writeReport}
@@ -46,12 +45,6 @@ closed r i = record { words = r .words + runWords r i; going = false; first = 0 
 abbrev pub runsAfter : Runs → ℕ → Bool → Runs
 runsAfter r i due = cond due (record { words = r .words; going = true; first = cond (r .going) (r .first) i }) (closed r i)
 
--- what holds of a walk before entry i: at most two words an entry, and a run that goes on began before i
-pub record Within (r : Runs) (i : ℕ) : Type 0 where
-  pub words : r .words ≤ 2 * i
-  pub first : r .first ≤ i
-  pub before : r .going ≡ true → r .first < i
-
 -- a single number; a run of two or more consecutive as first with bit 31 set, then last
 unfoldable pub runPut : Window → List ℕ → Runs → ℕ → List ℕ
 runPut w list r i =
@@ -60,23 +53,6 @@ runPut w list r i =
     (set list (r .words) (numberIn w (r .first)))
     (set (set list (r .words) (2 ^ 31 + numberIn w (r .first))) (r .words + 1) (numberIn w (i - 1))))
     list
-
--- a report under way: the slot area, the list and the runs
-pub record Reporting : Type 0 where
-  pub slots : List ℕ
-  pub list : List ℕ
-  pub runs : Runs
-
-abbrev pub reporting : List ℕ → List ℕ → Runs → Reporting
-reporting ws list r = record { slots = ws; list = list; runs = r }
-
--- and after entry i, which lies in slot s: written if it is due; if not, the run before it is written
-unfoldable pub reportOne : Window → ℕ → ℕ → ℕ → ℕ → Reporting → Reporting
-reportOne w time mean s i x =
-    let e = entryAt (x .slots) s in
-    cond (isDue time mean e)
-    (reporting (writeReport (x .slots) s (kAfter e) time) (x .list) (runsAfter (x .runs) i true))
-    (reporting (x .slots) (runPut w (x .list) (x .runs) i) (runsAfter (x .runs) i false))
 
 module _ (w : Window) (ws : List ℕ) (time mean : ℕ) where
   -- the slot of entry i, and whether it is due
@@ -107,9 +83,6 @@ module _ (w : Window) (ws : List ℕ) (time mean : ℕ) where
   -- with the run that is going on at the end
   abbrev pub listAll : List ℕ → List ℕ
   listAll list = runPut w (listTo list (w .held)) (runsTo (w .held)) (w .held)
-
-  abbrev pub reportedTo : List ℕ → ℕ → Reporting
-  reportedTo list i = reporting (slotsTo i) (listTo list i) (runsTo i)
 
   -- no entry, no report; refusal 12 if the report needs more words than lent
   unfoldable pub reportOf : List ℕ → ReportOutcome

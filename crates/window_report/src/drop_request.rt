@@ -2,7 +2,7 @@
 ghost use mathlib.Core.Path.{_≡_};
 ghost use Prim.Native.Nat.{_+_, _-_, _*_, _<_, _≤_};
 ghost use lib.ListN.{length};
-ghost use Rattle.window.specs.Window.{Ring, Good};
+ghost use Rattle.window.specs.Ready.{Ring, Good};
 ghost use Rattle.window_report.specs.Drop.{dropEnded, giveUp, sweep, endIn, dropOf};
 use slots::entry::Entry;
 

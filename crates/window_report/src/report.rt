@@ -2,9 +2,10 @@
 ghost use mathlib.Core.Path.{_≡_};
 ghost use Prim.Native.Nat.{_+_, _*_, _<_, _≤_, _^_};
 ghost use lib.ListN.{length};
-ghost use Rattle.slots.specs.Words.{Fit};
-ghost use Rattle.window.specs.Window.{Good};
-ghost use Rattle.window_report.specs.Report.{isDue, kAfter, reportEnded, runWords, closed, runsAfter, Within, runsTo, runPut, needed, reporting, reportOne, reportedTo, reportOf};
+ghost use Rattle.slots.specs.Ready.{Fit};
+ghost use Rattle.window.specs.Ready.{Good};
+ghost use Rattle.window_report.specs.Report.{isDue, kAfter, reportEnded, runWords, closed, runsAfter, runsTo, runPut, needed, reportOf};
+ghost use Rattle.window_report.specs.Inner.{Within, reporting, reportOne, reportedTo};
 use slots::entry::Entry;
 
 // Words so far, and whether a run of reported entries is going on, with its first entry.

@@ -1,7 +1,7 @@
 use mathlib.Core.Path.{_≡_}
 use Prim.Native.Nat.{_-_, _≤_}
 use lib.ListN.{take}
-use Rattle.acks.specs.Median.{below}
+use Rattle.acks.specs.Inner.{below}
 use Rattle.acks.proofs.MedianSteps.{medians}
 use Rattle.acks.proofs.median.below.Statement.{statement}
 use Rattle.acks.proofs.median.below.Tie as tie

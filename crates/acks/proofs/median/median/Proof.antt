@@ -1,6 +1,7 @@
 use mathlib.Core.Path.{_≡_}
 use Prim.Native.Nat.{_-_, _≤_}
-use Rattle.acks.specs.Median.{medianOf, pick}
+use Rattle.acks.specs.Median.{medianOf}
+use Rattle.acks.specs.Inner.{pick}
 use Rattle.acks.proofs.MedianSteps.{medians}
 use Rattle.acks.proofs.median.median.Statement.{statement}
 use Rattle.acks.proofs.median.median.Tie as tie

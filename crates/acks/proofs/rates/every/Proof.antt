@@ -1,6 +1,6 @@
 use mathlib.Core.Path.{_≡_}
 use Prim.Native.Nat.{_-_, _≤_}
-use Rattle.acks.specs.Rates.{firstUnder}
+use Rattle.acks.specs.Inner.{firstUnder}
 use Rattle.acks.proofs.RateSteps.{rateSteps}
 use Rattle.acks.proofs.rates.every.Statement.{statement}
 use Rattle.acks.proofs.rates.every.Tie as tie

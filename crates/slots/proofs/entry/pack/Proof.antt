@@ -2,7 +2,8 @@
 use mathlib.Core.Path.{sym, ap, subst}
 use native.Mathlib.Omega.{arith}
 use borrow.Author.Needs.{needs}
-use Rattle.slots.specs.Words.{Fit, wordsOf}
+use Rattle.slots.specs.Words.{wordsOf}
+use Rattle.slots.specs.Ready.{Fit}
 use Rattle.slots.proofs.entry.pack.Statement.{statement}
 use Rattle.slots.proofs.entry.pack.Tie as tie
 

@@ -1,7 +1,7 @@
 use mathlib.Core.Path.{_≡_}
 use Prim.Native.Nat.{_-_, _≤_}
 use Rattle.slots.specs.Ring.{slotOf}
-use Rattle.window_report.specs.Report.{reporting, reportedTo}
+use Rattle.window_report.specs.Inner.{reporting, reportedTo}
 use Rattle.window_report.proofs.Reports.{reports}
 use Rattle.window_report.proofs.report.report_entries.Statement.{statement}
 use Rattle.window_report.proofs.report.report_entries.Tie as tie

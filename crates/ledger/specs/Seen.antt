@@ -1,4 +1,4 @@
--- What the ledger reads of a call and of its answer: plain cases, one a constructor.
+-- What the ledger sees of a call and of its answer: plain cases, one a constructor.
 use mathlib.Core.Path.{_≡_}
 use mathlib.Core.Bool.{Bool, true, false}
 use mathlib.Core.List.{List, []}
@@ -36,15 +36,15 @@ lastIn (calls.Clock time stamp) = 0
 lastIn calls.Clear = 0
 
 -- any call but clear; a stamp is a number of 32 bits, as its type in the code says
-abbrev pub Plain : Call → Type 0
-Plain (calls.Data time number message location stamp) = stamp < 2 ^ 32
-Plain (calls.Pop time) = Unit
-Plain (calls.Report time) = Unit
-Plain (calls.FullAck time) = Unit
-Plain (calls.Ack2 time number) = Unit
-Plain (calls.Drop first last) = Unit
-Plain (calls.Clock time stamp) = Unit
-Plain calls.Clear = ⊥
+abbrev pub NotClear : Call → Type 0
+NotClear (calls.Data time number message location stamp) = stamp < 2 ^ 32
+NotClear (calls.Pop time) = Unit
+NotClear (calls.Report time) = Unit
+NotClear (calls.FullAck time) = Unit
+NotClear (calls.Ack2 time number) = Unit
+NotClear (calls.Drop first last) = Unit
+NotClear (calls.Clock time stamp) = Unit
+NotClear calls.Clear = ⊥
 
 -- the bytes that an answer handed out
 abbrev pub popBytes : MessageAnswer → List ℕ → List ℕ

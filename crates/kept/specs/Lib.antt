@@ -1,0 +1,2 @@
+-- The heads of all runs from new.
+pub mod Runs
