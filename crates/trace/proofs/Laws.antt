@@ -24,6 +24,7 @@ use Rattle.lines.specs.Lines as lines
 use Rattle.lines.specs.Lines.{badBytes}
 use Rattle.dlt.proofs.Laws.{header-behind, record-behind, size-within, size-some}
 use Rattle.text.specs.Put.{put, putOf}
+use Rattle.step.specs.Step.{Ended}
 use Rattle.trace.proofs.Steps.{and-true, come-not}
 use Rattle.trace.specs.Trace.{Areas, Replay, callIn, lengthIn, payloadIn, called, replayed, lineOf, closing, linesOf, isRefused, byHeader, outputOf}
 use Rattle.trace.specs.Turn.{beginOf, begunBy, replayIn, Outcome, outcome, isShort, lineNeed, stays, endsWith, Next, next, advances, nextBy, nextOf}
@@ -88,6 +89,13 @@ positive : (n : ℕ) → eqb n 0 ≡ false → 0 < n
 positive zero e = impossible e
 positive (suc n) e = omega arith
 
+-- the call of the record that the rest starts with, and the replay behind it
+abbrev pub madeIn : Replay → List ℕ → Ended
+madeIn t rest = let r = recordOf rest in called t (callIn r) (payloadIn rest r)
+
+abbrev pub behind : Replay → List ℕ → Replay
+behind t rest = let r = recordOf rest in replayed t (payloadIn rest r) (sizeOf r) (madeIn t rest)
+
 -- more fuel than bytes changes nothing
 pub lines-enough : (n m : ℕ) (t : Replay) (rest : List ℕ) → length rest ≤ n → length rest ≤ m → linesOf n t rest ≡ linesOf m t rest
 unfolding linesOf
@@ -104,12 +112,11 @@ lines-enough (suc n) (suc m) t rest h k =
     let some : 0 < sizeOf r = positive (sizeOf r) e in
     let a : length (drop (sizeOf r) rest) ≤ n = rw (length-drop (sizeOf r) rest) (omega arith) in
     let b : length (drop (sizeOf r) rest) ≤ m = rw (length-drop (sizeOf r) rest) (omega arith) in
-    rw e (ap (λ (l : List ℕ). lineOf t (called t rest r) ++ l) (lines-enough n m (replayed t rest r (called t rest r)) (drop (sizeOf r) rest) a b)))
+    rw e (ap (λ (l : List ℕ). lineOf t (madeIn t rest) ++ l) (lines-enough n m (behind t rest) (drop (sizeOf r) rest) a b)))
 
 -- one turn of the whole: a record's line, then what the rest gives; or the last line
 pub lines-record : (t : Replay) (rest : List ℕ) → eqb (sizeOf (recordOf rest)) 0 ≡ false
-    → let r = recordOf rest in let e = called t rest r in let left = drop (sizeOf r) rest in
-    linesOf (length rest) t rest ≡ lineOf t e ++ linesOf (length left) (replayed t rest r e) left
+    → let left = drop (sizeOf (recordOf rest)) rest in linesOf (length rest) t rest ≡ lineOf t (madeIn t rest) ++ linesOf (length left) (behind t rest) left
 unfolding linesOf
 lines-record t [] e = impossible (sym (ap (λ (r : RecordRead). eqb (sizeOf r) 0) none-short) ∙ e)
 lines-record t (x ∷ xs) e =
@@ -118,8 +125,7 @@ lines-record t (x ∷ xs) e =
     let left = drop (sizeOf r) (x ∷ xs) in
     let h : length left ≤ length xs = rw (length-drop (sizeOf r) (x ∷ xs)) (omega arith) in
     rw e
-    (ap (λ (l : List ℕ). lineOf t (called t (x ∷ xs) r) ++ l)
-    (lines-enough (length xs) (length left) (replayed t (x ∷ xs) r (called t (x ∷ xs) r)) left h (omega arith)))
+    (ap (λ (l : List ℕ). lineOf t (madeIn t (x ∷ xs)) ++ l) (lines-enough (length xs) (length left) (behind t (x ∷ xs)) left h (omega arith)))
 
 pub lines-close : (t : Replay) (rest : List ℕ) → eqb (sizeOf (recordOf rest)) 0 ≡ true → linesOf (length rest) t rest ≡ closing t rest
 unfolding linesOf
@@ -164,12 +170,13 @@ module _ (t : Trace) (a : Areas) (hand more : List ℕ) (last : Bool) (line : Li
   step-line : (out : List ℕ) → eqb (sizeOf (recordOf hand)) 0 ≡ false
       → let r = recordOf hand in let x = advances t a line (callIn r) (payloadIn hand r) (sizeOf r) in let left = drop (sizeOf r) hand ++ more in
       out ≡ linesOf (length left) (replayIn (x .outcome .trace) (x .areas)) left → wroteIn x ++ out ≡ linesOf (length (hand ++ more)) whole (hand ++ more)
+  unfolding advances
   step-line out e ih =
       let r = recordOf hand in
       let full : recordOf (hand ++ more) ≡ r = record-behind hand more (λ q. impossible (sym (ap (λ (z : RecordRead). eqb (sizeOf z) 0) q) ∙ e)) in
       let paid = payload-behind r hand more (size-within hand) in
       let cut = drop-append-le (sizeOf r) hand more (size-within hand) in
-      rw (wrote line (lineOf whole (called whole hand r)), lines-record whole (hand ++ more) (rw full e), full, paid, cut) (ap (λ (l : List ℕ). lineOf whole (called whole hand r) ++ l) ih)
+      rw (wrote line (lineOf whole (madeIn whole hand)), lines-record whole (hand ++ more) (rw full e), full, paid, cut) (ap (λ (l : List ℕ). lineOf whole (madeIn whole hand) ++ l) ih)
 
   -- the last line
   step-close : (last ≡ true → more ≡ []) → eqb (sizeOf (recordOf hand)) 0 ≡ true → (isShort (recordOf hand) && not last) ≡ false
@@ -188,6 +195,7 @@ module _ (t : Trace) (a : Areas) (hand more : List ℕ) (last : Bool) (line : Li
   turn-line : (out : List ℕ) {x : Next} → x ≡ nextOf t a hand last line → x .outcome .status ≡ status.Line
       → out ≡ linesOf (length (drop (x .outcome .size) hand ++ more)) (replayIn (x .outcome .trace) (x .areas)) (drop (x .outcome .size) hand ++ more)
       → wroteIn x ++ out ≡ linesOf (length (hand ++ more)) whole (hand ++ more)
+  unfolding advances
   turn-line out {x} e = subst P (sym e) (by-turn t a hand last line P (λ s ih. other s (λ k. omega arith)) (λ s ih. other s (λ k. omega arith)) (λ f m s ih. by-bool (eqb (length hand) 0) (λ b. other (rw b at s) (λ k. omega arith)) (λ b. other (rw b at s) (λ k. omega arith))) (λ f s ih. step-line out f ih))
     where
       P : Next → Type 0
@@ -198,6 +206,7 @@ module _ (t : Trace) (a : Areas) (hand more : List ℕ) (last : Bool) (line : Li
 
   turn-close : {x : Next} → (last ≡ true → more ≡ []) → x ≡ nextOf t a hand last line → 2 ≤ code (x .outcome .status) → code (x .outcome .status) ≤ 3
       → wroteIn x ≡ linesOf (length (hand ++ more)) whole (hand ++ more)
+  unfolding advances
   turn-close told e = subst P (sym e) (by-turn t a hand last line P (λ l m. absurd (omega arith)) (λ l m. absurd (omega arith)) (λ f m l k. step-close told f m) (λ f l m. absurd (omega arith)))
     where
       P : Next → Type 0
@@ -251,6 +260,7 @@ abbrev Moves : List ℕ → Next → Type 0
 Moves hand x = x .outcome .status ≡ status.Line → (0 < x .outcome .size) × (x .outcome .size ≤ length hand)
 
 pub turn-moves : (t : Trace) (a : Areas) (hand : List ℕ) (last : Bool) (line : List ℕ) → Moves hand (nextOf t a hand last line)
+unfolding advances
 turn-moves t a hand last line =
     by-turn t a hand last line (Moves hand)
     (λ s. other s (λ k. omega arith))
@@ -287,6 +297,7 @@ module _ (t : Trace) (a : Areas) (rest : List ℕ) where
       (λ b. bad-line t a rest [] true long (next (endsWith t long (eqb (length rest) 0)) a) (λ q. refl) (turn-ends e) (rw b)))
 
 writes-all : (n : ℕ) (t : Trace) (a : Areas) (rest : List ℕ) → length rest ≤ n → Writes t a (rest ++ []) (linesOf (length (rest ++ [])) (replayIn t a) (rest ++ []))
+unfolding advances
 writes-all zero t a [] h = last-turn t a [] (rw none-short)
 writes-all zero t a (x ∷ rest) h = absurd (omega arith)
 writes-all (suc n) t a rest h =

@@ -34,8 +34,8 @@ use Rattle.step.specs.declared.Stepped.{Stepped}
 use Rattle.step.specs.declared.Call.{Call}
 use Rattle.step.specs.declared.Call.the-variants as calls
 use Rattle.step.specs.declared.Answer.{Answer}
-use Rattle.trace.specs.Trace.{Areas, callIn, lengthIn, payloadIn}
-use Rattle.trace.specs.Turn.{noHead, begunAs, begunBy, beginOf, isShort, lineNeed, areasOf, Outcome, outcome, Next, next, turned, stays, endsWith, endsBy, stepIn, Ran, ran, ranOf, advances, nextBy, nextOf}
+use Rattle.trace.specs.Trace.{Areas, callIn, lengthIn, payloadIn, counted}
+use Rattle.trace.specs.Turn.{noHead, begunAs, begunBy, beginOf, isShort, lineNeed, areasOf, Outcome, outcome, Next, next, turned, stays, endsWith, endsBy, advances, nextBy, nextOf}
 use Rattle.trace.specs.declared.Turned.{Turned}
 use Rattle.trace.specs.declared.Status.{Status}
 use Rattle.trace.specs.Whole.{Whole}
@@ -133,26 +133,29 @@ module _ (line : List ℕ) (nth : ℕ) (list : List ℕ) where
 pub room-after : (line list list₁ : List ℕ) → length list₁ ≡ length list → lineNeed list ≤ length line → lineNeed list₁ ≤ length line
 room-after line list list₁ e h = rw e h
 
-module _ (h : Head) (c : Tally) (ws bs a out list line : List ℕ) (nth : ℕ) (call : Call) (payload : List ℕ) where
-  pub done : {n : ℕ} {s : Stepped} {c₁ : Tally} {ws₁ bs₁ a₁ out₁ list₁ line₁ : List ℕ}
-      → ended s ws₁ bs₁ a₁ out₁ list₁ ≡ stepOf (stateOf h ws bs a) (lentFor payload out list) call
-      → putEnded n line₁ ≡ putOf line 0 (lineBytes nth (steps.lineOf (s .answer) list₁))
-      → c₁ ≡ tallied c (length payload) (s .answer)
-      → ran (s .head) c₁ (putEnded n line₁) (areasOf ws₁ bs₁ a₁ out₁ list₁) ≡ ranOf (stepIn h (areasOf ws bs a out list) call payload) c (length payload) line nth
-  done {n} {s} {c₁} {ws₁} {bs₁} {a₁} {out₁} {list₁} {line₁} g e f =
-      ap (λ (p : Put). ran (s .head) c₁ p (areasOf ws₁ bs₁ a₁ out₁ list₁)) e
-      ∙ ap (λ (k : Tally). ran (s .head) k (putOf line 0 (lineBytes nth (steps.lineOf (s .answer) list₁))) (areasOf ws₁ bs₁ a₁ out₁ list₁)) f
-      ∙ ap (λ (x : Ended). ranOf x c (length payload) line nth) g
+-- what a call left, with the counters, the count, the offset and what was written
+abbrev leaves : ℕ → Ended → Tally → ℕ → ℕ → Put → Next
+leaves size x tally count offset w =
+    next (outcome (record { head = x .state .head; tally = tally; count = count; offset = offset }) size w status.Line)
+    (areasOf (x .state .slots) (x .state .payloads) (x .state .history) (x .output) (x .list))
 
--- advance
 module _ (t : Trace) (ws bs a out list line : List ℕ) (call : Call) (payload : List ℕ) (size : ℕ) where
-  pub advanced : {count offset n : ℕ} {h : Head} {c : Tally} {ws₁ bs₁ a₁ out₁ list₁ line₁ : List ℕ}
+  pub advanced : {count offset n : ℕ} {s : Stepped} {c : Tally} {ws₁ bs₁ a₁ out₁ list₁ line₁ : List ℕ}
       → count ≡ (t .count + 1) % 2 ^ 64 → offset ≡ (t .offset + size) % 2 ^ 64
-      → ran h c (putEnded n line₁) (areasOf ws₁ bs₁ a₁ out₁ list₁) ≡ ranOf (stepIn (t .head) (areasOf ws bs a out list) call payload) (t .tally) (length payload) line count
-      → next (outcome (record { head = h; tally = c; count = count; offset = offset }) size (putEnded n line₁) status.Line) (areasOf ws₁ bs₁ a₁ out₁ list₁)
+      → ended s ws₁ bs₁ a₁ out₁ list₁ ≡ stepOf (stateOf (t .head) ws bs a) (lentFor payload out list) call
+      → putEnded n line₁ ≡ putOf line 0 (lineBytes count (steps.lineOf (s .answer) list₁))
+      → c ≡ tallied (t .tally) (length payload) (s .answer)
+      → next (outcome (record { head = s .head; tally = c; count = count; offset = offset }) size (putEnded n line₁) status.Line) (areasOf ws₁ bs₁ a₁ out₁ list₁)
       ≡ advances t (areasOf ws bs a out list) line call payload size
-  advanced {count} {offset} e f g =
-      ap (λ (r : Ran). next (outcome (record { head = r .head; tally = r .tally; count = count; offset = offset }) size (r .written) status.Line) (r .areas)) g ∙ rw (e, f)
+  unfolding advances
+  advanced {count} {offset} {n} {s} {c} {ws₁} {bs₁} {a₁} {out₁} {list₁} e f g p k =
+      ap (leaves size (ended s ws₁ bs₁ a₁ out₁ list₁) c count offset) p
+      ∙ rw (k, e, f)
+      (ap
+      (λ (x : Ended).
+      leaves size x (tallied (t .tally) (length payload) (x .answer)) (counted (t .count) 1) (counted (t .offset) size)
+      (putOf line 0 (lineBytes (counted (t .count) 1) (x .line))))
+      g)
 
 -- end, bad, close
 module _ (t : Trace) (line : List ℕ) {line₁ : List ℕ} where
@@ -283,6 +286,6 @@ pub ruleset reads = (
   needs,
 )
 
-pub ruleset runs = (answer-case, room-after, done, advanced, ended-with, ended-bad, close-more, close-end, close-bad, needs)
+pub ruleset runs = (answer-case, room-after, advanced, ended-with, ended-bad, close-more, close-end, close-bad, needs)
 
 pub ruleset turns = (whole-is, turn-close, turn-made, room-so, next-short, next-turn, needs)

@@ -65,25 +65,26 @@ lengthIn records.Clear = 0
 abbrev pub payloadIn : List ℕ → RecordRead → List ℕ
 payloadIn rest r = take (lengthIn r) (drop 24 rest)
 
--- a record read: its call, on the receiver and the areas as they are
-abbrev pub called : Replay → List ℕ → RecordRead → Ended
-called t rest r =
+-- a record's call, with its payload, on the receiver and the areas as they are
+abbrev pub called : Replay → Call → List ℕ → Ended
+called t call payload =
     stepOf
     (stateOf (t .head) (t .areas .slots) (t .areas .payloads) (t .areas .history))
-    (lentFor (payloadIn rest r) (t .areas .output) (t .areas .list))
-    (callIn r)
+    (lentFor payload (t .areas .output) (t .areas .list))
+    call
 
 -- records and bytes are counted mod 2^64, which no file reaches
 abbrev pub counted : ℕ → ℕ → ℕ
 counted n m = (n + m) % 2 ^ 64
 
-abbrev pub replayed : Replay → List ℕ → RecordRead → Ended → Replay
-replayed t rest r e =
+-- the replay behind a record of that payload and size
+abbrev pub replayed : Replay → List ℕ → ℕ → Ended → Replay
+replayed t payload size e =
     record {
       count = counted (t .count) 1;
-      offset = counted (t .offset) (sizeOf r);
+      offset = counted (t .offset) size;
       head = e .state .head;
-      tally = tallied (t .tally) (length (payloadIn rest r)) (e .answer);
+      tally = tallied (t .tally) (length payload) (e .answer);
       areas =
           record { slots = e .state .slots; payloads = e .state .payloads; history = e .state .history; output = e .output; list = e .list };
     }
@@ -114,7 +115,10 @@ linesOf zero t rest = closing t rest
 linesOf (suc n) t rest =
     let r = recordOf rest in
     orElse (eqb (sizeOf r) 0) (closing t rest)
-    (λ u. let e = called t rest r in lineOf t e ++ linesOf n (replayed t rest r e) (drop (sizeOf r) rest))
+    (λ u.
+    let payload = payloadIn rest r in
+    let e = called t (callIn r) payload in
+    lineOf t e ++ linesOf n (replayed t payload (sizeOf r) e) (drop (sizeOf r) rest))
 
 -- a fresh replay; counting asks for the counters
 abbrev pub begun : Bool → Areas → Head → Replay

@@ -11,7 +11,7 @@ ghost use Rattle.text.specs.Put.{putEnded, putOf};
 ghost use Rattle.lines.specs.Lines.{lineBytes};
 ghost use Rattle.step.specs.Step as steps;
 ghost use Rattle.trace.specs.Trace.{callIn, lengthIn, payloadIn};
-ghost use Rattle.trace.specs.Turn.{noHead, begunAs, begunBy, beginOf, areasOf, next, turned, isShort, lineNeed, endsWith, endsBy, stepIn, ran, ranOf, advances, nextBy, nextOf};
+ghost use Rattle.trace.specs.Turn.{noHead, begunAs, begunBy, beginOf, areasOf, next, turned, isShort, lineNeed, endsWith, endsBy, advances, nextBy, nextOf};
 ghost use Rattle.trace.specs.Whole.{Whole};
 ghost use Rattle.trace.specs.declared.Opened.the-variants as opened;
 use dlt::header::HeaderRead;
@@ -232,42 +232,7 @@ fn answer_line(line: &mut [u8], nth: u64, answer: Answer, list: &[u32]) -> usize
     }
 }
 
-struct Done {
-    head: Head,
-    tally: Tally,
-    length: usize,
-}
-
-// A call, its line and what it counts.
-fn run(
-    h: Head,
-    before: Tally,
-    words: &mut [u64],
-    bytes: &mut [u8],
-    area: &mut [u64],
-    out: &mut [u8],
-    list: &mut [u32],
-    line: &mut [u8],
-    nth: u64,
-    call: Call,
-    payload: &[u8],
-) -> Done
-    requires { ⌜ lineNeed (now list) ≤ length (now line) ⌝ }
-    ensures { λ r. ⌜ ran (r .head) (r .tally) (putEnded (r .length) (now (line .exit))) (areasOf (now (words .exit)) (now (bytes .exit)) (now (area .exit)) (now (out .exit)) (now (list .exit))) ≡ ranOf (stepIn h (areasOf (now (words .entry)) (now (bytes .entry)) (now (area .entry)) (now (out .entry)) (now (list .entry))) call (now (payload .entry))) before (length (now (payload .entry))) (now (line .entry)) nth ⌝ }
-{
-    let r = step::step(h, words, bytes, area, out, list, call, payload);
-    let answer = r.answer;
-    let length = answer_line(line, nth, answer, list);
-    let tally = tally::after(before, payload.len(), answer);
-    let head = r.head;
-    Done {
-        head,
-        tally,
-        length,
-    }
-}
-
-// A record's call, counted.
+// A record's call, its line and what it counts.
 fn advance(
     t: Trace,
     words: &mut [u64],
@@ -285,24 +250,13 @@ fn advance(
 {
     let count = std::num::wrapping_add_u64(t.count, 1);
     let offset = std::num::wrapping_add_u64(t.offset, size as u64);
+    let before = t.tally;
     let head = t.head;
-    let tally = t.tally;
-    let r = run(
-        head,
-        tally,
-        words,
-        bytes,
-        area,
-        out,
-        list,
-        line,
-        count,
-        call,
-        payload,
-    );
-    let length = r.length;
+    let r = step::step(head, words, bytes, area, out, list, call, payload);
+    let answer = r.answer;
+    let length = answer_line(line, count, answer, list);
+    let tally = tally::after(before, payload.len(), answer);
     let head = r.head;
-    let tally = r.tally;
     let trace = Trace {
         head,
         tally,
