@@ -6,6 +6,7 @@ use Prim.Native.Nat.{ℕ, _+_, _^_, _<_, _≤_}
 use native.Mathlib.Omega.{arith}
 use borrow.Author.Needs.{needs}
 use lib.ListN.{length}
+use Rattle.text.specs.Bytes.{bytes}
 use Rattle.text.specs.Decimal.{decimal}
 use Rattle.text.specs.Put.{putEnded, putOf}
 use Rattle.text.proofs.Numerals.{decimal-short}
@@ -14,7 +15,7 @@ use Rattle.shapes.specs.Shapes.{Piece}
 use Rattle.counts.specs.Counts.{fresh}
 use Rattle.counts.specs.declared.Counters.{Counters}
 use Rattle.step.specs.declared.Answer.{Answer}
-use Rattle.tally.specs.Tally.{freshTally, countedOf, tallyOf, tallied, named, dataName, bytesName, uniqueDataName, uniqueBytesName, retransmitDataName, droppedDataName, droppedBytesName, ack2Name, ack2ErrorsName, clockAdjustmentsName, packetBytes, lossBytes, otherBytes, allBytes, countersBytes, tallyBytes}
+use Rattle.tally.specs.Tally.{freshTally, countedOf, tallyOf, tallied, named, packetBytes, lossBytes, otherBytes, allBytes, countersBytes, tallyBytes}
 use Rattle.tally.specs.declared.Tally.{Tally}
 
 -- fresh, counted, after
@@ -89,18 +90,18 @@ two-pieces out at a b m n e f h =
     record { bytes = two-puts out at a b (e .bytes) (f .bytes) (omega arith); within = omega arith }
 
 module _ (out : List ℕ) (at : ℕ) (c : Counters) where
-  pub packets-piece : {p q s r : ℕ} {o₁ o₂ o₃ o₄ : List ℕ} → at + 168 ≤ length out → Piece out at (named dataName (c .«rx_data»)) 42 p o₁ → Piece o₁ p (named bytesName (c .«rx_bytes»)) 42 q o₂
-      → Piece o₂ q (named uniqueDataName (c .«rx_unique_data»)) 42 s o₃ → Piece o₃ s (named uniqueBytesName (c .«rx_unique_bytes»)) 42 r o₄ → Piece out at (packetBytes c) 168 r o₄
+  pub packets-piece : {p q s r : ℕ} {o₁ o₂ o₃ o₄ : List ℕ} → at + 168 ≤ length out → Piece out at (named (bytes "rx_data") (c .«rx_data»)) 42 p o₁ → Piece o₁ p (named (bytes "rx_bytes") (c .«rx_bytes»)) 42 q o₂
+      → Piece o₂ q (named (bytes "rx_unique_data") (c .«rx_unique_data»)) 42 s o₃ → Piece o₃ s (named (bytes "rx_unique_bytes") (c .«rx_unique_bytes»)) 42 r o₄ → Piece out at (packetBytes c) 168 r o₄
   unfolding packetBytes
   packets-piece room e f g h = two-pieces out at _ _ 126 42 (two-pieces out at _ _ 84 42 (two-pieces out at _ _ 42 42 e f (omega arith)) g (omega arith)) h (omega arith)
 
-  pub losses-piece : {p q r : ℕ} {o₁ o₂ o₃ : List ℕ} → at + 126 ≤ length out → Piece out at (named retransmitDataName (c .«rx_retransmit_data»)) 42 p o₁
-      → Piece o₁ p (named droppedDataName (c .«rx_dropped_data»)) 42 q o₂ → Piece o₂ q (named droppedBytesName (c .«rx_dropped_bytes»)) 42 r o₃ → Piece out at (lossBytes c) 126 r o₃
+  pub losses-piece : {p q r : ℕ} {o₁ o₂ o₃ : List ℕ} → at + 126 ≤ length out → Piece out at (named (bytes "rx_retransmit_data") (c .«rx_retransmit_data»)) 42 p o₁
+      → Piece o₁ p (named (bytes "rx_dropped_data") (c .«rx_dropped_data»)) 42 q o₂ → Piece o₂ q (named (bytes "rx_dropped_bytes") (c .«rx_dropped_bytes»)) 42 r o₃ → Piece out at (lossBytes c) 126 r o₃
   unfolding lossBytes
   losses-piece room e f g = two-pieces out at _ _ 84 42 (two-pieces out at _ _ 42 42 e f (omega arith)) g (omega arith)
 
-  pub others-piece : {p q r : ℕ} {o₁ o₂ o₃ : List ℕ} → at + 126 ≤ length out → Piece out at (named ack2Name (c .«rx_ack2»)) 42 p o₁
-      → Piece o₁ p (named ack2ErrorsName (c .«rx_ack2_errors»)) 42 q o₂ → Piece o₂ q (named clockAdjustmentsName (c .«rx_clock_adjustments»)) 42 r o₃ → Piece out at (otherBytes c) 126 r o₃
+  pub others-piece : {p q r : ℕ} {o₁ o₂ o₃ : List ℕ} → at + 126 ≤ length out → Piece out at (named (bytes "rx_ack2") (c .«rx_ack2»)) 42 p o₁
+      → Piece o₁ p (named (bytes "rx_ack2_errors") (c .«rx_ack2_errors»)) 42 q o₂ → Piece o₂ q (named (bytes "rx_clock_adjustments") (c .«rx_clock_adjustments»)) 42 r o₃ → Piece out at (otherBytes c) 126 r o₃
   unfolding otherBytes
   others-piece room e f g = two-pieces out at _ _ 84 42 (two-pieces out at _ _ 42 42 e f (omega arith)) g (omega arith)
 
@@ -114,7 +115,7 @@ module _ (out : List ℕ) (at : ℕ) (c : Counters) where
   unfolding allBytes
   all-piece room e f g = two-pieces out at _ _ 294 126 (two-pieces out at _ _ 168 126 e f (omega arith)) g (omega arith)
 
-  pub counters-piece : {p q r : ℕ} {o₁ o₂ o₃ : List ℕ} → at + 429 ≤ length out → Piece out at (99 ∷ 111 ∷ 117 ∷ 110 ∷ 116 ∷ 101 ∷ 114 ∷ 115 ∷ []) 8 p o₁
+  pub counters-piece : {p q r : ℕ} {o₁ o₂ o₃ : List ℕ} → at + 429 ≤ length out → Piece out at (bytes "counters") 8 p o₁
       → Piece o₁ p (allBytes c) 420 q o₂ → putEnded r o₃ ≡ putOf o₂ q (10 ∷ []) → Piece out at (countersBytes c) 429 r o₃
   unfolding countersBytes
   counters-piece room e f g =
