@@ -15,14 +15,14 @@ use Rattle.counts.specs.declared.Counters.{Counters}
 
 -- ten counts in the order of 003: data and bytes, unique data and bytes, retransmitted, dropped data and bytes, ACK2s, ACK2 errors, clock adjustments
 abbrev pub counts : ℕ → ℕ → ℕ → ℕ → ℕ → ℕ → ℕ → ℕ → ℕ → ℕ → Counters
-counts packets bytes once onceBytes twice lost lostBytes acks errors adjustments = record {
+counts packets bytes unique uniqueBytes retransmitted dropped droppedBytes acks errors adjustments = record {
   «rx_data» = packets;
   «rx_bytes» = bytes;
-  «rx_unique_data» = once;
-  «rx_unique_bytes» = onceBytes;
-  «rx_retransmit_data» = twice;
-  «rx_dropped_data» = lost;
-  «rx_dropped_bytes» = lostBytes;
+  «rx_unique_data» = unique;
+  «rx_unique_bytes» = uniqueBytes;
+  «rx_retransmit_data» = retransmitted;
+  «rx_dropped_data» = dropped;
+  «rx_dropped_bytes» = droppedBytes;
   «rx_ack2» = acks;
   «rx_ack2_errors» = errors;
   «rx_clock_adjustments» = adjustments;
