@@ -1,7 +1,7 @@
 -- What a reader of a file piece by piece may lean on: a piece that has the whole record is enough, and the turns of any division into pieces
 -- write, joined, what the whole file gives. Assumes nothing.
 use mathlib.Core.Path.{_≡_, refl, sym, _∙_, ap, subst}
-use mathlib.Core.Bool.{Bool, true, false, _&&_, not, cond}
+use mathlib.Core.Bool.{Bool, true, false, _&&_, not, cond, and-true}
 use mathlib.Core.List.{List, [], _∷_, _++_, append-nil}
 use Prim.Native.Nat.{ℕ, zero, suc, _+_, _-_, _<_, _≤_}
 use native.Mathlib.Omega.{arith}
@@ -18,17 +18,14 @@ use Rattle.dlt.specs.Header.{headerOf}
 use Rattle.dlt.specs.declared.header.HeaderRead.{HeaderRead}
 use Rattle.dlt.specs.declared.header.HeaderRead.the-variants as headers
 use Rattle.head.specs.Head.{madeOf}
-use Rattle.text.specs.Decimal as decimals
-use Rattle.shapes.specs.Shapes as shapes
-use Rattle.lines.specs.Lines as lines
 use Rattle.lines.specs.Lines.{badBytes}
 use Rattle.dlt.proofs.Laws.{header-behind, record-behind, size-within, size-some}
 use Rattle.text.specs.Put.{put, putOf}
 use Rattle.step.specs.Step.{Ended}
-use Rattle.trace.proofs.Steps.{and-true, come-not}
+use Rattle.trace.proofs.Steps.{come-not}
 use Rattle.trace.specs.Trace.{Areas, Replay, callIn, lengthIn, payloadIn, called, replayed, lineOf, closing, linesOf, isRefused, byHeader, outputOf}
 use Rattle.trace.specs.Turn.{beginOf, begunBy, replayIn, Outcome, outcome, isShort, lineNeed, stays, endsWith, Next, next, advances, nextBy, nextOf}
-use Rattle.trace.specs.Loop.{wroteIn, Writes, record-line, end-line, bad-line, Replays, cut, refused, ready}
+use Rattle.trace.specs.Loop.{Moves, wroteIn, Writes, record-line, end-line, bad-line, Replays, cut, refused, ready}
 use Rattle.trace.specs.declared.Opened.{Opened}
 use Rattle.trace.specs.declared.Opened.the-variants as opened
 use Rattle.trace.specs.declared.Status.{Status}
@@ -255,10 +252,6 @@ loop-whole _ _ _ _ (ready c a hand more out e w) =
     rw (header-behind hand more whole, drop-append-le 24 hand more (header-long hand whole))
     (ready-by c a (drop 24 hand ++ more) (headerOf hand) out e (loop-writes (beginOf hand c .trace) a (drop 24 hand ++ more) out w))
 
--- a turn that gives a record's line moves the cursor, and not past the bytes at hand; so a file of any length comes to its end
-abbrev Moves : List ℕ → Next → Type 0
-Moves hand x = x .outcome .status ≡ status.Line → (0 < x .outcome .size) × (x .outcome .size ≤ length hand)
-
 pub turn-moves : (t : Trace) (a : Areas) (hand : List ℕ) (last : Bool) (line : List ℕ) → Moves hand (nextOf t a hand last line)
 unfolding advances
 turn-moves t a hand last line =
@@ -267,11 +260,6 @@ turn-moves t a hand last line =
     (λ s. other s (λ k. omega arith))
     (λ f m s. by-bool (eqb (length hand) 0) (λ b. other (rw b at s) (λ k. omega arith)) (λ b. other (rw b at s) (λ k. omega arith)))
     (λ f s. (positive (sizeOf (recordOf hand)) f, size-within hand))
-
--- the line of a file that is no trace
-pub bad-start : badBytes 0 ≡ 98 ∷ 97 ∷ 100 ∷ 32 ∷ 48 ∷ 10 ∷ []
-unfolding lines.badBytes shapes.closed shapes.spaced decimals.signedDecimal decimals.decimal decimals.digits
-bad-start = refl
 
 -- there is such a run for every file: with a line that is long enough each turn gives a record's line or the last one, and each record has a byte at least
 module _ (t : Trace) (a : Areas) (rest : List ℕ) where

@@ -1,7 +1,7 @@
 -- What the code of lib.rt does at each return, as laws over plain values. A signed number stands twice, as it is and as the machine reads it back.
 -- Assumes nothing.
 use mathlib.Core.Path.{_≡_, refl, sym, _∙_, ap}
-use mathlib.Core.Bool.{Bool, true, false, _&&_, not, cond}
+use mathlib.Core.Bool.{Bool, true, false, _&&_, not, cond, and-true}
 use mathlib.Core.List.{List, []}
 use Prim.Native.Nat.{ℕ, _+_, _-_, _*_, _/_, _%_, _^_, _<_, _≤_}
 use native.Mathlib.Omega.{arith}
@@ -11,6 +11,7 @@ use lib.Dec.{eqb, leb, ltb}
 use lib.IntN.{ℤ, pos}
 use lib.ListN.{length, take, drop, length-drop}
 use lib.Seq.{drop-drop}
+use Rattle.numbers.specs.Circular.{sum}
 use Rattle.numbers.proofs.Flags.{by-order, and-false}
 use Rattle.head.specs.Head.{madeOf}
 use Rattle.head.specs.declared.state.Head.{Head}
@@ -34,7 +35,7 @@ use Rattle.step.specs.declared.Stepped.{Stepped}
 use Rattle.step.specs.declared.Call.{Call}
 use Rattle.step.specs.declared.Call.the-variants as calls
 use Rattle.step.specs.declared.Answer.{Answer}
-use Rattle.trace.specs.Trace.{Areas, callIn, lengthIn, payloadIn, counted}
+use Rattle.trace.specs.Trace.{Areas, callIn, lengthIn, payloadIn}
 use Rattle.trace.specs.Turn.{noHead, begunAs, begunBy, beginOf, isShort, lineNeed, areasOf, Outcome, outcome, Next, next, turned, stays, endsWith, endsBy, advances, nextBy, nextOf}
 use Rattle.trace.specs.declared.Turned.{Turned}
 use Rattle.trace.specs.declared.Status.{Status}
@@ -147,14 +148,14 @@ module _ (t : Trace) (ws bs a out list line : List ℕ) (call : Call) (payload :
       → c ≡ tallied (t .tally) (length payload) (s .answer)
       → next (outcome (record { head = s .head; tally = c; count = count; offset = offset }) size (putEnded n line₁) status.Line) (areasOf ws₁ bs₁ a₁ out₁ list₁)
       ≡ advances t (areasOf ws bs a out list) line call payload size
-  unfolding advances
+  unfolding sum advances
   advanced {count} {offset} {n} {s} {c} {ws₁} {bs₁} {a₁} {out₁} {list₁} e f g p k =
       ap (leaves size (ended s ws₁ bs₁ a₁ out₁ list₁) c count offset) p
       ∙ rw (k, e, f)
       (ap
       (λ (x : Ended).
-      leaves size x (tallied (t .tally) (length payload) (x .answer)) (counted (t .count) 1) (counted (t .offset) size)
-      (putOf line 0 (lineBytes (counted (t .count) 1) (x .line))))
+      leaves size x (tallied (t .tally) (length payload) (x .answer)) (sum 64 (t .count) 1) (sum 64 (t .offset) size)
+      (putOf line 0 (lineBytes (sum 64 (t .count) 1) (x .line))))
       g)
 
 -- end, bad, close
@@ -230,10 +231,6 @@ made-is t a list line piece at r size n w e f g =
 -- may_come, is_empty, turn
 pub come-not : (r : RecordRead) (last : Bool) → last ≡ true → false ≡ (isShort r && not last)
 come-not r last e = rw (e, and-false (isShort r) refl)
-
-pub and-true : (b : Bool) → (b && true) ≡ b
-and-true true = refl
-and-true false = refl
 
 pub come-so : (r : RecordRead) (last : Bool) {b : Bool} → last ≡ false → b ≡ isShort r → b ≡ (isShort r && not last)
 come-so r last {b} e f = rw (e, ← f) (sym (and-true b))

@@ -3,14 +3,18 @@
 use mathlib.Core.Path.{_≡_}
 use mathlib.Core.Bool.{Bool, true}
 use mathlib.Core.List.{List, [], _++_}
-use Prim.Native.Nat.{ℕ}
-use lib.ListN.{take, drop}
+use Prim.Native.Nat.{ℕ, _<_, _≤_}
+use lib.ListN.{length, take, drop}
 use Rattle.lines.specs.Lines.{badBytes}
 use Rattle.trace.specs.Trace.{Areas}
 use Rattle.trace.specs.Turn.{Next, nextOf, beginOf}
 use Rattle.trace.specs.declared.Opened.the-variants as opened
 use Rattle.trace.specs.declared.Status.the-variants as status
 use Rattle.trace.specs.declared.Trace.{Trace}
+
+-- a turn that gives a record's line moves the cursor, and not past the bytes at hand; so a file of any length comes to its end
+abbrev pub Moves : List ℕ → Next → Type 0
+Moves hand x = x .outcome .status ≡ status.Line → (0 < x .outcome .size) × (x .outcome .size ≤ length hand)
 
 -- the bytes that a turn wrote
 abbrev pub wroteIn : Next → List ℕ

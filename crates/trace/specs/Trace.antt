@@ -1,9 +1,10 @@
 -- What a replay writes for a whole file: 01, "Trace, mark DLT".
 use mathlib.Core.Bool.{Bool, true, false, _&&_, not, cond}
 use mathlib.Core.List.{List, [], _++_}
-use Prim.Native.Nat.{ℕ, zero, suc, _+_, _%_, _^_}
+use Prim.Native.Nat.{ℕ, zero, suc}
 use lib.Dec.{eqb, leb}
 use lib.ListN.{length, take, drop}
+use Rattle.numbers.specs.Circular.{sum}
 use Rattle.head.specs.Head.{madeOf}
 use Rattle.head.specs.declared.state.Head.{Head}
 use Rattle.head.specs.declared.state.Made.{Made}
@@ -73,16 +74,12 @@ called t call payload =
     (lentFor payload (t .areas .output) (t .areas .list))
     call
 
--- records and bytes are counted mod 2^64, which no file reaches
-abbrev pub counted : ℕ → ℕ → ℕ
-counted n m = (n + m) % 2 ^ 64
-
--- the replay behind a record of that payload and size
+-- the replay behind a record of that payload and size; records and bytes are counted mod 2^64, which no file reaches
 abbrev pub replayed : Replay → List ℕ → ℕ → Ended → Replay
 replayed t payload size e =
     record {
-      count = counted (t .count) 1;
-      offset = counted (t .offset) size;
+      count = sum 64 (t .count) 1;
+      offset = sum 64 (t .offset) size;
       head = e .state .head;
       tally = tallied (t .tally) (length payload) (e .answer);
       areas =
@@ -91,7 +88,7 @@ replayed t payload size e =
 
 -- the record's number (from 1), and the line of its answer
 abbrev pub lineOf : Replay → Ended → List ℕ
-lineOf t e = lineBytes (counted (t .count) 1) (e .line)
+lineOf t e = lineBytes (sum 64 (t .count) 1) (e .line)
 
 -- end: records, lrsn, seqno0, held, and behind it the counters if they are asked for; bad: the record's offset
 abbrev pub endOf : Replay → List ℕ
