@@ -5,6 +5,7 @@ use mathlib.Core.Bool.{Bool, cond}
 use mathlib.Core.List.{List, [], _∷_, _++_}
 use Prim.Native.Nat.{ℕ, _+_, _≤_}
 use lib.ListN.{length}
+use Rattle.text.specs.Bytes.{bytes}
 use Rattle.text.specs.Decimal.{decimal, signedDecimal}
 use Rattle.text.specs.Put.{putEnded, putOf}
 use Rattle.receiver.specs.Paper.{Value, whole, dash}
@@ -12,20 +13,20 @@ use Rattle.receiver.specs.Paper.{Value, whole, dash}
 -- a value: a number, or `-`
 abbrev pub valueBytes : Value → List ℕ
 valueBytes (whole z) = signedDecimal z
-valueBytes dash = 45 ∷ []
+valueBytes dash = bytes "-"
 
 -- values, each after a space
 unfoldable pub spaced : List Value → List ℕ
 spaced [] = []
-spaced (v ∷ vs) = (32 ∷ valueBytes v) ++ spaced vs
+spaced (v ∷ vs) = (bytes " " ++ valueBytes v) ++ spaced vs
 
 -- and the line's end
 unfoldable pub closed : List Value → List ℕ
-closed vs = spaced vs ++ (10 ∷ [])
+closed vs = spaced vs ++ bytes "\n"
 
 -- the record's number, the word, the values
 unfoldable pub lineOf : ℕ → List ℕ → List Value → List ℕ
-lineOf n word vs = decimal n ++ (32 ∷ word) ++ closed vs
+lineOf n word vs = decimal n ++ (bytes " " ++ word) ++ closed vs
 
 -- 1 or 0
 abbrev pub oneIf : Bool → ℕ

@@ -34,7 +34,7 @@ tallied t size a = cond (t .asked) (tallyOf true (countedOf (t .counters) size a
 
 -- a space, a name, `=` and its count
 unfoldable pub named : List ℕ → ℕ → List ℕ
-named name n = (32 ∷ name) ++ (61 ∷ decimal n)
+named name n = (bytes " " ++ name) ++ (bytes "=" ++ decimal n)
 
 unfoldable pub packetBytes : Counters → List ℕ
 packetBytes c = named (bytes "rx_data") (c .«rx_data») ++ named (bytes "rx_bytes") (c .«rx_bytes») ++ named (bytes "rx_unique_data") (c .«rx_unique_data») ++ named (bytes "rx_unique_bytes") (c .«rx_unique_bytes»)
@@ -50,7 +50,7 @@ allBytes c = packetBytes c ++ lossBytes c ++ otherBytes c
 
 -- the whole line: `counters`, the ten, and the line's end
 unfoldable pub countersBytes : Counters → List ℕ
-countersBytes c = bytes "counters" ++ allBytes c ++ (10 ∷ [])
+countersBytes c = bytes "counters" ++ allBytes c ++ bytes "\n"
 
 unfoldable pub tallyBytes : Tally → List ℕ
 tallyBytes t = cond (t .asked) (countersBytes (t .counters)) []
