@@ -34,11 +34,11 @@ oneIf b = cond b 1 0
 
 -- Bytes were put, and they are no more than `most`. The equation says which; the bound is that of the types, since the equation has numbers of any
 -- size, and whoever keeps the cursor within the output needs it.
-pub record Piece (out : List ℕ) (at : ℕ) (bs : List ℕ) (most r : ℕ) (out₁ : List ℕ) : Type 0 where
+pub record Wrote (out : List ℕ) (at : ℕ) (bs : List ℕ) (most r : ℕ) (out₁ : List ℕ) : Type 0 where
   pub bytes : putEnded r out₁ ≡ putOf out at bs
   pub within : r ≤ at + most
 
 -- room for a line, and a word of 01
-pub record Room (out : List ℕ) (at : ℕ) (word : List ℕ) : Type 0 where
+pub record LineRoom (out : List ℕ) (at : ℕ) (word : List ℕ) : Type 0 where
   pub long : at + 256 ≤ length out
   pub short : length word ≤ 8

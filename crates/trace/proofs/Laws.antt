@@ -24,7 +24,7 @@ use Rattle.text.specs.Put.{put, putOf}
 use Rattle.step.specs.Step.{Ended}
 use Rattle.trace.proofs.Steps.{come-not}
 use Rattle.trace.specs.Trace.{Areas, Replay, callIn, lengthIn, payloadIn, called, replayed, lineOf, closing, linesOf, isRefused, byHeader, outputOf}
-use Rattle.trace.specs.Turn.{beginOf, begunBy, replayIn, Outcome, outcome, isShort, lineNeed, stays, endsWith, Next, next, advances, nextBy, nextOf}
+use Rattle.trace.specs.Turn.{beginOf, begunBy, replayIn, TurnOutcome, turnOutcome, isShort, lineNeed, stays, endsWith, TurnLeft, turnLeft, advances, turnBy, turnOf}
 use Rattle.trace.specs.Loop.{Moves, wroteIn, Writes, record-line, end-line, bad-line, Replays, cut, refused, ready}
 use Rattle.trace.specs.declared.Opened.{Opened}
 use Rattle.trace.specs.declared.Opened.the-variants as opened
@@ -69,8 +69,8 @@ whole-some [] h = absurd (h none-short)
 whole-some (x ∷ xs) h = omega arith
 
 pub piece-enough : (t : Trace) (a : Areas) (xs ys : List ℕ) (last last₁ : Bool) (line : List ℕ) → (recordOf xs ≡ records.Short → ⊥)
-    → nextOf t a (xs ++ ys) last₁ line ≡ nextOf t a xs last line
-unfolding nextOf
+    → turnOf t a (xs ++ ys) last₁ line ≡ turnOf t a xs last line
+unfolding turnOf
 piece-enough t a xs ys last last₁ line h =
     let some = whole-some xs h in
     let long : 0 < length (xs ++ ys) = rw (length-append xs ys) (omega arith) in
@@ -136,16 +136,16 @@ wrote line bs = take-at bs (drop (0 + length bs) line) (0 + length bs) (omega ar
 
 -- a turn by its cases
 module _ (t : Trace) (a : Areas) (hand : List ℕ) (last : Bool) (line : List ℕ) where
-  by-turn : (P : Next → Type 0) → P (next (stays t line status.LineShort) a) → P (next (stays t line status.More) a)
-      → (eqb (sizeOf (recordOf hand)) 0 ≡ true → (isShort (recordOf hand) && not last) ≡ false → P (next (endsWith t line (eqb (length hand) 0)) a))
+  by-turn : (P : TurnLeft → Type 0) → P (turnLeft (stays t line status.LineShort) a) → P (turnLeft (stays t line status.More) a)
+      → (eqb (sizeOf (recordOf hand)) 0 ≡ true → (isShort (recordOf hand) && not last) ≡ false → P (turnLeft (endsWith t line (eqb (length hand) 0)) a))
       → (eqb (sizeOf (recordOf hand)) 0 ≡ false → P (advances t a line (callIn (recordOf hand)) (payloadIn hand (recordOf hand)) (sizeOf (recordOf hand))))
-      → P (nextOf t a hand last line)
-  unfolding nextOf
+      → P (turnOf t a hand last line)
+  unfolding turnOf
   by-turn P short more close advance =
       by-test P (leb (lineNeed (a .list)) (length line)) _ _
       (λ room.
       by-test P (eqb (sizeOf (recordOf hand)) 0) _ _
-      (λ e. by-test (λ (o : Outcome). P (next o a)) (isShort (recordOf hand) && not last) _ _ (λ m. more) (λ m. close e m))
+      (λ e. by-test (λ (o : TurnOutcome). P (turnLeft o a)) (isShort (recordOf hand) && not last) _ _ (λ m. more) (λ m. close e m))
       advance)
       (λ room. short)
 
@@ -177,7 +177,7 @@ module _ (t : Trace) (a : Areas) (hand more : List ℕ) (last : Bool) (line : Li
 
   -- the last line
   step-close : (last ≡ true → more ≡ []) → eqb (sizeOf (recordOf hand)) 0 ≡ true → (isShort (recordOf hand) && not last) ≡ false
-      → wroteIn (next (endsWith t line (eqb (length hand) 0)) a) ≡ linesOf (length (hand ++ more)) whole (hand ++ more)
+      → wroteIn (turnLeft (endsWith t line (eqb (length hand) 0)) a) ≡ linesOf (length (hand ++ more)) whole (hand ++ more)
   step-close told e m =
       wrote line (closing whole hand)
       ∙ by-bool last
@@ -189,24 +189,24 @@ module _ (t : Trace) (a : Areas) (hand more : List ℕ) (last : Bool) (line : Li
       let longer : 0 < length (hand ++ more) = rw (length-append hand more) (omega arith) in
       rw (lines-close whole (hand ++ more) (rw (record-behind hand more some) e), ne-eqb (length hand) 0 (λ q. omega arith), ne-eqb (length (hand ++ more)) 0 (λ q. omega arith)))
 
-  turn-line : (out : List ℕ) {x : Next} → x ≡ nextOf t a hand last line → x .outcome .status ≡ status.Line
+  turn-line : (out : List ℕ) {x : TurnLeft} → x ≡ turnOf t a hand last line → x .outcome .status ≡ status.Line
       → out ≡ linesOf (length (drop (x .outcome .size) hand ++ more)) (replayIn (x .outcome .trace) (x .areas)) (drop (x .outcome .size) hand ++ more)
       → wroteIn x ++ out ≡ linesOf (length (hand ++ more)) whole (hand ++ more)
   unfolding advances
   turn-line out {x} e = subst P (sym e) (by-turn t a hand last line P (λ s ih. other s (λ k. omega arith)) (λ s ih. other s (λ k. omega arith)) (λ f m s ih. by-bool (eqb (length hand) 0) (λ b. other (rw b at s) (λ k. omega arith)) (λ b. other (rw b at s) (λ k. omega arith))) (λ f s ih. step-line out f ih))
     where
-      P : Next → Type 0
+      P : TurnLeft → Type 0
       P y =
           y .outcome .status ≡ status.Line
           → out ≡ linesOf (length (drop (y .outcome .size) hand ++ more)) (replayIn (y .outcome .trace) (y .areas)) (drop (y .outcome .size) hand ++ more)
           → wroteIn y ++ out ≡ linesOf (length (hand ++ more)) whole (hand ++ more)
 
-  turn-close : {x : Next} → (last ≡ true → more ≡ []) → x ≡ nextOf t a hand last line → 2 ≤ code (x .outcome .status) → code (x .outcome .status) ≤ 3
+  turn-close : {x : TurnLeft} → (last ≡ true → more ≡ []) → x ≡ turnOf t a hand last line → 2 ≤ code (x .outcome .status) → code (x .outcome .status) ≤ 3
       → wroteIn x ≡ linesOf (length (hand ++ more)) whole (hand ++ more)
   unfolding advances
   turn-close told e = subst P (sym e) (by-turn t a hand last line P (λ l m. absurd (omega arith)) (λ l m. absurd (omega arith)) (λ f m l k. step-close told f m) (λ f l m. absurd (omega arith)))
     where
-      P : Next → Type 0
+      P : TurnLeft → Type 0
       P y = 2 ≤ code (y .outcome .status) → code (y .outcome .status) ≤ 3 → wroteIn y ≡ linesOf (length (hand ++ more)) whole (hand ++ more)
 
 pub loop-writes : (t : Trace) (a : Areas) (rest out : List ℕ) → Writes t a rest out → out ≡ linesOf (length rest) (replayIn t a) rest
@@ -252,7 +252,7 @@ loop-whole _ _ _ _ (ready c a hand more out e w) =
     rw (header-behind hand more whole, drop-append-le 24 hand more (header-long hand whole))
     (ready-by c a (drop 24 hand ++ more) (headerOf hand) out e (loop-writes (beginOf hand c .trace) a (drop 24 hand ++ more) out w))
 
-pub turn-moves : (t : Trace) (a : Areas) (hand : List ℕ) (last : Bool) (line : List ℕ) → Moves hand (nextOf t a hand last line)
+pub turn-moves : (t : Trace) (a : Areas) (hand : List ℕ) (last : Bool) (line : List ℕ) → Moves hand (turnOf t a hand last line)
 unfolding advances
 turn-moves t a hand last line =
     by-turn t a hand last line (Moves hand)
@@ -269,20 +269,20 @@ module _ (t : Trace) (a : Areas) (rest : List ℕ) where
   roomy : leb (lineNeed (a .list)) (length long) ≡ true
   roomy = le-leb (lineNeed (a .list)) (length long) (let e : length long ≡ lineNeed (a .list) = length-replicate (lineNeed (a .list)) 0 in omega arith)
 
-  turn-ends : eqb (sizeOf (recordOf rest)) 0 ≡ true → next (endsWith t long (eqb (length rest) 0)) a ≡ nextOf t a rest true long
-  unfolding nextOf
+  turn-ends : eqb (sizeOf (recordOf rest)) 0 ≡ true → turnLeft (endsWith t long (eqb (length rest) 0)) a ≡ turnOf t a rest true long
+  unfolding turnOf
   turn-ends e = rw (roomy, e, ← come-not (recordOf rest) true refl)
 
-  turn-goes : eqb (sizeOf (recordOf rest)) 0 ≡ false → advances t a long (callIn (recordOf rest)) (payloadIn rest (recordOf rest)) (sizeOf (recordOf rest)) ≡ nextOf t a rest true long
-  unfolding nextOf
+  turn-goes : eqb (sizeOf (recordOf rest)) 0 ≡ false → advances t a long (callIn (recordOf rest)) (payloadIn rest (recordOf rest)) (sizeOf (recordOf rest)) ≡ turnOf t a rest true long
+  unfolding turnOf
   turn-goes e = rw (roomy, e)
 
   last-turn : eqb (sizeOf (recordOf rest)) 0 ≡ true → Writes t a (rest ++ []) (linesOf (length (rest ++ [])) (replayIn t a) (rest ++ []))
   last-turn e =
       subst (Writes t a (rest ++ [])) (step-close t a rest [] true long (λ q. refl) e (sym (come-not (recordOf rest) true refl)))
       (by-bool (eqb (length rest) 0)
-      (λ b. end-line t a rest [] true long (next (endsWith t long (eqb (length rest) 0)) a) (λ q. refl) (turn-ends e) (rw b))
-      (λ b. bad-line t a rest [] true long (next (endsWith t long (eqb (length rest) 0)) a) (λ q. refl) (turn-ends e) (rw b)))
+      (λ b. end-line t a rest [] true long (turnLeft (endsWith t long (eqb (length rest) 0)) a) (λ q. refl) (turn-ends e) (rw b))
+      (λ b. bad-line t a rest [] true long (turnLeft (endsWith t long (eqb (length rest) 0)) a) (λ q. refl) (turn-ends e) (rw b)))
 
 writes-all : (n : ℕ) (t : Trace) (a : Areas) (rest : List ℕ) → length rest ≤ n → Writes t a (rest ++ []) (linesOf (length (rest ++ [])) (replayIn t a) (rest ++ []))
 unfolding advances

@@ -118,8 +118,8 @@ linesOf (suc n) t rest =
     lineOf t e ++ linesOf n (replayed t payload (sizeOf r) e) (drop (sizeOf r) rest))
 
 -- a fresh replay; counting asks for the counters
-abbrev pub begun : Bool → Areas → Head → Replay
-begun counting a h = record { count = 0; offset = 24; head = h; tally = freshTally counting; areas = a }
+abbrev pub freshReplay : Bool → Areas → Head → Replay
+freshReplay counting a h = record { count = 0; offset = 24; head = h; tally = freshTally counting; areas = a }
 
 -- a refused setting or a capacity over 32 is bad
 abbrev pub isRefused : Made → ℕ → Bool
@@ -131,7 +131,7 @@ byHeader counting a headers.Short rest = badBytes 0
 byHeader counting a headers.Bad rest = badBytes 0
 byHeader counting a (headers.Header start latency dropping first capacity) rest =
     let m = madeOf start latency dropping first capacity in
-    orElse (isRefused m capacity) (badBytes 0) (λ u. linesOf (length rest) (begun counting a (m .head)) rest)
+    orElse (isRefused m capacity) (badBytes 0) (λ u. linesOf (length rest) (freshReplay counting a (m .head)) rest)
 
 -- the whole output for a whole file: 01's lines, with the counters behind the end line if they are asked for
 unfoldable pub outputOf : Bool → Areas → List ℕ → List ℕ

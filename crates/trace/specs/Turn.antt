@@ -15,7 +15,7 @@ use Rattle.dlt.specs.declared.record.RecordRead.{RecordRead}
 use Rattle.dlt.specs.declared.record.RecordRead.the-variants as records
 use Rattle.step.specs.declared.Call.{Call}
 use Rattle.text.specs.Put.{Put, putEnded, putOf}
-use Rattle.trace.specs.Trace.{Areas, Replay, callIn, payloadIn, called, replayed, lineOf, endOf, badOf, begun, isRefused}
+use Rattle.trace.specs.Trace.{Areas, Replay, callIn, payloadIn, called, replayed, lineOf, endOf, badOf, freshReplay, isRefused}
 use Rattle.trace.specs.declared.Begun.{Begun}
 use Rattle.trace.specs.declared.Opened.{Opened}
 use Rattle.trace.specs.declared.Opened.the-variants as opened
@@ -44,7 +44,7 @@ traceIn t = record { head = t .head; tally = t .tally; count = t .count; offset 
 
 -- counting says that the counters are asked for
 abbrev pub begunAs : Opened → Head → Bool → Begun
-begunAs o h counting = record { trace = traceIn (begun counting noAreas h); opened = o }
+begunAs o h counting = record { trace = traceIn (freshReplay counting noAreas h); opened = o }
 
 abbrev pub begunBy : HeaderRead → Bool → Begun
 begunBy headers.Short counting = begunAs opened.Short noHead counting
@@ -57,25 +57,25 @@ abbrev pub beginOf : List ℕ → Bool → Begun
 beginOf piece counting = begunBy (headerOf piece) counting
 
 -- what came of a turn: the trace, how many bytes of the file it used, and what it wrote at the start of the lent line
-pub record Outcome : Type 0 where
+pub record TurnOutcome : Type 0 where
   pub trace : Trace
   pub size : ℕ
   pub written : Put
   pub status : Status
 
-abbrev pub outcome : Trace → ℕ → Put → Status → Outcome
-outcome t size w s = record { trace = t; size = size; written = w; status = s }
+abbrev pub turnOutcome : Trace → ℕ → Put → Status → TurnOutcome
+turnOutcome t size w s = record { trace = t; size = size; written = w; status = s }
 
-abbrev pub turned : Turned → List ℕ → Outcome
-turned r line = outcome (r .trace) (r .size) (putEnded (r .length) line) (r .status)
+abbrev pub turned : Turned → List ℕ → TurnOutcome
+turned r line = turnOutcome (r .trace) (r .size) (putEnded (r .length) line) (r .status)
 
 -- and the areas after it
-pub record Next : Type 0 where
-  pub outcome : Outcome
+pub record TurnLeft : Type 0 where
+  pub outcome : TurnOutcome
   pub areas : Areas
 
-abbrev pub next : Outcome → Areas → Next
-next o a = record { outcome = o; areas = a }
+abbrev pub turnLeft : TurnOutcome → Areas → TurnLeft
+turnLeft o a = record { outcome = o; areas = a }
 
 abbrev pub isShort : RecordRead → Bool
 isShort records.Short = true
@@ -94,33 +94,33 @@ abbrev pub lineNeed : List ℕ → ℕ
 lineNeed list = 700 + 21 * length list
 
 -- nothing is done, and nothing changes
-abbrev pub stays : Trace → List ℕ → Status → Outcome
-stays t line s = outcome t 0 (putEnded 0 line) s
+abbrev pub stays : Trace → List ℕ → Status → TurnOutcome
+stays t line s = turnOutcome t 0 (putEnded 0 line) s
 
 -- the last line: at the end of the file the end, else bad
-abbrev pub endsWith : Trace → List ℕ → Bool → Outcome
+abbrev pub endsWith : Trace → List ℕ → Bool → TurnOutcome
 endsWith t line empty =
     let r = replayIn t noAreas in
-    outcome t 0 (putOf line 0 (cond empty (endOf r) (badOf r))) (cond empty status.End status.Bad)
+    turnOutcome t 0 (putOf line 0 (cond empty (endOf r) (badOf r))) (cond empty status.End status.Bad)
 
-abbrev pub endsBy : Trace → List ℕ → Bool → Bool → Outcome
+abbrev pub endsBy : Trace → List ℕ → Bool → Bool → TurnOutcome
 endsBy t line more empty = cond more (stays t line status.More) (endsWith t line empty)
 
 -- a record's call, its line, and the replay behind it
-unfoldable pub advances : Trace → Areas → List ℕ → Call → List ℕ → ℕ → Next
+unfoldable pub advances : Trace → Areas → List ℕ → Call → List ℕ → ℕ → TurnLeft
 advances t a line call payload size =
     let r = replayIn t a in
     let e = called r call payload in
     let behind = replayed r payload size e in
-    next (outcome (traceIn behind) size (putOf line 0 (lineOf r e)) status.Line) (behind .areas)
+    turnLeft (turnOutcome (traceIn behind) size (putOf line 0 (lineOf r e)) status.Line) (behind .areas)
 
 -- by the record that the bytes at hand start with; `last` says that none come behind them
-abbrev pub nextBy : Trace → Areas → List ℕ → Bool → List ℕ → RecordRead → Next
-nextBy t a rest last line r =
+abbrev pub turnBy : Trace → Areas → List ℕ → Bool → List ℕ → RecordRead → TurnLeft
+turnBy t a rest last line r =
     cond (eqb (sizeOf r) 0)
-    (next (endsBy t line (isShort r && not last) (eqb (length rest) 0)) a)
+    (turnLeft (endsBy t line (isShort r && not last) (eqb (length rest) 0)) a)
     (advances t a line (callIn r) (payloadIn rest r) (sizeOf r))
 
-unfoldable pub nextOf : Trace → Areas → List ℕ → Bool → List ℕ → Next
-nextOf t a rest last line =
-    cond (leb (lineNeed (a .list)) (length line)) (nextBy t a rest last line (recordOf rest)) (next (stays t line status.LineShort) a)
+unfoldable pub turnOf : Trace → Areas → List ℕ → Bool → List ℕ → TurnLeft
+turnOf t a rest last line =
+    cond (leb (lineNeed (a .list)) (length line)) (turnBy t a rest last line (recordOf rest)) (turnLeft (stays t line status.LineShort) a)
