@@ -1,8 +1,7 @@
 -- The table of P1 to P8 holds, all rows together, by computing the definitions. Assumes nothing.
 use mathlib.Core.Path.{_≡_, refl}
 use mathlib.Core.Bool.{false}
-use mathlib.Core.List.{List, [], _∷_, map}
-use Prim.Native.Nat.{ℕ}
+use mathlib.Core.List.{map}
 use Rattle.numbers.specs.Circular as numbersCircular
 use Rattle.numbers.specs.Order as numbersOrder
 use Rattle.numbers.specs.Whole as numbersWhole

@@ -1,7 +1,7 @@
 -- What the answers of a replay count together, and the line that is written of it behind the end line if it is asked for: `counters`, then the ten
 -- of 003 by name. 01, "Counters follow 003".
 use mathlib.Core.Bool.{Bool, cond, true}
-use mathlib.Core.List.{List, [], _∷_, _++_}
+use mathlib.Core.List.{List, [], _++_}
 use Prim.Native.Nat.{ℕ}
 use Rattle.text.specs.Bytes.{bytes}
 use Rattle.text.specs.Decimal.{decimal}

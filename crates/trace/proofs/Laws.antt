@@ -1,13 +1,12 @@
 -- What a reader of a file piece by piece may lean on: a piece that has the whole record is enough, and the turns of any division into pieces
 -- write, joined, what the whole file gives. Assumes nothing.
 use mathlib.Core.Path.{_≡_, refl, sym, _∙_, ap, subst}
-use mathlib.Core.Bool.{Bool, true, false, _&&_, not, cond, and-true}
+use mathlib.Core.Bool.{Bool, true, false, _&&_, not, and-true}
 use mathlib.Core.List.{List, [], _∷_, _++_, append-nil}
-use Prim.Native.Nat.{ℕ, zero, suc, _+_, _-_, _<_, _≤_}
+use Prim.Native.Nat.{ℕ, zero, suc, _+_, _<_, _≤_}
 use native.Mathlib.Omega.{arith}
 use borrow.Author.Tests.{ne-eqb, lt-ltb, le-leb}
 use lib.Dec.{eqb, leb}
-use lib.IntN.{ℤ}
 use lib.ListN.{length, take, drop, replicate, length-append, length-drop, length-replicate}
 use lib.Seq.{drop-append-le, take-append-le, take-at}
 use Rattle.numbers.proofs.Flags.{by-test, by-bool, by-order, impossible}
@@ -19,12 +18,12 @@ use Rattle.dlt.specs.declared.header.HeaderRead.{HeaderRead}
 use Rattle.dlt.specs.declared.header.HeaderRead.the-variants as headers
 use Rattle.head.specs.Head.{madeOf}
 use Rattle.lines.specs.Lines.{badBytes}
-use Rattle.dlt.proofs.Laws.{header-behind, record-behind, size-within, size-some}
+use Rattle.dlt.proofs.Laws.{header-behind, record-behind, size-within}
 use Rattle.text.specs.Put.{put, putOf}
 use Rattle.step.specs.Step.{Ended}
 use Rattle.trace.proofs.Steps.{come-not}
-use Rattle.trace.specs.Trace.{Areas, Replay, callIn, lengthIn, payloadIn, called, replayed, lineOf, closing, linesOf, isRefused, byHeader, outputOf}
-use Rattle.trace.specs.Turn.{beginOf, begunBy, replayIn, TurnOutcome, turnOutcome, isShort, lineNeed, stays, endsWith, TurnLeft, turnLeft, advances, turnBy, turnOf}
+use Rattle.trace.specs.Trace.{Areas, Replay, callIn, payloadIn, called, replayed, lineOf, closing, linesOf, isRefused, byHeader, outputOf}
+use Rattle.trace.specs.Turn.{beginOf, begunBy, replayIn, TurnOutcome, isShort, lineNeed, stays, endsWith, TurnLeft, turnLeft, advances, turnOf}
 use Rattle.trace.specs.Loop.{Moves, wroteIn, Writes, record-line, end-line, bad-line, Replays, cut, refused, ready}
 use Rattle.trace.specs.declared.Opened.{Opened}
 use Rattle.trace.specs.declared.Opened.the-variants as opened

@@ -2,12 +2,12 @@
 -- Assumes nothing.
 use mathlib.Core.Path.{_≡_, refl, sym, _∙_, ap}
 use mathlib.Core.Bool.{Bool, true, false, _&&_, not, cond, and-true}
-use mathlib.Core.List.{List, []}
+use mathlib.Core.List.{List}
 use Prim.Native.Nat.{ℕ, _+_, _-_, _*_, _/_, _%_, _^_, _<_, _≤_}
 use native.Mathlib.Omega.{arith}
 use borrow.Author.Needs.{needs}
-use borrow.Author.Tests.{leb-true, ne-eqb, le-leb, lt-leb, lt-ltb, le-ltb}
-use lib.Dec.{eqb, leb, ltb}
+use borrow.Author.Tests.{leb-true, ne-eqb, le-leb, lt-leb}
+use lib.Dec.{eqb, leb}
 use lib.IntN.{ℤ, pos}
 use lib.ListN.{length, take, drop, length-drop}
 use lib.Seq.{drop-drop}
@@ -36,7 +36,7 @@ use Rattle.step.specs.declared.Call.{Call}
 use Rattle.step.specs.declared.Call.the-variants as calls
 use Rattle.step.specs.declared.Answer.{Answer}
 use Rattle.trace.specs.Trace.{Areas, callIn, lengthIn, payloadIn}
-use Rattle.trace.specs.Turn.{noHead, begunAs, begunBy, beginOf, isShort, lineNeed, areasOf, TurnOutcome, turnOutcome, TurnLeft, turnLeft, turned, stays, endsWith, endsBy, advances, turnBy, turnOf}
+use Rattle.trace.specs.Turn.{noHead, begunAs, begunBy, beginOf, isShort, lineNeed, areasOf, TurnOutcome, turnOutcome, TurnLeft, turnLeft, turned, endsWith, endsBy, advances, turnBy, turnOf}
 use Rattle.trace.specs.declared.Turned.{Turned}
 use Rattle.trace.specs.declared.Status.{Status}
 use Rattle.trace.specs.RecordHere.{RecordHere}

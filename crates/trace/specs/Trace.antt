@@ -1,6 +1,6 @@
 -- What a replay writes for a whole file: 01, "Trace, mark DLT".
 use mathlib.Core.Bool.{Bool, true, false, _&&_, not, cond}
-use mathlib.Core.List.{List, [], _++_}
+use mathlib.Core.List.{List, _++_}
 use Prim.Native.Nat.{ℕ, zero, suc}
 use lib.Dec.{eqb, leb}
 use lib.ListN.{length, take, drop}
@@ -15,7 +15,7 @@ use Rattle.dlt.specs.declared.header.HeaderRead.the-variants as headers
 use Rattle.dlt.specs.declared.record.RecordRead.{RecordRead}
 use Rattle.dlt.specs.declared.record.RecordRead.the-variants as records
 use Rattle.lines.specs.Lines.{lineBytes, endBytes, badBytes}
-use Rattle.step.specs.Step.{State, stateOf, lentFor, Ended, stepOf}
+use Rattle.step.specs.Step.{stateOf, lentFor, Ended, stepOf}
 use Rattle.tally.specs.Tally.{freshTally, tallied, tallyBytes}
 use Rattle.tally.specs.declared.Tally.{Tally}
 use Rattle.step.specs.declared.Call.{Call}
