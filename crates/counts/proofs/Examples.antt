@@ -7,6 +7,7 @@ use borrow.Author.Tests.{lt-leb, ne-eqb}
 use lib.Dec.{leb}
 use lib.IntN.{pos}
 use Rattle.numbers.proofs.Flags.{and-false}
+use Rattle.numbers.specs.Circular.{sum}
 use Rattle.receiver.specs.declared.data.DataAnswer.the-variants as datas
 use Rattle.receiver.specs.declared.acking.RttAnswer.the-variants as rtts
 use Rattle.receiver.specs.declared.request.DropAnswer.the-variants as drops
@@ -16,26 +17,26 @@ use Rattle.counts.specs.declared.Counters.{Counters}
 
 -- A67: got, 10 and 7, of 4 bytes each
 three-packets : dataCounts (dataCounts (dataCounts fresh 4 (datas.Got 1 false)) 4 (datas.Refused 10)) 4 (datas.Refused 7) ≡ counts 3 60 1 20 0 1 20 0 0 0
-unfolding raised
+unfolding sum raised
 three-packets = refl
 
 -- a loss, a recovery, 8, and a request that gives up two
 losses : dropCounts (dataCounts (dataCounts (dataCounts fresh 6 (datas.Loss 10 11)) 3 (datas.Light 11 true)) 0 (datas.PacketTooEarly 1 2)) (drops.Gone 2) ≡ counts 3 57 1 22 1 3 16 0 0 0
-unfolding raised
+unfolding sum raised
 losses = refl
 
 -- A66 and A6: not held, refused 4, found
 acks : ack2Counts (ack2Counts (ack2Counts fresh rtts.Nothing) (rtts.Refused 4)) (rtts.Rtt 8750 2937) ≡ counts 0 0 0 0 0 0 0 2 1 0
-unfolding raised
+unfolding sum raised
 acks = refl
 
 adjustments : clockCounts (clockCounts (clockCounts fresh clocks.Nothing) (clocks.Refused 14)) (clocks.Adjusted (pos 1) 31) ≡ counts 0 0 0 0 0 0 0 0 0 1
-unfolding raised
+unfolding sum raised
 adjustments = refl
 
 -- 2^64 - 1 and one more is 0
 wraps : dataCounts (counts (2 ^ 64 - 1) (2 ^ 64 - 1) 0 0 0 0 0 0 0 0) 4 (datas.Refused 10) ≡ counts 0 19 0 0 0 0 0 0 0 0
-unfolding raised
+unfolding sum raised
 wraps = refl
 
 -- a data packet refused by 1 to 6, or by a number past 10, raises nothing

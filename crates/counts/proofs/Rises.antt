@@ -2,7 +2,7 @@
 use mathlib.Core.Path.{_≡_, refl, _∙_}
 use mathlib.Core.Bool.{Bool, true, false, _&&_}
 use mathlib.Core.List.{List, [], _∷_}
-use Prim.Native.Nat.{ℕ}
+use Prim.Native.Nat.{ℕ, _+_, _%_, _^_}
 use borrow.Author.Needs.{needs}
 use borrow.Author.Tests.{ne-eqb}
 use denote.Enum.Declared.{tagOf}
@@ -10,6 +10,7 @@ use lib.Dec.{eqb, leb}
 use lib.Ieee.{Float}
 use lib.IntN.{ℤ}
 use types.Run.{OneOf, miss}
+use Rattle.numbers.specs.Circular.{sum}
 use Rattle.receiver.specs.declared.data.DataAnswer.{DataAnswer}
 use Rattle.receiver.specs.declared.data.DataAnswer.the-variants as datas
 use Rattle.receiver.specs.declared.acking.RttAnswer.{RttAnswer}
@@ -19,8 +20,13 @@ use Rattle.receiver.specs.declared.request.DropAnswer.the-variants as drops
 use Rattle.receiver.specs.declared.sync.ClockAnswer.{ClockAnswer}
 use Rattle.receiver.specs.declared.sync.ClockAnswer.the-variants as clocks
 use Rattle.receiver.proofs.sync.ClockAnswer.{the-type}
-use Rattle.counts.specs.Counts.{counts, fresh, unique, again, dropped, duplicate, gone, unknown, found, adjusted, sum, raised, wire, gotCounts, refusedCounts, dataCounts, ack2Counts, dropCounts, clockCounts}
+use Rattle.counts.specs.Counts.{counts, fresh, unique, again, dropped, duplicate, gone, unknown, found, adjusted, raised, wire, gotCounts, refusedCounts, dataCounts, ack2Counts, dropCounts, clockCounts}
 use Rattle.counts.specs.declared.Counters.{Counters}
+
+-- sum, wire
+pub summed : (a b : ℕ) {n : ℕ} → n ≡ (a + b) % 2 ^ 64 → n ≡ sum 64 a b
+unfolding sum
+summed a b e = e
 
 -- the rises
 pub duplicate-made : (b : ℕ) {n : Counters} → n ≡ fresh
@@ -56,16 +62,16 @@ pub adjusted-made : {n : Counters} → n ≡ fresh
 adjusted-made e = rw e
 
 pub raised-made : (c r : Counters) {x₀ x₁ x₂ x₃ x₄ x₅ x₆ x₇ x₈ x₉ : ℕ}
-    → x₀ ≡ sum (c .«rx_data») (r .«rx_data»)
-    → x₁ ≡ sum (c .«rx_bytes») (r .«rx_bytes»)
-    → x₂ ≡ sum (c .«rx_unique_data») (r .«rx_unique_data»)
-    → x₃ ≡ sum (c .«rx_unique_bytes») (r .«rx_unique_bytes»)
-    → x₄ ≡ sum (c .«rx_retransmit_data») (r .«rx_retransmit_data»)
-    → x₅ ≡ sum (c .«rx_dropped_data») (r .«rx_dropped_data»)
-    → x₆ ≡ sum (c .«rx_dropped_bytes») (r .«rx_dropped_bytes»)
-    → x₇ ≡ sum (c .«rx_ack2») (r .«rx_ack2»)
-    → x₈ ≡ sum (c .«rx_ack2_errors») (r .«rx_ack2_errors»)
-    → x₉ ≡ sum (c .«rx_clock_adjustments») (r .«rx_clock_adjustments»)
+    → x₀ ≡ sum 64 (c .«rx_data») (r .«rx_data»)
+    → x₁ ≡ sum 64 (c .«rx_bytes») (r .«rx_bytes»)
+    → x₂ ≡ sum 64 (c .«rx_unique_data») (r .«rx_unique_data»)
+    → x₃ ≡ sum 64 (c .«rx_unique_bytes») (r .«rx_unique_bytes»)
+    → x₄ ≡ sum 64 (c .«rx_retransmit_data») (r .«rx_retransmit_data»)
+    → x₅ ≡ sum 64 (c .«rx_dropped_data») (r .«rx_dropped_data»)
+    → x₆ ≡ sum 64 (c .«rx_dropped_bytes») (r .«rx_dropped_bytes»)
+    → x₇ ≡ sum 64 (c .«rx_ack2») (r .«rx_ack2»)
+    → x₈ ≡ sum 64 (c .«rx_ack2_errors») (r .«rx_ack2_errors»)
+    → x₉ ≡ sum 64 (c .«rx_clock_adjustments») (r .«rx_clock_adjustments»)
     → counts x₀ x₁ x₂ x₃ x₄ x₅ x₆ x₇ x₈ x₉ ≡ raised c r
 unfolding raised
 raised-made c r e₀ e₁ e₂ e₃ e₄ e₅ e₆ e₇ e₈ e₉ = rw (e₀, e₁, e₂, e₃, e₄, e₅, e₆, e₇, e₈, e₉)
@@ -129,4 +135,4 @@ clock-stays c (clocks.Adjusted mean deviation) p = absurd (miss (0 ∷ 2 ∷ 3 �
 clock-stays c (clocks.Unsteady deviation v) p = refl
 clock-stays c (clocks.Refused n) p = refl
 
-pub ruleset rises = (duplicate-made, unique-made, again-made, dropped-made, gone-made, unknown-made, found-made, adjusted-made, raised-made, got-again, got-unique, refused-dropped, refused-duplicate, refused-stays, data-got, data-light, data-loss, data-refused, data-early, ack2-unknown, ack2-found, ack2-refused, drop-gone, clock-adjusted, clock-stays, needs)
+pub ruleset rises = (summed, duplicate-made, unique-made, again-made, dropped-made, gone-made, unknown-made, found-made, adjusted-made, raised-made, got-again, got-unique, refused-dropped, refused-duplicate, refused-stays, data-got, data-light, data-loss, data-refused, data-early, ack2-unknown, ack2-found, ack2-refused, drop-gone, clock-adjusted, clock-stays, needs)

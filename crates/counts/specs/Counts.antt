@@ -1,8 +1,9 @@
 -- The ten counters and what each answer raises, from the answer alone: 01, "Counters follow 003, mod 2^64, a packet's size payload + 16" and
 -- "7 to 10 still count in the counters". A6, A65, A66 and A67 of DECISIONS.md settle which answer raises which.
 use mathlib.Core.Bool.{Bool, cond, _&&_}
-use Prim.Native.Nat.{ℕ, _+_, _%_, _^_}
+use Prim.Native.Nat.{ℕ}
 use lib.Dec.{eqb, leb}
+use Rattle.numbers.specs.Circular.{sum}
 use Rattle.receiver.specs.declared.data.DataAnswer.{DataAnswer}
 use Rattle.receiver.specs.declared.data.DataAnswer.the-variants as datas
 use Rattle.receiver.specs.declared.acking.RttAnswer.{RttAnswer}
@@ -15,14 +16,14 @@ use Rattle.counts.specs.declared.Counters.{Counters}
 
 -- ten counts in the order of 003: data and bytes, unique data and bytes, retransmitted, dropped data and bytes, ACK2s, ACK2 errors, clock adjustments
 abbrev pub counts : ℕ → ℕ → ℕ → ℕ → ℕ → ℕ → ℕ → ℕ → ℕ → ℕ → Counters
-counts packets bytes once onceBytes twice lost lostBytes acks errors adjustments = record {
+counts packets bytes unique uniqueBytes retransmitted dropped droppedBytes acks errors adjustments = record {
   «rx_data» = packets;
   «rx_bytes» = bytes;
-  «rx_unique_data» = once;
-  «rx_unique_bytes» = onceBytes;
-  «rx_retransmit_data» = twice;
-  «rx_dropped_data» = lost;
-  «rx_dropped_bytes» = lostBytes;
+  «rx_unique_data» = unique;
+  «rx_unique_bytes» = uniqueBytes;
+  «rx_retransmit_data» = retransmitted;
+  «rx_dropped_data» = dropped;
+  «rx_dropped_bytes» = droppedBytes;
   «rx_ack2» = acks;
   «rx_ack2_errors» = errors;
   «rx_clock_adjustments» = adjustments;
@@ -63,23 +64,19 @@ found = counts 0 0 0 0 0 0 0 1 1 0
 abbrev pub adjusted : Counters
 adjusted = counts 0 0 0 0 0 0 0 0 0 1
 
--- counters go on mod 2^64
-abbrev pub sum : ℕ → ℕ → ℕ
-sum a b = (a + b) % 2 ^ 64
-
--- each counter rises by its own
+-- each counter rises by its own, mod 2^64
 unfoldable pub raised : Counters → Counters → Counters
 raised c r = counts
-    (sum (c .«rx_data») (r .«rx_data»)) (sum (c .«rx_bytes») (r .«rx_bytes»))
-    (sum (c .«rx_unique_data») (r .«rx_unique_data»)) (sum (c .«rx_unique_bytes») (r .«rx_unique_bytes»))
-    (sum (c .«rx_retransmit_data») (r .«rx_retransmit_data»))
-    (sum (c .«rx_dropped_data») (r .«rx_dropped_data»)) (sum (c .«rx_dropped_bytes») (r .«rx_dropped_bytes»))
-    (sum (c .«rx_ack2») (r .«rx_ack2»)) (sum (c .«rx_ack2_errors») (r .«rx_ack2_errors»))
-    (sum (c .«rx_clock_adjustments») (r .«rx_clock_adjustments»))
+    (sum 64 (c .«rx_data») (r .«rx_data»)) (sum 64 (c .«rx_bytes») (r .«rx_bytes»))
+    (sum 64 (c .«rx_unique_data») (r .«rx_unique_data»)) (sum 64 (c .«rx_unique_bytes») (r .«rx_unique_bytes»))
+    (sum 64 (c .«rx_retransmit_data») (r .«rx_retransmit_data»))
+    (sum 64 (c .«rx_dropped_data») (r .«rx_dropped_data»)) (sum 64 (c .«rx_dropped_bytes») (r .«rx_dropped_bytes»))
+    (sum 64 (c .«rx_ack2») (r .«rx_ack2»)) (sum 64 (c .«rx_ack2_errors») (r .«rx_ack2_errors»))
+    (sum 64 (c .«rx_clock_adjustments») (r .«rx_clock_adjustments»))
 
 -- a packet's size is payload + 16
 abbrev pub wire : ℕ → ℕ
-wire size = sum size 16
+wire size = sum 64 size 16
 
 -- a packet that the window took
 abbrev pub gotCounts : Counters → ℕ → Bool → Counters

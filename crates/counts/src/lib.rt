@@ -1,6 +1,7 @@
 // The ten counters of receiver/mod.rs and what each answer raises: 01, "Counters follow 003, mod 2^64".
 ghost use mathlib.Core.Path.{_≡_};
-ghost use Rattle.counts.specs.Counts.{fresh, sum, raised};
+ghost use Rattle.numbers.specs.Circular.{sum};
+ghost use Rattle.counts.specs.Counts.{fresh, raised};
 
 pub mod after;
 
@@ -20,7 +21,7 @@ pub struct Counters {
 
 // Counters go on mod 2^64.
 fn sum(a: u64, b: u64) -> u64
-    ensures { λ r. ⌜ r ≡ sum a b ⌝ }
+    ensures { λ r. ⌜ r ≡ sum 64 a b ⌝ }
 {
     std::num::wrapping_add_u64(a, b)
 }

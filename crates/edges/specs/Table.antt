@@ -1,17 +1,11 @@
 -- 01, "Both sides of the edge": P1 to P8. Each row is a whole file of the trace and all that it must give, as bytes.
 use mathlib.Core.List.{List, [], _∷_, _++_}
-use Prim.Native.Char.{code}
 use Prim.Native.Nat.{ℕ, zero, suc, _*_, _/_, _%_}
-use Prim.Native.String as strings
-use Prim.Native.String.{String}
 use lib.ListN.{replicate}
+use Rattle.text.specs.Bytes.{bytes}
 use Rattle.trace.specs.Trace.{Areas}
 
--- a text as bytes, and a number in so many bytes, big-endian
-unfoldable pub bytes : String → List ℕ
-bytes strings.[] = []
-bytes (strings._∷_ c s) = code c ∷ bytes s
-
+-- a number in so many bytes, big-endian
 unfoldable pub be : ℕ → ℕ → List ℕ
 be zero n = []
 be (suc k) n = be k (n / 256) ++ (n % 256 ∷ [])

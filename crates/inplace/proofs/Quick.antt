@@ -277,6 +277,7 @@ module _ (ws : List ℕ) (q : Found ws) where
         lt-ltb (at ws 74) 1024 (q .start),
         le-leb (at ws 75) 1024 (q .acks),
         le-leb 1 (at ws 76) (q .first),
+        le-leb (at ws 76) 4294967295 (omega (arith, q .number)),
         le-leb (at ws 76 + at ws 75 - 1) 4294967295 (omega (arith, q .newest, q .first, e, k)),
         lt-ltb (at ws 77) (2 ^ 31) (q .largest),
         lt-ltb (at ws 78) (2 ^ 31) (q .lastack),

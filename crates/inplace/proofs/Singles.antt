@@ -57,7 +57,7 @@ module _ (w : Window) (base : TimeBase) (latency : ℕ) (slots : List ℕ) (room
   single-by h a b c d e g z = rw (lt-ltb 0 (w .held) (omega (arith, h)), d, e, z, c, b, g, a)
 
 pub start-words : (w : Window) (slots : List ℕ) → Good w slots → 3 * w .start + 3 ≤ length slots
-start-words w slots g = omega (arith, g .words, g .starts)
+start-words w slots g = omega (arith, g .words, g .ranges .starts)
 
 -- put_single
 pub single-put : (ws : List ℕ) (w : Window) (released now : ℤ) {a b c d e : ℕ} {x y : ℤ}
@@ -72,20 +72,20 @@ module _ (w : Window) (base : TimeBase) (slots bs out : List ℕ) where
   pays-small {n = n} a b = let q : n ≡ lengthIn (entryAt slots (w .start)) = b ∙ ap lengthIn a in omega (arith, q, length-read slots (w .start))
 
   pub pays-place : Single w base slots bs out → 1456 * w .start + 1456 ≤ length bs
-  pays-place r = let g = r .good in omega (arith, r .payloads, g .starts)
+  pays-place r = let g = r .good in omega (arith, r .payloads, g .ranges .starts)
 
   pub pays-fits : {e : Entry} {n : ℕ} → Single w base slots bs out → e ≡ entryAt slots (w .start) → n ≡ lengthIn e → 0 + n ≤ length out
   pays-fits {n = n} r a b = let q : n ≡ lengthIn (entryAt slots (w .start)) = b ∙ ap lengthIn a in omega (arith, q, r .fits)
 
   module _ (r : Single w base slots bs out) where
     pub cuts-starts : w .start < w .capacity
-    cuts-starts = r .good .starts
+    cuts-starts = r .good .ranges .starts
 
     pub cuts-most : w .capacity ≤ 8192
-    cuts-most = r .good .most
+    cuts-most = r .good .ranges .most
 
     pub cuts-holds : w .held ≤ w .capacity
-    cuts-holds = r .good .holds
+    cuts-holds = r .good .ranges .holds
 
     pub cuts-one : 1 ≤ w .held
     cuts-one = omega (arith, r .some)
@@ -152,7 +152,7 @@ module _ (w : Window) (base : TimeBase) (latency : ℕ) (slots : List ℕ) (room
 
   module _ (g : Good w slots) where
     at-start : slotOf (w .capacity) (w .start) 0 ≡ w .start
-    at-start = slot-zero (w .capacity) (w .start) (g .starts)
+    at-start = slot-zero (w .capacity) (w .start) (g .ranges .starts)
 
     in-front : entryIn w slots 0 ≡ front
     in-front = ap (entryAt slots) at-start

@@ -1,6 +1,6 @@
 -- What the code of sound.rt does at each return, as laws over plain values. Assumes nothing.
 use mathlib.Core.Path.{_≡_, refl, sym, _∙_, ap}
-use mathlib.Core.Bool.{Bool, true, false, _&&_, cond}
+use mathlib.Core.Bool.{Bool, true, false, _&&_, cond, and-true}
 use mathlib.Core.List.{List, [], _∷_}
 use Prim.Native.Nat.{ℕ, zero, suc, _+_, _-_, _%_, _^_, _<_, _≤_}
 use native.Mathlib.Nat.{mod-lt, mod-le, mod-eq-of-lt}
@@ -134,10 +134,6 @@ partsOk ws =
     && rttOk (rttOf ws)
     && historyOk (historyOf ws)
     && isReading (wholeOf (at ws 0))
-
-and-true : (b : Bool) → (b && true) ≡ b
-and-true true = refl
-and-true false = refl
 
 module _ (ws : List ℕ) (e : allSmall ws ≡ true) where
   abbrev a1 : Bool

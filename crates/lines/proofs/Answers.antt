@@ -12,6 +12,7 @@ use lib.ListN.{length, take}
 use lib.Seq.{take-all, take-length}
 use Rattle.numbers.proofs.Flags.{by-order}
 use Rattle.numbers.proofs.Signs.{widens}
+use Rattle.text.specs.Bytes.{bytes}
 use Rattle.text.specs.Put.{Put, putEnded, putOf}
 use Rattle.text.proofs.Puts.{put-then}
 use Rattle.receiver.specs.Paper.{got, light, message, late, report, refused, adjusted, whole, plain, refusedBy, dataLine, messageLine, lossLine, fullAckLine, rttLine, dropLine, clockLine, clearLine}
@@ -101,15 +102,15 @@ loss-report out at k a list n w h q e =
 
 -- end_line, bad_line
 module _ (out : List ℕ) (at : ℕ) {p : ℕ} {out₁ : List ℕ} where
-  pub end-bytes : (i j k l : ℕ) {r : ℕ} {out₂ : List ℕ} → putEnded p out₁ ≡ putOf out at (101 ∷ 110 ∷ 100 ∷ []) → at + 256 ≤ length out
+  pub end-bytes : (i j k l : ℕ) {r : ℕ} {out₂ : List ℕ} → putEnded p out₁ ≡ putOf out at (bytes "end") → at + 256 ≤ length out
       → putEnded r out₂ ≡ putOf out₁ p (closed (plain i ∷ plain j ∷ plain k ∷ plain l ∷ [])) → putEnded r out₂ ≡ putOf out at (endBytes i j k l)
   unfolding endBytes
-  end-bytes i j k l e h f = put-then out at (101 ∷ 110 ∷ 100 ∷ []) (closed (plain i ∷ plain j ∷ plain k ∷ plain l ∷ [])) e f (omega arith)
+  end-bytes i j k l e h f = put-then out at (bytes "end") (closed (plain i ∷ plain j ∷ plain k ∷ plain l ∷ [])) e f (omega arith)
 
-  pub bad-bytes : (i : ℕ) {r : ℕ} {out₂ : List ℕ} → putEnded p out₁ ≡ putOf out at (98 ∷ 97 ∷ 100 ∷ []) → at + 256 ≤ length out
+  pub bad-bytes : (i : ℕ) {r : ℕ} {out₂ : List ℕ} → putEnded p out₁ ≡ putOf out at (bytes "bad") → at + 256 ≤ length out
       → putEnded r out₂ ≡ putOf out₁ p (closed (plain i ∷ [])) → putEnded r out₂ ≡ putOf out at (badBytes i)
   unfolding badBytes
-  bad-bytes i e h f = put-then out at (98 ∷ 97 ∷ 100 ∷ []) (closed (plain i ∷ [])) e f (omega arith)
+  bad-bytes i e h f = put-then out at (bytes "bad") (closed (plain i ∷ [])) e f (omega arith)
 
 -- wider
 pub wide-back : {z z₁ z₂ : ℤ} → z₂ ≡ z₁ → z₁ ≡ z → z₂ ≡ z

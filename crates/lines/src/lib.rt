@@ -5,7 +5,7 @@ ghost use mathlib.Core.List.{[]};
 ghost use Prim.Native.Nat.{_+_, _*_, _≤_, min};
 ghost use lib.ListN.{length};
 ghost use Rattle.receiver.specs.Paper.{dataLine, messageLine, lossLine, fullAckLine, rttLine, dropLine, clockLine, clearLine, refusedBy};
-ghost use Rattle.shapes.specs.Shapes.{Piece};
+ghost use Rattle.shapes.specs.Shapes.{Wrote};
 ghost use Rattle.lines.specs.Lines.{lineBytes, endBytes, badBytes};
 use receiver::acking::FullAckAnswer;
 use receiver::acking::RttAnswer;
@@ -23,7 +23,7 @@ use shapes::tail;
 // A refusal without values; 0 is none, and has no number.
 fn refused(out: &mut [u8], at: usize, nth: u64, n: u32) -> usize
     requires { ⌜ at + 256 ≤ length (now out) ⌝ }
-    ensures { λ r. ⌜ Piece (now (out .entry)) at (lineBytes nth (refusedBy n [])) 256 r (now (out .exit)) ⌝ }
+    ensures { λ r. ⌜ Wrote (now (out .entry)) at (lineBytes nth (refusedBy n [])) 256 r (now (out .exit)) ⌝ }
 {
     if n == 0 {
         return line::bare(out, at, nth, b"refused");
@@ -33,7 +33,7 @@ fn refused(out: &mut [u8], at: usize, nth: u64, n: u32) -> usize
 
 pub fn data_line(out: &mut [u8], at: usize, nth: u64, answer: DataAnswer) -> usize
     requires { ⌜ at + 256 ≤ length (now out) ⌝ }
-    ensures { λ r. ⌜ Piece (now (out .entry)) at (lineBytes nth (dataLine answer)) 256 r (now (out .exit)) ⌝ }
+    ensures { λ r. ⌜ Wrote (now (out .entry)) at (lineBytes nth (dataLine answer)) 256 r (now (out .exit)) ⌝ }
 {
     match answer {
         DataAnswer::Got { lrsn, recovered } => {
@@ -60,7 +60,7 @@ fn wider(z: i32) -> i64
 
 pub fn message_line(out: &mut [u8], at: usize, nth: u64, answer: MessageAnswer) -> usize
     requires { ⌜ at + 256 ≤ length (now out) ⌝ }
-    ensures { λ r. ⌜ Piece (now (out .entry)) at (lineBytes nth (messageLine answer)) 256 r (now (out .exit)) ⌝ }
+    ensures { λ r. ⌜ Wrote (now (out .entry)) at (lineBytes nth (messageLine answer)) 256 r (now (out .exit)) ⌝ }
 {
     match answer {
         MessageAnswer::Nothing => line::bare(out, at, nth, b"none"),
@@ -93,7 +93,7 @@ fn smaller(a: usize, b: usize) -> usize
 // The words of a report are the first of the lent list.
 pub fn loss_line(out: &mut [u8], at: usize, nth: u64, answer: LossAnswer, list: &[u32]) -> usize
     requires { ⌜ at + (256 + 21 * length (now list)) ≤ length (now out) ⌝ }
-    ensures { λ r. ⌜ Piece (now (out .entry)) at (lineBytes nth (lossLine answer (now (list .entry)))) (256 + 21 * length (now (list .entry))) r (now (out .exit)) ⌝ }
+    ensures { λ r. ⌜ Wrote (now (out .entry)) at (lineBytes nth (lossLine answer (now (list .entry)))) (256 + 21 * length (now (list .entry))) r (now (out .exit)) ⌝ }
 {
     match answer {
         LossAnswer::Nothing => line::bare(out, at, nth, b"none"),
@@ -107,7 +107,7 @@ pub fn loss_line(out: &mut [u8], at: usize, nth: u64, answer: LossAnswer, list: 
 
 pub fn full_ack_line(out: &mut [u8], at: usize, nth: u64, answer: FullAckAnswer) -> usize
     requires { ⌜ at + 256 ≤ length (now out) ⌝ }
-    ensures { λ r. ⌜ Piece (now (out .entry)) at (lineBytes nth (fullAckLine answer)) 256 r (now (out .exit)) ⌝ }
+    ensures { λ r. ⌜ Wrote (now (out .entry)) at (lineBytes nth (fullAckLine answer)) 256 r (now (out .exit)) ⌝ }
 {
     match answer {
         FullAckAnswer::Nothing => line::bare(out, at, nth, b"none"),
@@ -138,7 +138,7 @@ pub fn full_ack_line(out: &mut [u8], at: usize, nth: u64, answer: FullAckAnswer)
 
 pub fn ack2_line(out: &mut [u8], at: usize, nth: u64, answer: RttAnswer) -> usize
     requires { ⌜ at + 256 ≤ length (now out) ⌝ }
-    ensures { λ r. ⌜ Piece (now (out .entry)) at (lineBytes nth (rttLine answer)) 256 r (now (out .exit)) ⌝ }
+    ensures { λ r. ⌜ Wrote (now (out .entry)) at (lineBytes nth (rttLine answer)) 256 r (now (out .exit)) ⌝ }
 {
     match answer {
         RttAnswer::Nothing => line::bare(out, at, nth, b"none"),
@@ -151,7 +151,7 @@ pub fn ack2_line(out: &mut [u8], at: usize, nth: u64, answer: RttAnswer) -> usiz
 
 pub fn drop_line(out: &mut [u8], at: usize, nth: u64, answer: DropAnswer) -> usize
     requires { ⌜ at + 256 ≤ length (now out) ⌝ }
-    ensures { λ r. ⌜ Piece (now (out .entry)) at (lineBytes nth (dropLine answer)) 256 r (now (out .exit)) ⌝ }
+    ensures { λ r. ⌜ Wrote (now (out .entry)) at (lineBytes nth (dropLine answer)) 256 r (now (out .exit)) ⌝ }
 {
     match answer {
         DropAnswer::Gone(count) => line::one(out, at, nth, b"gone", count as u64),
@@ -161,7 +161,7 @@ pub fn drop_line(out: &mut [u8], at: usize, nth: u64, answer: DropAnswer) -> usi
 
 pub fn clock_line(out: &mut [u8], at: usize, nth: u64, answer: ClockAnswer) -> usize
     requires { ⌜ at + 256 ≤ length (now out) ⌝ }
-    ensures { λ r. ⌜ Piece (now (out .entry)) at (lineBytes nth (clockLine answer)) 256 r (now (out .exit)) ⌝ }
+    ensures { λ r. ⌜ Wrote (now (out .entry)) at (lineBytes nth (clockLine answer)) 256 r (now (out .exit)) ⌝ }
 {
     match answer {
         ClockAnswer::Nothing => line::bare(out, at, nth, b"none"),
@@ -178,7 +178,7 @@ pub fn clock_line(out: &mut [u8], at: usize, nth: u64, answer: ClockAnswer) -> u
 
 pub fn clear_line(out: &mut [u8], at: usize, nth: u64, answer: ClearAnswer) -> usize
     requires { ⌜ at + 256 ≤ length (now out) ⌝ }
-    ensures { λ r. ⌜ Piece (now (out .entry)) at (lineBytes nth (clearLine answer)) 256 r (now (out .exit)) ⌝ }
+    ensures { λ r. ⌜ Wrote (now (out .entry)) at (lineBytes nth (clearLine answer)) 256 r (now (out .exit)) ⌝ }
 {
     match answer {
         ClearAnswer::Cleared => line::bare(out, at, nth, b"clear"),
@@ -196,7 +196,7 @@ pub fn end_line(
     held: usize,
 ) -> usize
     requires { ⌜ at + 256 ≤ length (now out) ⌝ }
-    ensures { λ r. ⌜ Piece (now (out .entry)) at (endBytes records lrsn seqno0 held) 256 r (now (out .exit)) ⌝ }
+    ensures { λ r. ⌜ Wrote (now (out .entry)) at (endBytes records lrsn seqno0 held) 256 r (now (out .exit)) ⌝ }
 {
     let p = part::start(out, at, b"end");
     tail::tail4(out, p, records, lrsn as u64, seqno0 as u64, held as u64)
@@ -205,7 +205,7 @@ pub fn end_line(
 // The line of a file that is no trace, or of a record that is none: its offset.
 pub fn bad_line(out: &mut [u8], at: usize, offset: u64) -> usize
     requires { ⌜ at + 256 ≤ length (now out) ⌝ }
-    ensures { λ r. ⌜ Piece (now (out .entry)) at (badBytes offset) 256 r (now (out .exit)) ⌝ }
+    ensures { λ r. ⌜ Wrote (now (out .entry)) at (badBytes offset) 256 r (now (out .exit)) ⌝ }
 {
     let p = part::start(out, at, b"bad");
     tail::tail1(out, p, offset)

@@ -4,7 +4,7 @@ ghost use mathlib.Core.List.{[], _∷_, map};
 ghost use Prim.Native.Nat.{_+_, _*_, _≤_};
 ghost use lib.ListN.{length, take};
 ghost use Rattle.receiver.specs.Paper.{whole as Paper·whole, plain, packetsValue, bytesValue, linkValue};
-ghost use Rattle.shapes.specs.Shapes.{spaced, closed, Piece};
+ghost use Rattle.shapes.specs.Shapes.{spaced, closed, Wrote};
 use crate::part::newline;
 use crate::part::number;
 use crate::part::whole;
@@ -14,7 +14,7 @@ use acks::rates::Speed;
 // One number, two, three, and four.
 pub fn tail1(out: &mut [u8], at: usize, a: u64) -> usize
     requires { ⌜ at + 22 ≤ length (now out) ⌝ }
-    ensures { λ r. ⌜ Piece (now (out .entry)) at (closed (plain a ∷ [])) 22 r (now (out .exit)) ⌝ }
+    ensures { λ r. ⌜ Wrote (now (out .entry)) at (closed (plain a ∷ [])) 22 r (now (out .exit)) ⌝ }
 {
     let p = number(out, at, a);
     newline(out, p)
@@ -22,7 +22,7 @@ pub fn tail1(out: &mut [u8], at: usize, a: u64) -> usize
 
 pub fn tail2(out: &mut [u8], at: usize, a: u64, b: u64) -> usize
     requires { ⌜ at + 43 ≤ length (now out) ⌝ }
-    ensures { λ r. ⌜ Piece (now (out .entry)) at (closed (plain a ∷ plain b ∷ [])) 43 r (now (out .exit)) ⌝ }
+    ensures { λ r. ⌜ Wrote (now (out .entry)) at (closed (plain a ∷ plain b ∷ [])) 43 r (now (out .exit)) ⌝ }
 {
     let p = number(out, at, a);
     tail1(out, p, b)
@@ -30,7 +30,7 @@ pub fn tail2(out: &mut [u8], at: usize, a: u64, b: u64) -> usize
 
 pub fn tail3(out: &mut [u8], at: usize, a: u64, b: u64, c: u64) -> usize
     requires { ⌜ at + 64 ≤ length (now out) ⌝ }
-    ensures { λ r. ⌜ Piece (now (out .entry)) at (closed (plain a ∷ plain b ∷ plain c ∷ [])) 64 r (now (out .exit)) ⌝ }
+    ensures { λ r. ⌜ Wrote (now (out .entry)) at (closed (plain a ∷ plain b ∷ plain c ∷ [])) 64 r (now (out .exit)) ⌝ }
 {
     let p = number(out, at, a);
     tail2(out, p, b, c)
@@ -38,7 +38,7 @@ pub fn tail3(out: &mut [u8], at: usize, a: u64, b: u64, c: u64) -> usize
 
 pub fn tail4(out: &mut [u8], at: usize, a: u64, b: u64, c: u64, d: u64) -> usize
     requires { ⌜ at + 85 ≤ length (now out) ⌝ }
-    ensures { λ r. ⌜ Piece (now (out .entry)) at (closed (plain a ∷ plain b ∷ plain c ∷ plain d ∷ [])) 85 r (now (out .exit)) ⌝ }
+    ensures { λ r. ⌜ Wrote (now (out .entry)) at (closed (plain a ∷ plain b ∷ plain c ∷ plain d ∷ [])) 85 r (now (out .exit)) ⌝ }
 {
     let p = number(out, at, a);
     tail3(out, p, b, c, d)
@@ -47,7 +47,7 @@ pub fn tail4(out: &mut [u8], at: usize, a: u64, b: u64, c: u64, d: u64) -> usize
 // A number that may be below zero, by itself, before one, and before two.
 pub fn signed0(out: &mut [u8], at: usize, z: i64) -> usize
     requires { ⌜ at + 23 ≤ length (now out) ⌝ }
-    ensures { λ r. ⌜ Piece (now (out .entry)) at (closed (Paper·whole z ∷ [])) 23 r (now (out .exit)) ⌝ }
+    ensures { λ r. ⌜ Wrote (now (out .entry)) at (closed (Paper·whole z ∷ [])) 23 r (now (out .exit)) ⌝ }
 {
     let p = whole(out, at, z);
     newline(out, p)
@@ -55,7 +55,7 @@ pub fn signed0(out: &mut [u8], at: usize, z: i64) -> usize
 
 pub fn signed1(out: &mut [u8], at: usize, z: i64, a: u64) -> usize
     requires { ⌜ at + 44 ≤ length (now out) ⌝ }
-    ensures { λ r. ⌜ Piece (now (out .entry)) at (closed (Paper·whole z ∷ plain a ∷ [])) 44 r (now (out .exit)) ⌝ }
+    ensures { λ r. ⌜ Wrote (now (out .entry)) at (closed (Paper·whole z ∷ plain a ∷ [])) 44 r (now (out .exit)) ⌝ }
 {
     let p = whole(out, at, z);
     tail1(out, p, a)
@@ -63,7 +63,7 @@ pub fn signed1(out: &mut [u8], at: usize, z: i64, a: u64) -> usize
 
 pub fn signed2(out: &mut [u8], at: usize, z: i64, a: u64, b: u64) -> usize
     requires { ⌜ at + 65 ≤ length (now out) ⌝ }
-    ensures { λ r. ⌜ Piece (now (out .entry)) at (closed (Paper·whole z ∷ plain a ∷ plain b ∷ [])) 65 r (now (out .exit)) ⌝ }
+    ensures { λ r. ⌜ Wrote (now (out .entry)) at (closed (Paper·whole z ∷ plain a ∷ plain b ∷ [])) 65 r (now (out .exit)) ⌝ }
 {
     let p = whole(out, at, z);
     tail2(out, p, a, b)
@@ -72,7 +72,7 @@ pub fn signed2(out: &mut [u8], at: usize, z: i64, a: u64, b: u64) -> usize
 // Two numbers, the line not yet ended.
 pub fn pair(out: &mut [u8], at: usize, a: u64, b: u64) -> usize
     requires { ⌜ at + 42 ≤ length (now out) ⌝ }
-    ensures { λ r. ⌜ Piece (now (out .entry)) at (spaced (plain a ∷ plain b ∷ [])) 42 r (now (out .exit)) ⌝ }
+    ensures { λ r. ⌜ Wrote (now (out .entry)) at (spaced (plain a ∷ plain b ∷ [])) 42 r (now (out .exit)) ⌝ }
 {
     let p = number(out, at, a);
     number(out, p, b)
@@ -81,7 +81,7 @@ pub fn pair(out: &mut [u8], at: usize, a: u64, b: u64) -> usize
 // Two numbers, then one that may be below zero.
 pub fn range(out: &mut [u8], at: usize, a: u64, b: u64, z: i64) -> usize
     requires { ⌜ at + 65 ≤ length (now out) ⌝ }
-    ensures { λ r. ⌜ Piece (now (out .entry)) at (closed (plain a ∷ plain b ∷ Paper·whole z ∷ [])) 65 r (now (out .exit)) ⌝ }
+    ensures { λ r. ⌜ Wrote (now (out .entry)) at (closed (plain a ∷ plain b ∷ Paper·whole z ∷ [])) 65 r (now (out .exit)) ⌝ }
 {
     let p = pair(out, at, a, b);
     signed0(out, p, z)
@@ -90,7 +90,7 @@ pub fn range(out: &mut [u8], at: usize, a: u64, b: u64, z: i64) -> usize
 // The figures of an ACK: `-` for no rate.
 fn speeds(out: &mut [u8], at: usize, speed: Speed) -> usize
     requires { ⌜ at + 42 ≤ length (now out) ⌝ }
-    ensures { λ r. ⌜ Piece (now (out .entry)) at (spaced (packetsValue speed ∷ bytesValue speed ∷ [])) 42 r (now (out .exit)) ⌝ }
+    ensures { λ r. ⌜ Wrote (now (out .entry)) at (spaced (packetsValue speed ∷ bytesValue speed ∷ [])) 42 r (now (out .exit)) ⌝ }
 {
     match speed {
         Speed::Unknown => text::put_bytes(out, at, b" - -"),
@@ -100,7 +100,7 @@ fn speeds(out: &mut [u8], at: usize, speed: Speed) -> usize
 
 fn capacity(out: &mut [u8], at: usize, link: Link) -> usize
     requires { ⌜ at + 22 ≤ length (now out) ⌝ }
-    ensures { λ r. ⌜ Piece (now (out .entry)) at (closed (linkValue link ∷ [])) 22 r (now (out .exit)) ⌝ }
+    ensures { λ r. ⌜ Wrote (now (out .entry)) at (closed (linkValue link ∷ [])) 22 r (now (out .exit)) ⌝ }
 {
     match link {
         Link::Unknown => text::put_bytes(out, at, b" -\n"),
@@ -110,7 +110,7 @@ fn capacity(out: &mut [u8], at: usize, link: Link) -> usize
 
 fn rates(out: &mut [u8], at: usize, speed: Speed, link: Link) -> usize
     requires { ⌜ at + 64 ≤ length (now out) ⌝ }
-    ensures { λ r. ⌜ Piece (now (out .entry)) at (closed (packetsValue speed ∷ bytesValue speed ∷ linkValue link ∷ [])) 64 r (now (out .exit)) ⌝ }
+    ensures { λ r. ⌜ Wrote (now (out .entry)) at (closed (packetsValue speed ∷ bytesValue speed ∷ linkValue link ∷ [])) 64 r (now (out .exit)) ⌝ }
 {
     let p = speeds(out, at, speed);
     capacity(out, p, link)
@@ -118,7 +118,7 @@ fn rates(out: &mut [u8], at: usize, speed: Speed, link: Link) -> usize
 
 fn room_rates(out: &mut [u8], at: usize, room: u64, speed: Speed, link: Link) -> usize
     requires { ⌜ at + 85 ≤ length (now out) ⌝ }
-    ensures { λ r. ⌜ Piece (now (out .entry)) at (closed (plain room ∷ packetsValue speed ∷ bytesValue speed ∷ linkValue link ∷ [])) 85 r (now (out .exit)) ⌝ }
+    ensures { λ r. ⌜ Wrote (now (out .entry)) at (closed (plain room ∷ packetsValue speed ∷ bytesValue speed ∷ linkValue link ∷ [])) 85 r (now (out .exit)) ⌝ }
 {
     let p = number(out, at, room);
     rates(out, p, speed, link)
@@ -134,7 +134,7 @@ fn figures(
     link: Link,
 ) -> usize
     requires { ⌜ at + 127 ≤ length (now out) ⌝ }
-    ensures { λ r. ⌜ Piece (now (out .entry)) at (closed (plain mean ∷ plain variance ∷ plain room ∷ packetsValue speed ∷ bytesValue speed ∷ linkValue link ∷ [])) 127 r (now (out .exit)) ⌝ }
+    ensures { λ r. ⌜ Wrote (now (out .entry)) at (closed (plain mean ∷ plain variance ∷ plain room ∷ packetsValue speed ∷ bytesValue speed ∷ linkValue link ∷ [])) 127 r (now (out .exit)) ⌝ }
 {
     let p = pair(out, at, mean, variance);
     room_rates(out, p, room, speed, link)
@@ -152,7 +152,7 @@ pub fn ack(
     link: Link,
 ) -> usize
     requires { ⌜ at + 169 ≤ length (now out) ⌝ }
-    ensures { λ r. ⌜ Piece (now (out .entry)) at (closed (plain number ∷ plain lrsn ∷ plain mean ∷ plain variance ∷ plain room ∷ packetsValue speed ∷ bytesValue speed ∷ linkValue link ∷ [])) 169 r (now (out .exit)) ⌝ }
+    ensures { λ r. ⌜ Wrote (now (out .entry)) at (closed (plain number ∷ plain lrsn ∷ plain mean ∷ plain variance ∷ plain room ∷ packetsValue speed ∷ bytesValue speed ∷ linkValue link ∷ [])) 169 r (now (out .exit)) ⌝ }
 {
     let p = pair(out, at, number, lrsn);
     figures(out, p, mean, variance, room, speed, link)
@@ -168,7 +168,7 @@ fn wide(x: u32) -> u64
 fn words(out: &mut [u8], at: usize, list: &[u32], n: usize) -> usize
     requires { ⌜ n ≤ length (now list) ⌝ }
     requires { ⌜ at + 21 * n ≤ length (now out) ⌝ }
-    ensures { λ r. ⌜ Piece (now (out .entry)) at (spaced (map plain (take n (now (list .entry))))) (21 * n) r (now (out .exit)) ⌝ }
+    ensures { λ r. ⌜ Wrote (now (out .entry)) at (spaced (map plain (take n (now (list .entry))))) (21 * n) r (now (out .exit)) ⌝ }
 {
     let mut cursor = at;
     let mut i = 0;
@@ -182,7 +182,7 @@ fn words(out: &mut [u8], at: usize, list: &[u32], n: usize) -> usize
 pub fn report(out: &mut [u8], at: usize, list: &[u32], n: usize) -> usize
     requires { ⌜ n ≤ length (now list) ⌝ }
     requires { ⌜ at + (21 * n + 1) ≤ length (now out) ⌝ }
-    ensures { λ r. ⌜ Piece (now (out .entry)) at (closed (map plain (take n (now (list .entry))))) (21 * n + 1) r (now (out .exit)) ⌝ }
+    ensures { λ r. ⌜ Wrote (now (out .entry)) at (closed (map plain (take n (now (list .entry))))) (21 * n + 1) r (now (out .exit)) ⌝ }
 {
     let p = words(out, at, list, n);
     newline(out, p)

@@ -21,7 +21,7 @@ use Rattle.receiver.specs.declared.message.Given.{Given}
 use Rattle.receiver.specs.declared.request.DropAnswer.{DropAnswer}
 use Rattle.receiver.specs.declared.request.Cleared.{Cleared}
 use Rattle.receiver.specs.declared.sync.Clocked.{Clocked}
-use Rattle.step.specs.Step.{Turn, turn, PopTurn, popTurned, stepped, Ended, ended, stateOf, lentFor, dataTurn, popTurn, reportTurn, fullAckTurn, ack2Turn, dropTurn, clockTurn, clearTurn, stepOf}
+use Rattle.step.specs.Step.{CallLeft, callLeft, PopLeft, popCallLeft, stepped, Ended, ended, stateOf, lentFor, dataLeft, popLeft, reportLeft, fullAckLeft, ack2Left, dropLeft, clockLeft, clearLeft, stepOf}
 use Rattle.step.specs.declared.Call.{Call}
 use Rattle.step.specs.declared.Call.the-variants as calls
 use Rattle.step.specs.declared.Answer.the-variants as answers
@@ -30,39 +30,39 @@ use Rattle.step.specs.declared.Stepped.{Stepped}
 -- each call
 pub data-turned : (h : Head) (ws bs : List ℕ) (now : ℤ) (p : Packet) (payload : List ℕ) {r : Handled} {ws₁ bs₁ : List ℕ} {n : ℤ}
     → dataEnded r ws₁ bs₁ ≡ dataCallOf h ws bs n p payload → n ≡ now
-    → turn (stepped (r .head) (answers.Data (r .answer))) ws₁ bs₁ ≡ dataTurn h ws bs now p payload
+    → callLeft (stepped (r .head) (answers.Data (r .answer))) ws₁ bs₁ ≡ dataLeft h ws bs now p payload
 data-turned h ws bs now p payload e q =
-    ap (λ (o : DataOutcome). turn (stepped (o .handled .head) (answers.Data (o .handled .answer))) (o .slots) (o .payloads)) e ∙ rw q
+    ap (λ (o : DataOutcome). callLeft (stepped (o .handled .head) (answers.Data (o .handled .answer))) (o .slots) (o .payloads)) e ∙ rw q
 
 pub pop-turned : (h : Head) (ws bs out : List ℕ) (now : ℤ) {r : Given} {out₁ : List ℕ} {n : ℤ}
-    → messageEnded r out₁ ≡ popCallOf h ws bs out n → n ≡ now → popTurned (stepped (r .head) (answers.Pop (r .answer))) ws bs out₁ ≡ popTurn h ws bs out now
+    → messageEnded r out₁ ≡ popCallOf h ws bs out n → n ≡ now → popCallLeft (stepped (r .head) (answers.Pop (r .answer))) ws bs out₁ ≡ popLeft h ws bs out now
 pop-turned h ws bs out now e q =
-    ap (λ (o : MessageOutcome). popTurned (stepped (o .given .head) (answers.Pop (o .given .answer))) ws bs (o .output)) e ∙ rw q
+    ap (λ (o : MessageOutcome). popCallLeft (stepped (o .given .head) (answers.Pop (o .given .answer))) ws bs (o .output)) e ∙ rw q
 
 pub report-turned : (h : Head) (ws list : List ℕ) (now : ℤ) {r : Reported} {ws₁ list₁ : List ℕ} {n : ℤ}
-    → lossEnded r ws₁ list₁ ≡ reportCallOf h ws list n → n ≡ now → turn (stepped (r .head) (answers.Report (r .answer))) ws₁ list₁ ≡ reportTurn h ws list now
+    → lossEnded r ws₁ list₁ ≡ reportCallOf h ws list n → n ≡ now → callLeft (stepped (r .head) (answers.Report (r .answer))) ws₁ list₁ ≡ reportLeft h ws list now
 report-turned h ws list now e q =
-    ap (λ (o : LossOutcome). turn (stepped (o .reported .head) (answers.Report (o .reported .answer))) (o .slots) (o .list)) e ∙ rw q
+    ap (λ (o : LossOutcome). callLeft (stepped (o .reported .head) (answers.Report (o .reported .answer))) (o .slots) (o .list)) e ∙ rw q
 
 pub full-ack-turned : (h : Head) (a : List ℕ) (now : ℤ) {r : FullAcked} {a₁ : List ℕ} {n : ℤ}
-    → fullAckEnded r a₁ ≡ fullAckCallOf h a n → n ≡ now → turn (stepped (r .head) (answers.FullAck (r .answer))) a₁ [] ≡ fullAckTurn h a now
+    → fullAckEnded r a₁ ≡ fullAckCallOf h a n → n ≡ now → callLeft (stepped (r .head) (answers.FullAck (r .answer))) a₁ [] ≡ fullAckLeft h a now
 full-ack-turned h a now e q =
-    ap (λ (o : FullAckOutcome). turn (stepped (o .acked .head) (answers.FullAck (o .acked .answer))) (o .area) []) e ∙ rw q
+    ap (λ (o : FullAckOutcome). callLeft (stepped (o .acked .head) (answers.FullAck (o .acked .answer))) (o .area) []) e ∙ rw q
 
 pub ack2-turned : (h : Head) (a : List ℕ) (now : ℤ) (number : ℕ) {r : Ack2ed} {n : ℤ}
-    → ack2Ended r ≡ ack2CallOf h a n number → n ≡ now → turn (stepped (r .head) (answers.Ack2 (r .answer))) [] [] ≡ ack2Turn h a now number
-ack2-turned h a now number e q = ap (λ (o : Ack2Outcome). turn (stepped (o .acked2 .head) (answers.Ack2 (o .acked2 .answer))) [] []) e ∙ rw q
+    → ack2Ended r ≡ ack2CallOf h a n number → n ≡ now → callLeft (stepped (r .head) (answers.Ack2 (r .answer))) [] [] ≡ ack2Left h a now number
+ack2-turned h a now number e q = ap (λ (o : Ack2Outcome). callLeft (stepped (o .acked2 .head) (answers.Ack2 (o .acked2 .answer))) [] []) e ∙ rw q
 
 pub drop-turned : (h : Head) (ws : List ℕ) (first last : ℕ) {a : DropAnswer} {ws₁ : List ℕ}
-    → dropEnded a ws₁ ≡ dropCallOf h ws first last → turn (stepped h (answers.Drop a)) ws₁ [] ≡ dropTurn h ws first last
-drop-turned h ws first last e = ap (λ (o : DropOutcome). turn (stepped h (answers.Drop (o .answer))) (o .slots) []) e
+    → dropEnded a ws₁ ≡ dropCallOf h ws first last → callLeft (stepped h (answers.Drop a)) ws₁ [] ≡ dropLeft h ws first last
+drop-turned h ws first last e = ap (λ (o : DropOutcome). callLeft (stepped h (answers.Drop (o .answer))) (o .slots) []) e
 
 pub clock-turned : (h : Head) (now : ℤ) (stamp : ℕ) {r : Clocked} {n : ℤ}
-    → clockEnded r ≡ clockCallOf h n stamp → n ≡ now → turn (stepped (r .head) (answers.Clock (r .answer))) [] [] ≡ clockTurn h now stamp
-clock-turned h now stamp e q = ap (λ (o : ClockOutcome). turn (stepped (o .clocked .head) (answers.Clock (o .clocked .answer))) [] []) e ∙ rw q
+    → clockEnded r ≡ clockCallOf h n stamp → n ≡ now → callLeft (stepped (r .head) (answers.Clock (r .answer))) [] [] ≡ clockLeft h now stamp
+clock-turned h now stamp e q = ap (λ (o : ClockOutcome). callLeft (stepped (o .clocked .head) (answers.Clock (o .clocked .answer))) [] []) e ∙ rw q
 
-pub clear-turned : (h : Head) {r : Cleared} → clearEnded r ≡ clearCallOf h → turn (stepped (r .head) (answers.Clear (r .answer))) [] [] ≡ clearTurn h
-clear-turned h e = ap (λ (o : ClearOutcome). turn (stepped (o .cleared .head) (answers.Clear (o .cleared .answer))) [] []) e
+pub clear-turned : (h : Head) {r : Cleared} → clearEnded r ≡ clearCallOf h → callLeft (stepped (r .head) (answers.Clear (r .answer))) [] [] ≡ clearLeft h
+clear-turned h e = ap (λ (o : ClearOutcome). callLeft (stepped (o .cleared .head) (answers.Clear (o .cleared .answer))) [] []) e
 
 -- the call by its case
 module _ (h : Head) (ws bs a payload out list : List ℕ) (c : Call) where
@@ -70,29 +70,29 @@ module _ (h : Head) (ws bs a payload out list : List ℕ) (c : Call) where
   Left r ws₁ bs₁ a₁ out₁ list₁ = ended r ws₁ bs₁ a₁ out₁ list₁ ≡ stepOf (stateOf h ws bs a) (lentFor payload out list) c
 
   pub data-left : {r : Stepped} {ws₁ bs₁ : List ℕ} {n time : ℤ} {number message location stamp : ℕ}
-      → c ≡ calls.Data time number message location stamp → turn r ws₁ bs₁ ≡ dataTurn h ws bs n (packet number message location stamp) payload → n ≡ time → Left r ws₁ bs₁ a out list
-  data-left e f q = ap (λ (t : Turn). ended (t .stepped) (t .first) (t .second) a out list) f ∙ rw (e, q)
+      → c ≡ calls.Data time number message location stamp → callLeft r ws₁ bs₁ ≡ dataLeft h ws bs n (packet number message location stamp) payload → n ≡ time → Left r ws₁ bs₁ a out list
+  data-left e f q = ap (λ (t : CallLeft). ended (t .stepped) (t .firstArea) (t .secondArea) a out list) f ∙ rw (e, q)
 
   pub pop-left : {r : Stepped} {ws₁ bs₁ out₁ : List ℕ} {n time : ℤ}
-      → c ≡ calls.Pop time → popTurned r ws₁ bs₁ out₁ ≡ popTurn h ws bs out n → n ≡ time → Left r ws₁ bs₁ a out₁ list
-  pop-left e f q = ap (λ (t : PopTurn). ended (t .stepped) (t .slots) (t .payloads) a (t .output) list) f ∙ rw (e, q)
+      → c ≡ calls.Pop time → popCallLeft r ws₁ bs₁ out₁ ≡ popLeft h ws bs out n → n ≡ time → Left r ws₁ bs₁ a out₁ list
+  pop-left e f q = ap (λ (t : PopLeft). ended (t .stepped) (t .slots) (t .payloads) a (t .output) list) f ∙ rw (e, q)
 
-  pub report-left : {r : Stepped} {ws₁ list₁ : List ℕ} {n time : ℤ} → c ≡ calls.Report time → turn r ws₁ list₁ ≡ reportTurn h ws list n → n ≡ time → Left r ws₁ bs a out list₁
-  report-left e f q = ap (λ (t : Turn). ended (t .stepped) (t .first) bs a out (t .second)) f ∙ rw (e, q)
+  pub report-left : {r : Stepped} {ws₁ list₁ : List ℕ} {n time : ℤ} → c ≡ calls.Report time → callLeft r ws₁ list₁ ≡ reportLeft h ws list n → n ≡ time → Left r ws₁ bs a out list₁
+  report-left e f q = ap (λ (t : CallLeft). ended (t .stepped) (t .firstArea) bs a out (t .secondArea)) f ∙ rw (e, q)
 
-  pub full-ack-left : {r : Stepped} {a₁ : List ℕ} {n time : ℤ} → c ≡ calls.FullAck time → turn r a₁ [] ≡ fullAckTurn h a n → n ≡ time → Left r ws bs a₁ out list
-  full-ack-left e f q = ap (λ (t : Turn). ended (t .stepped) ws bs (t .first) out list) f ∙ rw (e, q)
+  pub full-ack-left : {r : Stepped} {a₁ : List ℕ} {n time : ℤ} → c ≡ calls.FullAck time → callLeft r a₁ [] ≡ fullAckLeft h a n → n ≡ time → Left r ws bs a₁ out list
+  full-ack-left e f q = ap (λ (t : CallLeft). ended (t .stepped) ws bs (t .firstArea) out list) f ∙ rw (e, q)
 
-  pub ack2-left : {r : Stepped} {n time : ℤ} {number : ℕ} → c ≡ calls.Ack2 time number → turn r [] [] ≡ ack2Turn h a n number → n ≡ time → Left r ws bs a out list
-  ack2-left e f q = ap (λ (t : Turn). ended (t .stepped) ws bs a out list) f ∙ rw (e, q)
+  pub ack2-left : {r : Stepped} {n time : ℤ} {number : ℕ} → c ≡ calls.Ack2 time number → callLeft r [] [] ≡ ack2Left h a n number → n ≡ time → Left r ws bs a out list
+  ack2-left e f q = ap (λ (t : CallLeft). ended (t .stepped) ws bs a out list) f ∙ rw (e, q)
 
-  pub drop-left : {r : Stepped} {ws₁ : List ℕ} {first last : ℕ} → c ≡ calls.Drop first last → turn r ws₁ [] ≡ dropTurn h ws first last → Left r ws₁ bs a out list
-  drop-left e f = ap (λ (t : Turn). ended (t .stepped) (t .first) bs a out list) f ∙ rw e
+  pub drop-left : {r : Stepped} {ws₁ : List ℕ} {first last : ℕ} → c ≡ calls.Drop first last → callLeft r ws₁ [] ≡ dropLeft h ws first last → Left r ws₁ bs a out list
+  drop-left e f = ap (λ (t : CallLeft). ended (t .stepped) (t .firstArea) bs a out list) f ∙ rw e
 
-  pub clock-left : {r : Stepped} {n time : ℤ} {stamp : ℕ} → c ≡ calls.Clock time stamp → turn r [] [] ≡ clockTurn h n stamp → n ≡ time → Left r ws bs a out list
-  clock-left e f q = ap (λ (t : Turn). ended (t .stepped) ws bs a out list) f ∙ rw (e, q)
+  pub clock-left : {r : Stepped} {n time : ℤ} {stamp : ℕ} → c ≡ calls.Clock time stamp → callLeft r [] [] ≡ clockLeft h n stamp → n ≡ time → Left r ws bs a out list
+  clock-left e f q = ap (λ (t : CallLeft). ended (t .stepped) ws bs a out list) f ∙ rw (e, q)
 
-  pub clear-left : {r : Stepped} → c ≡ calls.Clear → turn r [] [] ≡ clearTurn h → Left r ws bs a out list
-  clear-left e f = ap (λ (t : Turn). ended (t .stepped) ws bs a out list) f ∙ rw e
+  pub clear-left : {r : Stepped} → c ≡ calls.Clear → callLeft r [] [] ≡ clearLeft h → Left r ws bs a out list
+  clear-left e f = ap (λ (t : CallLeft). ended (t .stepped) ws bs a out list) f ∙ rw e
 
 pub ruleset turns = (data-turned, pop-turned, report-turned, full-ack-turned, ack2-turned, drop-turned, clock-turned, clear-turned, data-left, pop-left, report-left, full-ack-left, ack2-left, drop-left, clock-left, clear-left, needs)

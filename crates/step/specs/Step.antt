@@ -37,54 +37,54 @@ abbrev pub lentFor : List ℕ → List ℕ → List ℕ → Lent
 lentFor payload out list = record { payload = payload; output = out; list = list }
 
 -- what one call leaves: head and answer, and the areas that it was lent to write, in its own order
-pub record Turn : Type 0 where
+pub record CallLeft : Type 0 where
   pub stepped : Stepped
-  pub first : List ℕ
-  pub second : List ℕ
+  pub firstArea : List ℕ
+  pub secondArea : List ℕ
 
-abbrev pub turn : Stepped → List ℕ → List ℕ → Turn
-turn r xs ys = record { stepped = r; first = xs; second = ys }
+abbrev pub callLeft : Stepped → List ℕ → List ℕ → CallLeft
+callLeft r xs ys = record { stepped = r; firstArea = xs; secondArea = ys }
 
 abbrev pub stepped : Head → Answer → Stepped
 stepped h a = record { head = h; answer = a }
 
-abbrev pub dataTurn : Head → List ℕ → List ℕ → ℤ → Packet → List ℕ → Turn
-dataTurn h ws bs now p payload =
+abbrev pub dataLeft : Head → List ℕ → List ℕ → ℤ → Packet → List ℕ → CallLeft
+dataLeft h ws bs now p payload =
     let o = dataCallOf h ws bs now p payload in
-    turn (stepped (o .handled .head) (answers.Data (o .handled .answer))) (o .slots) (o .payloads)
+    callLeft (stepped (o .handled .head) (answers.Data (o .handled .answer))) (o .slots) (o .payloads)
 
 -- of a pop, with the two areas that it only reads
-pub record PopTurn : Type 0 where
+pub record PopLeft : Type 0 where
   pub stepped : Stepped
   pub slots : List ℕ
   pub payloads : List ℕ
   pub output : List ℕ
 
-abbrev pub popTurned : Stepped → List ℕ → List ℕ → List ℕ → PopTurn
-popTurned r ws bs out = record { stepped = r; slots = ws; payloads = bs; output = out }
+abbrev pub popCallLeft : Stepped → List ℕ → List ℕ → List ℕ → PopLeft
+popCallLeft r ws bs out = record { stepped = r; slots = ws; payloads = bs; output = out }
 
-abbrev pub popTurn : Head → List ℕ → List ℕ → List ℕ → ℤ → PopTurn
-popTurn h ws bs out now =
+abbrev pub popLeft : Head → List ℕ → List ℕ → List ℕ → ℤ → PopLeft
+popLeft h ws bs out now =
     let o = popCallOf h ws bs out now in
-    popTurned (stepped (o .given .head) (answers.Pop (o .given .answer))) ws bs (o .output)
+    popCallLeft (stepped (o .given .head) (answers.Pop (o .given .answer))) ws bs (o .output)
 
-abbrev pub reportTurn : Head → List ℕ → List ℕ → ℤ → Turn
-reportTurn h ws list now = let o = reportCallOf h ws list now in turn (stepped (o .reported .head) (answers.Report (o .reported .answer))) (o .slots) (o .list)
+abbrev pub reportLeft : Head → List ℕ → List ℕ → ℤ → CallLeft
+reportLeft h ws list now = let o = reportCallOf h ws list now in callLeft (stepped (o .reported .head) (answers.Report (o .reported .answer))) (o .slots) (o .list)
 
-abbrev pub fullAckTurn : Head → List ℕ → ℤ → Turn
-fullAckTurn h a now = let o = fullAckCallOf h a now in turn (stepped (o .acked .head) (answers.FullAck (o .acked .answer))) (o .area) []
+abbrev pub fullAckLeft : Head → List ℕ → ℤ → CallLeft
+fullAckLeft h a now = let o = fullAckCallOf h a now in callLeft (stepped (o .acked .head) (answers.FullAck (o .acked .answer))) (o .area) []
 
-abbrev pub ack2Turn : Head → List ℕ → ℤ → ℕ → Turn
-ack2Turn h a now number = let o = ack2CallOf h a now number in turn (stepped (o .acked2 .head) (answers.Ack2 (o .acked2 .answer))) [] []
+abbrev pub ack2Left : Head → List ℕ → ℤ → ℕ → CallLeft
+ack2Left h a now number = let o = ack2CallOf h a now number in callLeft (stepped (o .acked2 .head) (answers.Ack2 (o .acked2 .answer))) [] []
 
-abbrev pub dropTurn : Head → List ℕ → ℕ → ℕ → Turn
-dropTurn h ws first last = let o = dropCallOf h ws first last in turn (stepped h (answers.Drop (o .answer))) (o .slots) []
+abbrev pub dropLeft : Head → List ℕ → ℕ → ℕ → CallLeft
+dropLeft h ws first last = let o = dropCallOf h ws first last in callLeft (stepped h (answers.Drop (o .answer))) (o .slots) []
 
-abbrev pub clockTurn : Head → ℤ → ℕ → Turn
-clockTurn h now stamp = let o = clockCallOf h now stamp in turn (stepped (o .clocked .head) (answers.Clock (o .clocked .answer))) [] []
+abbrev pub clockLeft : Head → ℤ → ℕ → CallLeft
+clockLeft h now stamp = let o = clockCallOf h now stamp in callLeft (stepped (o .clocked .head) (answers.Clock (o .clocked .answer))) [] []
 
-abbrev pub clearTurn : Head → Turn
-clearTurn h = let o = clearCallOf h in turn (stepped (o .cleared .head) (answers.Clear (o .cleared .answer))) [] []
+abbrev pub clearLeft : Head → CallLeft
+clearLeft h = let o = clearCallOf h in callLeft (stepped (o .cleared .head) (answers.Clear (o .cleared .answer))) [] []
 
 -- an answer on paper; the words of a report are the first of the list
 abbrev pub lineOf : Answer → List ℕ → Line
@@ -112,23 +112,23 @@ ended r ws bs a out list = record { answer = r .answer; line = lineOf (r .answer
 module _ (s : State) (l : Lent) where
   abbrev pub stepOf : Call → Ended
   stepOf (calls.Data time number message location stamp) =
-      let t = dataTurn (s .head) (s .slots) (s .payloads) time (packet number message location stamp) (l .payload) in
-      ended (t .stepped) (t .first) (t .second) (s .history) (l .output) (l .list)
+      let t = dataLeft (s .head) (s .slots) (s .payloads) time (packet number message location stamp) (l .payload) in
+      ended (t .stepped) (t .firstArea) (t .secondArea) (s .history) (l .output) (l .list)
   stepOf (calls.Pop time) =
-      let t = popTurn (s .head) (s .slots) (s .payloads) (l .output) time in
+      let t = popLeft (s .head) (s .slots) (s .payloads) (l .output) time in
       ended (t .stepped) (t .slots) (t .payloads) (s .history) (t .output) (l .list)
   stepOf (calls.Report time) =
-      let t = reportTurn (s .head) (s .slots) (l .list) time in
-      ended (t .stepped) (t .first) (s .payloads) (s .history) (l .output) (t .second)
+      let t = reportLeft (s .head) (s .slots) (l .list) time in
+      ended (t .stepped) (t .firstArea) (s .payloads) (s .history) (l .output) (t .secondArea)
   stepOf (calls.FullAck time) =
-      let t = fullAckTurn (s .head) (s .history) time in
-      ended (t .stepped) (s .slots) (s .payloads) (t .first) (l .output) (l .list)
+      let t = fullAckLeft (s .head) (s .history) time in
+      ended (t .stepped) (s .slots) (s .payloads) (t .firstArea) (l .output) (l .list)
   stepOf (calls.Ack2 time number) =
-      ended (ack2Turn (s .head) (s .history) time number .stepped) (s .slots) (s .payloads) (s .history) (l .output) (l .list)
+      ended (ack2Left (s .head) (s .history) time number .stepped) (s .slots) (s .payloads) (s .history) (l .output) (l .list)
   stepOf (calls.Drop first last) =
-      let t = dropTurn (s .head) (s .slots) first last in
-      ended (t .stepped) (t .first) (s .payloads) (s .history) (l .output) (l .list)
+      let t = dropLeft (s .head) (s .slots) first last in
+      ended (t .stepped) (t .firstArea) (s .payloads) (s .history) (l .output) (l .list)
   stepOf (calls.Clock time stamp) =
-      ended (clockTurn (s .head) time stamp .stepped) (s .slots) (s .payloads) (s .history) (l .output) (l .list)
+      ended (clockLeft (s .head) time stamp .stepped) (s .slots) (s .payloads) (s .history) (l .output) (l .list)
   stepOf calls.Clear =
-      ended (clearTurn (s .head) .stepped) (s .slots) (s .payloads) (s .history) (l .output) (l .list)
+      ended (clearLeft (s .head) .stepped) (s .slots) (s .payloads) (s .history) (l .output) (l .list)

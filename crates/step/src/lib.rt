@@ -2,7 +2,7 @@
 ghost use mathlib.Core.Path.{_≡_};
 ghost use mathlib.Core.List.{[]};
 ghost use Rattle.receiver.specs.Data.{packet};
-ghost use Rattle.step.specs.Step.{turn, popTurned, dataTurn, popTurn, reportTurn, fullAckTurn, ack2Turn, dropTurn, clockTurn, clearTurn, stateOf, lentFor, ended, stepOf};
+ghost use Rattle.step.specs.Step.{callLeft, popCallLeft, dataLeft, popLeft, reportLeft, fullAckLeft, ack2Left, dropLeft, clockLeft, clearLeft, stateOf, lentFor, ended, stepOf};
 use head::state::Head;
 use receiver::acking::FullAckAnswer;
 use receiver::acking::RttAnswer;
@@ -75,7 +75,7 @@ fn data(
     stamp: u32,
     payload: &[u8],
 ) -> Stepped
-    ensures { λ r. ⌜ turn r (now (words .exit)) (now (bytes .exit)) ≡ dataTurn h (now (words .entry)) (now (bytes .entry)) time (packet number message location stamp) (now (payload .entry)) ⌝ }
+    ensures { λ r. ⌜ callLeft r (now (words .exit)) (now (bytes .exit)) ≡ dataLeft h (now (words .entry)) (now (bytes .entry)) time (packet number message location stamp) (now (payload .entry)) ⌝ }
 {
     let r = receiver::data::handle_data_packet(
         h,
@@ -97,7 +97,7 @@ fn data(
 }
 
 fn pop(h: Head, words: &mut [u64], bytes: &mut [u8], out: &mut [u8], time: i64) -> Stepped
-    ensures { λ r. ⌜ popTurned r (now (words .exit)) (now (bytes .exit)) (now (out .exit)) ≡ popTurn h (now (words .entry)) (now (bytes .entry)) (now (out .entry)) time ⌝ }
+    ensures { λ r. ⌜ popCallLeft r (now (words .exit)) (now (bytes .exit)) (now (out .exit)) ≡ popLeft h (now (words .entry)) (now (bytes .entry)) (now (out .entry)) time ⌝ }
 {
     let r = receiver::message::pop_next_message(h, words, bytes, out, time);
     let head = r.head;
@@ -109,7 +109,7 @@ fn pop(h: Head, words: &mut [u64], bytes: &mut [u8], out: &mut [u8], time: i64) 
 }
 
 fn report(h: Head, words: &mut [u64], list: &mut [u32], time: i64) -> Stepped
-    ensures { λ r. ⌜ turn r (now (words .exit)) (now (list .exit)) ≡ reportTurn h (now (words .entry)) (now (list .entry)) time ⌝ }
+    ensures { λ r. ⌜ callLeft r (now (words .exit)) (now (list .exit)) ≡ reportLeft h (now (words .entry)) (now (list .entry)) time ⌝ }
 {
     let r = receiver::loss::on_nak_event(h, words, list, time);
     let head = r.head;
@@ -121,7 +121,7 @@ fn report(h: Head, words: &mut [u64], list: &mut [u32], time: i64) -> Stepped
 }
 
 fn full_ack(h: Head, area: &mut [u64], time: i64) -> Stepped
-    ensures { λ r. ⌜ turn r (now (area .exit)) [] ≡ fullAckTurn h (now (area .entry)) time ⌝ }
+    ensures { λ r. ⌜ callLeft r (now (area .exit)) [] ≡ fullAckLeft h (now (area .entry)) time ⌝ }
 {
     let r = receiver::acking::on_full_ack_event(h, area, time);
     let head = r.head;
@@ -133,7 +133,7 @@ fn full_ack(h: Head, area: &mut [u64], time: i64) -> Stepped
 }
 
 fn ack2(h: Head, area: &[u64], time: i64, number: u32) -> Stepped
-    ensures { λ r. ⌜ turn r [] [] ≡ ack2Turn h (now (area .entry)) time number ⌝ }
+    ensures { λ r. ⌜ callLeft r [] [] ≡ ack2Left h (now (area .entry)) time number ⌝ }
 {
     let r = receiver::acking::handle_ack2_packet(h, area, time, number);
     let head = r.head;
@@ -145,7 +145,7 @@ fn ack2(h: Head, area: &[u64], time: i64, number: u32) -> Stepped
 }
 
 fn drop_request(h: Head, words: &mut [u64], first: u32, last: u32) -> Stepped
-    ensures { λ r. ⌜ turn r (now (words .exit)) [] ≡ dropTurn h (now (words .entry)) first last ⌝ }
+    ensures { λ r. ⌜ callLeft r (now (words .exit)) [] ≡ dropLeft h (now (words .entry)) first last ⌝ }
 {
     let answer = receiver::request::handle_drop_request(h, words, first, last);
     Stepped {
@@ -155,7 +155,7 @@ fn drop_request(h: Head, words: &mut [u64], first: u32, last: u32) -> Stepped
 }
 
 fn clock(h: Head, time: i64, stamp: u32) -> Stepped
-    ensures { λ r. ⌜ turn r [] [] ≡ clockTurn h time stamp ⌝ }
+    ensures { λ r. ⌜ callLeft r [] [] ≡ clockLeft h time stamp ⌝ }
 {
     let r = receiver::sync::synchronize_clock(h, time, stamp);
     let head = r.head;
@@ -167,7 +167,7 @@ fn clock(h: Head, time: i64, stamp: u32) -> Stepped
 }
 
 fn clear(h: Head) -> Stepped
-    ensures { λ r. ⌜ turn r [] [] ≡ clearTurn h ⌝ }
+    ensures { λ r. ⌜ callLeft r [] [] ≡ clearLeft h ⌝ }
 {
     let r = receiver::request::clear(h);
     let head = r.head;

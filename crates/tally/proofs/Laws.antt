@@ -1,20 +1,21 @@
 -- What the code of lib.rt does at each return, as laws over plain values. Assumes nothing.
-use mathlib.Core.Path.{_≡_, refl, sym, _∙_, ap}
+use mathlib.Core.Path.{_≡_, _∙_, ap}
 use mathlib.Core.Bool.{Bool, true, false}
 use mathlib.Core.List.{List, [], _∷_, _++_, append-assoc}
 use Prim.Native.Nat.{ℕ, _+_, _^_, _<_, _≤_}
 use native.Mathlib.Omega.{arith}
 use borrow.Author.Needs.{needs}
 use lib.ListN.{length}
+use Rattle.text.specs.Bytes.{bytes}
 use Rattle.text.specs.Decimal.{decimal}
 use Rattle.text.specs.Put.{putEnded, putOf}
 use Rattle.text.proofs.Numerals.{decimal-short}
 use Rattle.text.proofs.Puts.{put-cursor, put-then, puts, put-none, put-room}
-use Rattle.shapes.specs.Shapes.{Piece}
+use Rattle.shapes.specs.Shapes.{Wrote}
 use Rattle.counts.specs.Counts.{fresh}
 use Rattle.counts.specs.declared.Counters.{Counters}
 use Rattle.step.specs.declared.Answer.{Answer}
-use Rattle.tally.specs.Tally.{freshTally, countedOf, tallyOf, tallied, named, dataName, bytesName, uniqueDataName, uniqueBytesName, retransmitDataName, droppedDataName, droppedBytesName, ack2Name, ack2ErrorsName, clockAdjustmentsName, packetBytes, lossBytes, otherBytes, allBytes, countersBytes, tallyBytes}
+use Rattle.tally.specs.Tally.{freshTally, countedOf, tallyOf, tallied, named, packetBytes, lossBytes, otherBytes, allBytes, countersBytes, tallyBytes}
 use Rattle.tally.specs.declared.Tally.{Tally}
 
 -- fresh, counted, after
@@ -82,50 +83,50 @@ after-byte out at b e = omega (arith, put-cursor out at (b ∷ []) e)
 
 -- put_packets, put_losses, put_others
 two-pieces : (out : List ℕ) (at : ℕ) (a b : List ℕ) (m n : ℕ) {p q : ℕ} {o₁ o₂ : List ℕ}
-    → Piece out at a m p o₁ → Piece o₁ p b n q o₂ → at + m ≤ length out → Piece out at (a ++ b) (m + n) q o₂
+    → Wrote out at a m p o₁ → Wrote o₁ p b n q o₂ → at + m ≤ length out → Wrote out at (a ++ b) (m + n) q o₂
 two-pieces out at a b m n e f h =
     let k = e .within in
     let l = f .within in
     record { bytes = two-puts out at a b (e .bytes) (f .bytes) (omega arith); within = omega arith }
 
 module _ (out : List ℕ) (at : ℕ) (c : Counters) where
-  pub packets-piece : {p q s r : ℕ} {o₁ o₂ o₃ o₄ : List ℕ} → at + 168 ≤ length out → Piece out at (named dataName (c .«rx_data»)) 42 p o₁ → Piece o₁ p (named bytesName (c .«rx_bytes»)) 42 q o₂
-      → Piece o₂ q (named uniqueDataName (c .«rx_unique_data»)) 42 s o₃ → Piece o₃ s (named uniqueBytesName (c .«rx_unique_bytes»)) 42 r o₄ → Piece out at (packetBytes c) 168 r o₄
+  pub packets-piece : {p q s r : ℕ} {o₁ o₂ o₃ o₄ : List ℕ} → at + 168 ≤ length out → Wrote out at (named (bytes "rx_data") (c .«rx_data»)) 42 p o₁ → Wrote o₁ p (named (bytes "rx_bytes") (c .«rx_bytes»)) 42 q o₂
+      → Wrote o₂ q (named (bytes "rx_unique_data") (c .«rx_unique_data»)) 42 s o₃ → Wrote o₃ s (named (bytes "rx_unique_bytes") (c .«rx_unique_bytes»)) 42 r o₄ → Wrote out at (packetBytes c) 168 r o₄
   unfolding packetBytes
   packets-piece room e f g h = two-pieces out at _ _ 126 42 (two-pieces out at _ _ 84 42 (two-pieces out at _ _ 42 42 e f (omega arith)) g (omega arith)) h (omega arith)
 
-  pub losses-piece : {p q r : ℕ} {o₁ o₂ o₃ : List ℕ} → at + 126 ≤ length out → Piece out at (named retransmitDataName (c .«rx_retransmit_data»)) 42 p o₁
-      → Piece o₁ p (named droppedDataName (c .«rx_dropped_data»)) 42 q o₂ → Piece o₂ q (named droppedBytesName (c .«rx_dropped_bytes»)) 42 r o₃ → Piece out at (lossBytes c) 126 r o₃
+  pub losses-piece : {p q r : ℕ} {o₁ o₂ o₃ : List ℕ} → at + 126 ≤ length out → Wrote out at (named (bytes "rx_retransmit_data") (c .«rx_retransmit_data»)) 42 p o₁
+      → Wrote o₁ p (named (bytes "rx_dropped_data") (c .«rx_dropped_data»)) 42 q o₂ → Wrote o₂ q (named (bytes "rx_dropped_bytes") (c .«rx_dropped_bytes»)) 42 r o₃ → Wrote out at (lossBytes c) 126 r o₃
   unfolding lossBytes
   losses-piece room e f g = two-pieces out at _ _ 84 42 (two-pieces out at _ _ 42 42 e f (omega arith)) g (omega arith)
 
-  pub others-piece : {p q r : ℕ} {o₁ o₂ o₃ : List ℕ} → at + 126 ≤ length out → Piece out at (named ack2Name (c .«rx_ack2»)) 42 p o₁
-      → Piece o₁ p (named ack2ErrorsName (c .«rx_ack2_errors»)) 42 q o₂ → Piece o₂ q (named clockAdjustmentsName (c .«rx_clock_adjustments»)) 42 r o₃ → Piece out at (otherBytes c) 126 r o₃
+  pub others-piece : {p q r : ℕ} {o₁ o₂ o₃ : List ℕ} → at + 126 ≤ length out → Wrote out at (named (bytes "rx_ack2") (c .«rx_ack2»)) 42 p o₁
+      → Wrote o₁ p (named (bytes "rx_ack2_errors") (c .«rx_ack2_errors»)) 42 q o₂ → Wrote o₂ q (named (bytes "rx_clock_adjustments") (c .«rx_clock_adjustments»)) 42 r o₃ → Wrote out at (otherBytes c) 126 r o₃
   unfolding otherBytes
   others-piece room e f g = two-pieces out at _ _ 84 42 (two-pieces out at _ _ 42 42 e f (omega arith)) g (omega arith)
 
 -- put_counters, line
-piece-of : (out : List ℕ) (at : ℕ) (bs : List ℕ) (m : ℕ) {p : ℕ} {o₁ : List ℕ} → putEnded p o₁ ≡ putOf out at bs → length bs ≤ m → Piece out at bs m p o₁
+piece-of : (out : List ℕ) (at : ℕ) (bs : List ℕ) (m : ℕ) {p : ℕ} {o₁ : List ℕ} → putEnded p o₁ ≡ putOf out at bs → length bs ≤ m → Wrote out at bs m p o₁
 piece-of out at bs m e h = record { bytes = e; within = let k = put-cursor out at bs e in omega arith }
 
 module _ (out : List ℕ) (at : ℕ) (c : Counters) where
   pub all-piece : {p q r : ℕ} {o₁ o₂ o₃ : List ℕ} → at + 420 ≤ length out
-      → Piece out at (packetBytes c) 168 p o₁ → Piece o₁ p (lossBytes c) 126 q o₂ → Piece o₂ q (otherBytes c) 126 r o₃ → Piece out at (allBytes c) 420 r o₃
+      → Wrote out at (packetBytes c) 168 p o₁ → Wrote o₁ p (lossBytes c) 126 q o₂ → Wrote o₂ q (otherBytes c) 126 r o₃ → Wrote out at (allBytes c) 420 r o₃
   unfolding allBytes
   all-piece room e f g = two-pieces out at _ _ 294 126 (two-pieces out at _ _ 168 126 e f (omega arith)) g (omega arith)
 
-  pub counters-piece : {p q r : ℕ} {o₁ o₂ o₃ : List ℕ} → at + 429 ≤ length out → Piece out at (99 ∷ 111 ∷ 117 ∷ 110 ∷ 116 ∷ 101 ∷ 114 ∷ 115 ∷ []) 8 p o₁
-      → Piece o₁ p (allBytes c) 420 q o₂ → putEnded r o₃ ≡ putOf o₂ q (10 ∷ []) → Piece out at (countersBytes c) 429 r o₃
+  pub counters-piece : {p q r : ℕ} {o₁ o₂ o₃ : List ℕ} → at + 429 ≤ length out → Wrote out at (bytes "counters") 8 p o₁
+      → Wrote o₁ p (allBytes c) 420 q o₂ → putEnded r o₃ ≡ putOf o₂ q (10 ∷ []) → Wrote out at (countersBytes c) 429 r o₃
   unfolding countersBytes
   counters-piece room e f g =
       two-pieces out at _ _ 428 1 (two-pieces out at _ _ 8 420 e f (omega arith)) (piece-of _ _ (10 ∷ []) 1 g (omega arith)) (omega arith)
 
 module _ (out : List ℕ) (at : ℕ) (t : Tally) where
-  pub line-asked : {r : ℕ} {o₁ : List ℕ} → t .asked ≡ true → Piece out at (countersBytes (t .counters)) 429 r o₁ → Piece out at (tallyBytes t) 429 r o₁
+  pub line-asked : {r : ℕ} {o₁ : List ℕ} → t .asked ≡ true → Wrote out at (countersBytes (t .counters)) 429 r o₁ → Wrote out at (tallyBytes t) 429 r o₁
   unfolding tallyBytes
   line-asked h e = rw h e
 
-  pub line-not : t .asked ≡ false → Piece out at (tallyBytes t) 429 at out
+  pub line-not : t .asked ≡ false → Wrote out at (tallyBytes t) 429 at out
   unfolding tallyBytes
   line-not h = rw h (piece-of out at [] 429 (puts out at [] (omega arith) (put-none out at)) (omega arith))
 

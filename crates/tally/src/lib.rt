@@ -2,7 +2,7 @@
 ghost use mathlib.Core.Path.{_≡_};
 ghost use Prim.Native.Nat.{_+_, _≤_};
 ghost use lib.ListN.{length};
-ghost use Rattle.shapes.specs.Shapes.{Piece};
+ghost use Rattle.shapes.specs.Shapes.{Wrote};
 ghost use Rattle.tally.specs.Tally.{freshTally, countedOf, tallied, named, packetBytes, lossBytes, otherBytes, allBytes, countersBytes, tallyBytes};
 use counts::Counters;
 use counts::after::after_ack2;
@@ -59,7 +59,7 @@ pub fn after(t: Tally, size: usize, answer: Answer) -> Tally
 fn put_named(out: &mut [u8], at: usize, name: &[u8], n: u64) -> usize
     requires { ⌜ at + 42 ≤ length (now out) ⌝ }
     requires { ⌜ length (now name) ≤ 20 ⌝ }
-    ensures { λ r. ⌜ Piece (now (out .entry)) at (named (now (name .entry)) n) 42 r (now (out .exit)) ⌝ }
+    ensures { λ r. ⌜ Wrote (now (out .entry)) at (named (now (name .entry)) n) 42 r (now (out .exit)) ⌝ }
 {
     let p = text::put_byte(out, at, b' ');
     let q = text::put_bytes(out, p, name);
@@ -69,7 +69,7 @@ fn put_named(out: &mut [u8], at: usize, name: &[u8], n: u64) -> usize
 
 fn put_packets(out: &mut [u8], at: usize, c: Counters) -> usize
     requires { ⌜ at + 168 ≤ length (now out) ⌝ }
-    ensures { λ r. ⌜ Piece (now (out .entry)) at (packetBytes c) 168 r (now (out .exit)) ⌝ }
+    ensures { λ r. ⌜ Wrote (now (out .entry)) at (packetBytes c) 168 r (now (out .exit)) ⌝ }
 {
     let p = put_named(out, at, b"rx_data", c.rx_data);
     let q = put_named(out, p, b"rx_bytes", c.rx_bytes);
@@ -79,7 +79,7 @@ fn put_packets(out: &mut [u8], at: usize, c: Counters) -> usize
 
 fn put_losses(out: &mut [u8], at: usize, c: Counters) -> usize
     requires { ⌜ at + 126 ≤ length (now out) ⌝ }
-    ensures { λ r. ⌜ Piece (now (out .entry)) at (lossBytes c) 126 r (now (out .exit)) ⌝ }
+    ensures { λ r. ⌜ Wrote (now (out .entry)) at (lossBytes c) 126 r (now (out .exit)) ⌝ }
 {
     let p = put_named(out, at, b"rx_retransmit_data", c.rx_retransmit_data);
     let q = put_named(out, p, b"rx_dropped_data", c.rx_dropped_data);
@@ -88,7 +88,7 @@ fn put_losses(out: &mut [u8], at: usize, c: Counters) -> usize
 
 fn put_others(out: &mut [u8], at: usize, c: Counters) -> usize
     requires { ⌜ at + 126 ≤ length (now out) ⌝ }
-    ensures { λ r. ⌜ Piece (now (out .entry)) at (otherBytes c) 126 r (now (out .exit)) ⌝ }
+    ensures { λ r. ⌜ Wrote (now (out .entry)) at (otherBytes c) 126 r (now (out .exit)) ⌝ }
 {
     let p = put_named(out, at, b"rx_ack2", c.rx_ack2);
     let q = put_named(out, p, b"rx_ack2_errors", c.rx_ack2_errors);
@@ -97,7 +97,7 @@ fn put_others(out: &mut [u8], at: usize, c: Counters) -> usize
 
 fn put_all(out: &mut [u8], at: usize, c: Counters) -> usize
     requires { ⌜ at + 420 ≤ length (now out) ⌝ }
-    ensures { λ r. ⌜ Piece (now (out .entry)) at (allBytes c) 420 r (now (out .exit)) ⌝ }
+    ensures { λ r. ⌜ Wrote (now (out .entry)) at (allBytes c) 420 r (now (out .exit)) ⌝ }
 {
     let p = put_packets(out, at, c);
     let q = put_losses(out, p, c);
@@ -106,7 +106,7 @@ fn put_all(out: &mut [u8], at: usize, c: Counters) -> usize
 
 fn put_counters(out: &mut [u8], at: usize, c: Counters) -> usize
     requires { ⌜ at + 429 ≤ length (now out) ⌝ }
-    ensures { λ r. ⌜ Piece (now (out .entry)) at (countersBytes c) 429 r (now (out .exit)) ⌝ }
+    ensures { λ r. ⌜ Wrote (now (out .entry)) at (countersBytes c) 429 r (now (out .exit)) ⌝ }
 {
     let p = shapes::part::start(out, at, b"counters");
     let q = put_all(out, p, c);
@@ -116,7 +116,7 @@ fn put_counters(out: &mut [u8], at: usize, c: Counters) -> usize
 // The line, if it is asked for.
 pub fn line(out: &mut [u8], at: usize, t: Tally) -> usize
     requires { ⌜ at + 429 ≤ length (now out) ⌝ }
-    ensures { λ r. ⌜ Piece (now (out .entry)) at (tallyBytes t) 429 r (now (out .exit)) ⌝ }
+    ensures { λ r. ⌜ Wrote (now (out .entry)) at (tallyBytes t) 429 r (now (out .exit)) ⌝ }
 {
     if t.asked {
         let c = t.counters;

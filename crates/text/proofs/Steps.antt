@@ -2,7 +2,7 @@
 use mathlib.Core.Path.{_≡_, refl, sym, _∙_, ap}
 use mathlib.Core.Bool.{true, false}
 use mathlib.Core.List.{List, [], _∷_, _++_, append-assoc, append-nil}
-use Prim.Native.Nat.{ℕ, suc, _+_, _-_, _/_, _%_, _^_, _<_, _≤_}
+use Prim.Native.Nat.{ℕ, suc, _+_, _-_, _/_, _%_, _<_, _≤_}
 use native.Mathlib.Nat.{div-lt-self, mod-lt}
 use native.Mathlib.Numerals.{add-one}
 use native.Mathlib.Omega.{arith}
@@ -76,9 +76,6 @@ module _ (area : List ℕ) (n : ℕ) where
     pub spell-done : rest ≤ 9 → drop (i - 1) (set area (i - 1) (48 + rest)) ≡ decimal n
     spell-done h = rw (back (48 + rest)) (ap (λ (l : List ℕ). l ++ drop i area) (sym (decimal-one rest (omega arith))) ∙ inv)
 
-pub spell-room : (n : ℕ) → n < 2 ^ 64 → length (decimal n) ≤ 20
-spell-room n h = decimal-short n h
-
 pub spell-some : (rest i : ℕ) → length (decimal rest) ≤ i → 1 ≤ i
 spell-some rest i h = omega (arith, decimal-some rest)
 
@@ -126,7 +123,7 @@ signed-below out at (negsuc m) {r = r} {out₁ = out₁} size p h q room e f =
 pub sign-room : (out : List ℕ) (at b : ℕ) {r : ℕ} {out₁ : List ℕ} → putEnded r out₁ ≡ putOf out at (b ∷ []) → at + 21 ≤ length out → r + 20 ≤ length out₁
 sign-room out at b e h = put-room out at (b ∷ []) 20 e h
 
-pub ruleset spelling = (spell-long, spell-start, spell-again, spell-done, spell-room, spell-some, spell-less, spell-index, digit-fits, digit-wide, quotient-less, copy-long, needs)
+pub ruleset spelling = (spell-long, spell-start, spell-again, spell-done, decimal-short, spell-some, spell-less, spell-index, digit-fits, digit-wide, quotient-less, copy-long, needs)
 
 pub ruleset lines = (decimal-put, signed-above, signed-below, sign-room, needs)
 

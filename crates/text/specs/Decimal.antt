@@ -4,6 +4,7 @@ use mathlib.Core.List.{List, [], _∷_, _++_}
 use Prim.Native.Nat.{ℕ, zero, suc, _+_, _/_, _%_}
 use lib.Dec.{ltb}
 use lib.IntN.{ℤ, pos, negsuc}
+use Rattle.text.specs.Bytes.{bytes}
 
 -- the digits of n, at most k of them (the `let` is computed only where it is asked for)
 unfoldable pub digits : ℕ → ℕ → List ℕ
@@ -16,4 +17,4 @@ decimal n = digits (suc n) n
 
 unfoldable pub signedDecimal : ℤ → List ℕ
 signedDecimal (pos n) = decimal n
-signedDecimal (negsuc n) = 45 ∷ decimal (suc n)
+signedDecimal (negsuc n) = bytes "-" ++ decimal (suc n)

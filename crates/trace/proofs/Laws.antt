@@ -1,13 +1,12 @@
 -- What a reader of a file piece by piece may lean on: a piece that has the whole record is enough, and the turns of any division into pieces
 -- write, joined, what the whole file gives. Assumes nothing.
 use mathlib.Core.Path.{_≡_, refl, sym, _∙_, ap, subst}
-use mathlib.Core.Bool.{Bool, true, false, _&&_, not, cond}
+use mathlib.Core.Bool.{Bool, true, false, _&&_, not, and-true}
 use mathlib.Core.List.{List, [], _∷_, _++_, append-nil}
-use Prim.Native.Nat.{ℕ, zero, suc, _+_, _-_, _<_, _≤_}
+use Prim.Native.Nat.{ℕ, zero, suc, _+_, _<_, _≤_}
 use native.Mathlib.Omega.{arith}
 use borrow.Author.Tests.{ne-eqb, lt-ltb, le-leb}
 use lib.Dec.{eqb, leb}
-use lib.IntN.{ℤ}
 use lib.ListN.{length, take, drop, replicate, length-append, length-drop, length-replicate}
 use lib.Seq.{drop-append-le, take-append-le, take-at}
 use Rattle.numbers.proofs.Flags.{by-test, by-bool, by-order, impossible}
@@ -18,16 +17,14 @@ use Rattle.dlt.specs.Header.{headerOf}
 use Rattle.dlt.specs.declared.header.HeaderRead.{HeaderRead}
 use Rattle.dlt.specs.declared.header.HeaderRead.the-variants as headers
 use Rattle.head.specs.Head.{madeOf}
-use Rattle.text.specs.Decimal as decimals
-use Rattle.shapes.specs.Shapes as shapes
-use Rattle.lines.specs.Lines as lines
 use Rattle.lines.specs.Lines.{badBytes}
-use Rattle.dlt.proofs.Laws.{header-behind, record-behind, size-within, size-some}
+use Rattle.dlt.proofs.Laws.{header-behind, record-behind, size-within}
 use Rattle.text.specs.Put.{put, putOf}
-use Rattle.trace.proofs.Steps.{and-true, come-not}
-use Rattle.trace.specs.Trace.{Areas, Replay, callIn, lengthIn, payloadIn, called, replayed, lineOf, closing, linesOf, isRefused, byHeader, outputOf}
-use Rattle.trace.specs.Turn.{beginOf, begunBy, replayIn, Outcome, outcome, isShort, lineNeed, stays, endsWith, Next, next, advances, nextBy, nextOf}
-use Rattle.trace.specs.Loop.{wroteIn, Writes, record-line, end-line, bad-line, Replays, cut, refused, ready}
+use Rattle.step.specs.Step.{Ended}
+use Rattle.trace.proofs.Steps.{come-not}
+use Rattle.trace.specs.Trace.{Areas, Replay, callIn, payloadIn, called, replayed, lineOf, closing, linesOf, isRefused, byHeader, outputOf}
+use Rattle.trace.specs.Turn.{beginOf, begunBy, replayIn, TurnOutcome, isShort, lineNeed, stays, endsWith, TurnLeft, turnLeft, advances, turnOf}
+use Rattle.trace.specs.Loop.{Moves, wroteIn, Writes, record-line, end-line, bad-line, Replays, cut, refused, ready}
 use Rattle.trace.specs.declared.Opened.{Opened}
 use Rattle.trace.specs.declared.Opened.the-variants as opened
 use Rattle.trace.specs.declared.Status.{Status}
@@ -71,8 +68,8 @@ whole-some [] h = absurd (h none-short)
 whole-some (x ∷ xs) h = omega arith
 
 pub piece-enough : (t : Trace) (a : Areas) (xs ys : List ℕ) (last last₁ : Bool) (line : List ℕ) → (recordOf xs ≡ records.Short → ⊥)
-    → nextOf t a (xs ++ ys) last₁ line ≡ nextOf t a xs last line
-unfolding nextOf
+    → turnOf t a (xs ++ ys) last₁ line ≡ turnOf t a xs last line
+unfolding turnOf
 piece-enough t a xs ys last last₁ line h =
     let some = whole-some xs h in
     let long : 0 < length (xs ++ ys) = rw (length-append xs ys) (omega arith) in
@@ -87,6 +84,13 @@ piece-enough t a xs ys last last₁ line h =
 positive : (n : ℕ) → eqb n 0 ≡ false → 0 < n
 positive zero e = impossible e
 positive (suc n) e = omega arith
+
+-- the call of the record that the rest starts with, and the replay behind it
+abbrev pub madeIn : Replay → List ℕ → Ended
+madeIn t rest = let r = recordOf rest in called t (callIn r) (payloadIn rest r)
+
+abbrev pub behind : Replay → List ℕ → Replay
+behind t rest = let r = recordOf rest in replayed t (payloadIn rest r) (sizeOf r) (madeIn t rest)
 
 -- more fuel than bytes changes nothing
 pub lines-enough : (n m : ℕ) (t : Replay) (rest : List ℕ) → length rest ≤ n → length rest ≤ m → linesOf n t rest ≡ linesOf m t rest
@@ -104,12 +108,11 @@ lines-enough (suc n) (suc m) t rest h k =
     let some : 0 < sizeOf r = positive (sizeOf r) e in
     let a : length (drop (sizeOf r) rest) ≤ n = rw (length-drop (sizeOf r) rest) (omega arith) in
     let b : length (drop (sizeOf r) rest) ≤ m = rw (length-drop (sizeOf r) rest) (omega arith) in
-    rw e (ap (λ (l : List ℕ). lineOf t (called t rest r) ++ l) (lines-enough n m (replayed t rest r (called t rest r)) (drop (sizeOf r) rest) a b)))
+    rw e (ap (λ (l : List ℕ). lineOf t (madeIn t rest) ++ l) (lines-enough n m (behind t rest) (drop (sizeOf r) rest) a b)))
 
 -- one turn of the whole: a record's line, then what the rest gives; or the last line
 pub lines-record : (t : Replay) (rest : List ℕ) → eqb (sizeOf (recordOf rest)) 0 ≡ false
-    → let r = recordOf rest in let e = called t rest r in let left = drop (sizeOf r) rest in
-    linesOf (length rest) t rest ≡ lineOf t e ++ linesOf (length left) (replayed t rest r e) left
+    → let left = drop (sizeOf (recordOf rest)) rest in linesOf (length rest) t rest ≡ lineOf t (madeIn t rest) ++ linesOf (length left) (behind t rest) left
 unfolding linesOf
 lines-record t [] e = impossible (sym (ap (λ (r : RecordRead). eqb (sizeOf r) 0) none-short) ∙ e)
 lines-record t (x ∷ xs) e =
@@ -118,8 +121,7 @@ lines-record t (x ∷ xs) e =
     let left = drop (sizeOf r) (x ∷ xs) in
     let h : length left ≤ length xs = rw (length-drop (sizeOf r) (x ∷ xs)) (omega arith) in
     rw e
-    (ap (λ (l : List ℕ). lineOf t (called t (x ∷ xs) r) ++ l)
-    (lines-enough (length xs) (length left) (replayed t (x ∷ xs) r (called t (x ∷ xs) r)) left h (omega arith)))
+    (ap (λ (l : List ℕ). lineOf t (madeIn t (x ∷ xs)) ++ l) (lines-enough (length xs) (length left) (behind t (x ∷ xs)) left h (omega arith)))
 
 pub lines-close : (t : Replay) (rest : List ℕ) → eqb (sizeOf (recordOf rest)) 0 ≡ true → linesOf (length rest) t rest ≡ closing t rest
 unfolding linesOf
@@ -133,16 +135,16 @@ wrote line bs = take-at bs (drop (0 + length bs) line) (0 + length bs) (omega ar
 
 -- a turn by its cases
 module _ (t : Trace) (a : Areas) (hand : List ℕ) (last : Bool) (line : List ℕ) where
-  by-turn : (P : Next → Type 0) → P (next (stays t line status.LineShort) a) → P (next (stays t line status.More) a)
-      → (eqb (sizeOf (recordOf hand)) 0 ≡ true → (isShort (recordOf hand) && not last) ≡ false → P (next (endsWith t line (eqb (length hand) 0)) a))
+  by-turn : (P : TurnLeft → Type 0) → P (turnLeft (stays t line status.LineShort) a) → P (turnLeft (stays t line status.More) a)
+      → (eqb (sizeOf (recordOf hand)) 0 ≡ true → (isShort (recordOf hand) && not last) ≡ false → P (turnLeft (endsWith t line (eqb (length hand) 0)) a))
       → (eqb (sizeOf (recordOf hand)) 0 ≡ false → P (advances t a line (callIn (recordOf hand)) (payloadIn hand (recordOf hand)) (sizeOf (recordOf hand))))
-      → P (nextOf t a hand last line)
-  unfolding nextOf
+      → P (turnOf t a hand last line)
+  unfolding turnOf
   by-turn P short more close advance =
       by-test P (leb (lineNeed (a .list)) (length line)) _ _
       (λ room.
       by-test P (eqb (sizeOf (recordOf hand)) 0) _ _
-      (λ e. by-test (λ (o : Outcome). P (next o a)) (isShort (recordOf hand) && not last) _ _ (λ m. more) (λ m. close e m))
+      (λ e. by-test (λ (o : TurnOutcome). P (turnLeft o a)) (isShort (recordOf hand) && not last) _ _ (λ m. more) (λ m. close e m))
       advance)
       (λ room. short)
 
@@ -164,16 +166,17 @@ module _ (t : Trace) (a : Areas) (hand more : List ℕ) (last : Bool) (line : Li
   step-line : (out : List ℕ) → eqb (sizeOf (recordOf hand)) 0 ≡ false
       → let r = recordOf hand in let x = advances t a line (callIn r) (payloadIn hand r) (sizeOf r) in let left = drop (sizeOf r) hand ++ more in
       out ≡ linesOf (length left) (replayIn (x .outcome .trace) (x .areas)) left → wroteIn x ++ out ≡ linesOf (length (hand ++ more)) whole (hand ++ more)
+  unfolding advances
   step-line out e ih =
       let r = recordOf hand in
       let full : recordOf (hand ++ more) ≡ r = record-behind hand more (λ q. impossible (sym (ap (λ (z : RecordRead). eqb (sizeOf z) 0) q) ∙ e)) in
       let paid = payload-behind r hand more (size-within hand) in
       let cut = drop-append-le (sizeOf r) hand more (size-within hand) in
-      rw (wrote line (lineOf whole (called whole hand r)), lines-record whole (hand ++ more) (rw full e), full, paid, cut) (ap (λ (l : List ℕ). lineOf whole (called whole hand r) ++ l) ih)
+      rw (wrote line (lineOf whole (madeIn whole hand)), lines-record whole (hand ++ more) (rw full e), full, paid, cut) (ap (λ (l : List ℕ). lineOf whole (madeIn whole hand) ++ l) ih)
 
   -- the last line
   step-close : (last ≡ true → more ≡ []) → eqb (sizeOf (recordOf hand)) 0 ≡ true → (isShort (recordOf hand) && not last) ≡ false
-      → wroteIn (next (endsWith t line (eqb (length hand) 0)) a) ≡ linesOf (length (hand ++ more)) whole (hand ++ more)
+      → wroteIn (turnLeft (endsWith t line (eqb (length hand) 0)) a) ≡ linesOf (length (hand ++ more)) whole (hand ++ more)
   step-close told e m =
       wrote line (closing whole hand)
       ∙ by-bool last
@@ -185,22 +188,24 @@ module _ (t : Trace) (a : Areas) (hand more : List ℕ) (last : Bool) (line : Li
       let longer : 0 < length (hand ++ more) = rw (length-append hand more) (omega arith) in
       rw (lines-close whole (hand ++ more) (rw (record-behind hand more some) e), ne-eqb (length hand) 0 (λ q. omega arith), ne-eqb (length (hand ++ more)) 0 (λ q. omega arith)))
 
-  turn-line : (out : List ℕ) {x : Next} → x ≡ nextOf t a hand last line → x .outcome .status ≡ status.Line
+  turn-line : (out : List ℕ) {x : TurnLeft} → x ≡ turnOf t a hand last line → x .outcome .status ≡ status.Line
       → out ≡ linesOf (length (drop (x .outcome .size) hand ++ more)) (replayIn (x .outcome .trace) (x .areas)) (drop (x .outcome .size) hand ++ more)
       → wroteIn x ++ out ≡ linesOf (length (hand ++ more)) whole (hand ++ more)
+  unfolding advances
   turn-line out {x} e = subst P (sym e) (by-turn t a hand last line P (λ s ih. other s (λ k. omega arith)) (λ s ih. other s (λ k. omega arith)) (λ f m s ih. by-bool (eqb (length hand) 0) (λ b. other (rw b at s) (λ k. omega arith)) (λ b. other (rw b at s) (λ k. omega arith))) (λ f s ih. step-line out f ih))
     where
-      P : Next → Type 0
+      P : TurnLeft → Type 0
       P y =
           y .outcome .status ≡ status.Line
           → out ≡ linesOf (length (drop (y .outcome .size) hand ++ more)) (replayIn (y .outcome .trace) (y .areas)) (drop (y .outcome .size) hand ++ more)
           → wroteIn y ++ out ≡ linesOf (length (hand ++ more)) whole (hand ++ more)
 
-  turn-close : {x : Next} → (last ≡ true → more ≡ []) → x ≡ nextOf t a hand last line → 2 ≤ code (x .outcome .status) → code (x .outcome .status) ≤ 3
+  turn-close : {x : TurnLeft} → (last ≡ true → more ≡ []) → x ≡ turnOf t a hand last line → 2 ≤ code (x .outcome .status) → code (x .outcome .status) ≤ 3
       → wroteIn x ≡ linesOf (length (hand ++ more)) whole (hand ++ more)
+  unfolding advances
   turn-close told e = subst P (sym e) (by-turn t a hand last line P (λ l m. absurd (omega arith)) (λ l m. absurd (omega arith)) (λ f m l k. step-close told f m) (λ f l m. absurd (omega arith)))
     where
-      P : Next → Type 0
+      P : TurnLeft → Type 0
       P y = 2 ≤ code (y .outcome .status) → code (y .outcome .status) ≤ 3 → wroteIn y ≡ linesOf (length (hand ++ more)) whole (hand ++ more)
 
 pub loop-writes : (t : Trace) (a : Areas) (rest out : List ℕ) → Writes t a rest out → out ≡ linesOf (length rest) (replayIn t a) rest
@@ -246,22 +251,14 @@ loop-whole _ _ _ _ (ready c a hand more out e w) =
     rw (header-behind hand more whole, drop-append-le 24 hand more (header-long hand whole))
     (ready-by c a (drop 24 hand ++ more) (headerOf hand) out e (loop-writes (beginOf hand c .trace) a (drop 24 hand ++ more) out w))
 
--- a turn that gives a record's line moves the cursor, and not past the bytes at hand; so a file of any length comes to its end
-abbrev Moves : List ℕ → Next → Type 0
-Moves hand x = x .outcome .status ≡ status.Line → (0 < x .outcome .size) × (x .outcome .size ≤ length hand)
-
-pub turn-moves : (t : Trace) (a : Areas) (hand : List ℕ) (last : Bool) (line : List ℕ) → Moves hand (nextOf t a hand last line)
+pub turn-moves : (t : Trace) (a : Areas) (hand : List ℕ) (last : Bool) (line : List ℕ) → Moves hand (turnOf t a hand last line)
+unfolding advances
 turn-moves t a hand last line =
     by-turn t a hand last line (Moves hand)
     (λ s. other s (λ k. omega arith))
     (λ s. other s (λ k. omega arith))
     (λ f m s. by-bool (eqb (length hand) 0) (λ b. other (rw b at s) (λ k. omega arith)) (λ b. other (rw b at s) (λ k. omega arith)))
     (λ f s. (positive (sizeOf (recordOf hand)) f, size-within hand))
-
--- the line of a file that is no trace
-pub bad-start : badBytes 0 ≡ 98 ∷ 97 ∷ 100 ∷ 32 ∷ 48 ∷ 10 ∷ []
-unfolding lines.badBytes shapes.closed shapes.spaced decimals.signedDecimal decimals.decimal decimals.digits
-bad-start = refl
 
 -- there is such a run for every file: with a line that is long enough each turn gives a record's line or the last one, and each record has a byte at least
 module _ (t : Trace) (a : Areas) (rest : List ℕ) where
@@ -271,22 +268,23 @@ module _ (t : Trace) (a : Areas) (rest : List ℕ) where
   roomy : leb (lineNeed (a .list)) (length long) ≡ true
   roomy = le-leb (lineNeed (a .list)) (length long) (let e : length long ≡ lineNeed (a .list) = length-replicate (lineNeed (a .list)) 0 in omega arith)
 
-  turn-ends : eqb (sizeOf (recordOf rest)) 0 ≡ true → next (endsWith t long (eqb (length rest) 0)) a ≡ nextOf t a rest true long
-  unfolding nextOf
+  turn-ends : eqb (sizeOf (recordOf rest)) 0 ≡ true → turnLeft (endsWith t long (eqb (length rest) 0)) a ≡ turnOf t a rest true long
+  unfolding turnOf
   turn-ends e = rw (roomy, e, ← come-not (recordOf rest) true refl)
 
-  turn-goes : eqb (sizeOf (recordOf rest)) 0 ≡ false → advances t a long (callIn (recordOf rest)) (payloadIn rest (recordOf rest)) (sizeOf (recordOf rest)) ≡ nextOf t a rest true long
-  unfolding nextOf
+  turn-goes : eqb (sizeOf (recordOf rest)) 0 ≡ false → advances t a long (callIn (recordOf rest)) (payloadIn rest (recordOf rest)) (sizeOf (recordOf rest)) ≡ turnOf t a rest true long
+  unfolding turnOf
   turn-goes e = rw (roomy, e)
 
   last-turn : eqb (sizeOf (recordOf rest)) 0 ≡ true → Writes t a (rest ++ []) (linesOf (length (rest ++ [])) (replayIn t a) (rest ++ []))
   last-turn e =
       subst (Writes t a (rest ++ [])) (step-close t a rest [] true long (λ q. refl) e (sym (come-not (recordOf rest) true refl)))
       (by-bool (eqb (length rest) 0)
-      (λ b. end-line t a rest [] true long (next (endsWith t long (eqb (length rest) 0)) a) (λ q. refl) (turn-ends e) (rw b))
-      (λ b. bad-line t a rest [] true long (next (endsWith t long (eqb (length rest) 0)) a) (λ q. refl) (turn-ends e) (rw b)))
+      (λ b. end-line t a rest [] true long (turnLeft (endsWith t long (eqb (length rest) 0)) a) (λ q. refl) (turn-ends e) (rw b))
+      (λ b. bad-line t a rest [] true long (turnLeft (endsWith t long (eqb (length rest) 0)) a) (λ q. refl) (turn-ends e) (rw b)))
 
 writes-all : (n : ℕ) (t : Trace) (a : Areas) (rest : List ℕ) → length rest ≤ n → Writes t a (rest ++ []) (linesOf (length (rest ++ [])) (replayIn t a) (rest ++ []))
+unfolding advances
 writes-all zero t a [] h = last-turn t a [] (rw none-short)
 writes-all zero t a (x ∷ rest) h = absurd (omega arith)
 writes-all (suc n) t a rest h =

@@ -1,16 +1,17 @@
 -- What the code of lib.rt does at each return, as laws over plain values. A signed number stands twice, as it is and as the machine reads it back.
 -- Assumes nothing.
 use mathlib.Core.Path.{_≡_, refl, sym, _∙_, ap}
-use mathlib.Core.Bool.{Bool, true, false, _&&_, not, cond}
-use mathlib.Core.List.{List, []}
+use mathlib.Core.Bool.{Bool, true, false, _&&_, not, cond, and-true}
+use mathlib.Core.List.{List}
 use Prim.Native.Nat.{ℕ, _+_, _-_, _*_, _/_, _%_, _^_, _<_, _≤_}
 use native.Mathlib.Omega.{arith}
 use borrow.Author.Needs.{needs}
-use borrow.Author.Tests.{leb-true, ne-eqb, le-leb, lt-leb, lt-ltb, le-ltb}
-use lib.Dec.{eqb, leb, ltb}
+use borrow.Author.Tests.{leb-true, ne-eqb, le-leb, lt-leb}
+use lib.Dec.{eqb, leb}
 use lib.IntN.{ℤ, pos}
 use lib.ListN.{length, take, drop, length-drop}
 use lib.Seq.{drop-drop}
+use Rattle.numbers.specs.Circular.{sum}
 use Rattle.numbers.proofs.Flags.{by-order, and-false}
 use Rattle.head.specs.Head.{madeOf}
 use Rattle.head.specs.declared.state.Head.{Head}
@@ -22,7 +23,7 @@ use Rattle.dlt.specs.declared.header.HeaderRead.{HeaderRead}
 use Rattle.dlt.specs.declared.header.HeaderRead.the-variants as headers
 use Rattle.dlt.specs.declared.record.RecordRead.{RecordRead}
 use Rattle.dlt.specs.declared.record.RecordRead.the-variants as records
-use Rattle.shapes.specs.Shapes.{Piece}
+use Rattle.shapes.specs.Shapes.{Wrote}
 use Rattle.tally.specs.Tally.{freshTally, tallied, tallyBytes}
 use Rattle.tally.specs.declared.Tally.{Tally}
 use Rattle.text.specs.Put.{Put, putEnded, putOf}
@@ -35,10 +36,10 @@ use Rattle.step.specs.declared.Call.{Call}
 use Rattle.step.specs.declared.Call.the-variants as calls
 use Rattle.step.specs.declared.Answer.{Answer}
 use Rattle.trace.specs.Trace.{Areas, callIn, lengthIn, payloadIn}
-use Rattle.trace.specs.Turn.{noHead, begunAs, begunBy, beginOf, isShort, lineNeed, areasOf, Outcome, outcome, Next, next, turned, stays, endsWith, endsBy, stepIn, Ran, ran, ranOf, advances, nextBy, nextOf}
+use Rattle.trace.specs.Turn.{noHead, begunAs, begunBy, beginOf, isShort, lineNeed, areasOf, TurnOutcome, turnOutcome, TurnLeft, turnLeft, turned, endsWith, endsBy, advances, turnBy, turnOf}
 use Rattle.trace.specs.declared.Turned.{Turned}
 use Rattle.trace.specs.declared.Status.{Status}
-use Rattle.trace.specs.Whole.{Whole}
+use Rattle.trace.specs.RecordHere.{RecordHere}
 use Rattle.trace.specs.declared.Status.the-variants as status
 use Rattle.trace.specs.declared.Trace.{Trace}
 use Rattle.trace.specs.declared.Begun.{Begun}
@@ -133,39 +134,42 @@ module _ (line : List ℕ) (nth : ℕ) (list : List ℕ) where
 pub room-after : (line list list₁ : List ℕ) → length list₁ ≡ length list → lineNeed list ≤ length line → lineNeed list₁ ≤ length line
 room-after line list list₁ e h = rw e h
 
-module _ (h : Head) (c : Tally) (ws bs a out list line : List ℕ) (nth : ℕ) (call : Call) (payload : List ℕ) where
-  pub done : {n : ℕ} {s : Stepped} {c₁ : Tally} {ws₁ bs₁ a₁ out₁ list₁ line₁ : List ℕ}
-      → ended s ws₁ bs₁ a₁ out₁ list₁ ≡ stepOf (stateOf h ws bs a) (lentFor payload out list) call
-      → putEnded n line₁ ≡ putOf line 0 (lineBytes nth (steps.lineOf (s .answer) list₁))
-      → c₁ ≡ tallied c (length payload) (s .answer)
-      → ran (s .head) c₁ (putEnded n line₁) (areasOf ws₁ bs₁ a₁ out₁ list₁) ≡ ranOf (stepIn h (areasOf ws bs a out list) call payload) c (length payload) line nth
-  done {n} {s} {c₁} {ws₁} {bs₁} {a₁} {out₁} {list₁} {line₁} g e f =
-      ap (λ (p : Put). ran (s .head) c₁ p (areasOf ws₁ bs₁ a₁ out₁ list₁)) e
-      ∙ ap (λ (k : Tally). ran (s .head) k (putOf line 0 (lineBytes nth (steps.lineOf (s .answer) list₁))) (areasOf ws₁ bs₁ a₁ out₁ list₁)) f
-      ∙ ap (λ (x : Ended). ranOf x c (length payload) line nth) g
+-- what a call left, with the counters, the count, the offset and what was written
+abbrev leaves : ℕ → Ended → Tally → ℕ → ℕ → Put → TurnLeft
+leaves size x tally count offset w =
+    turnLeft (turnOutcome (record { head = x .state .head; tally = tally; count = count; offset = offset }) size w status.Line)
+    (areasOf (x .state .slots) (x .state .payloads) (x .state .history) (x .output) (x .list))
 
--- advance
 module _ (t : Trace) (ws bs a out list line : List ℕ) (call : Call) (payload : List ℕ) (size : ℕ) where
-  pub advanced : {count offset n : ℕ} {h : Head} {c : Tally} {ws₁ bs₁ a₁ out₁ list₁ line₁ : List ℕ}
+  pub advanced : {count offset n : ℕ} {s : Stepped} {c : Tally} {ws₁ bs₁ a₁ out₁ list₁ line₁ : List ℕ}
       → count ≡ (t .count + 1) % 2 ^ 64 → offset ≡ (t .offset + size) % 2 ^ 64
-      → ran h c (putEnded n line₁) (areasOf ws₁ bs₁ a₁ out₁ list₁) ≡ ranOf (stepIn (t .head) (areasOf ws bs a out list) call payload) (t .tally) (length payload) line count
-      → next (outcome (record { head = h; tally = c; count = count; offset = offset }) size (putEnded n line₁) status.Line) (areasOf ws₁ bs₁ a₁ out₁ list₁)
+      → ended s ws₁ bs₁ a₁ out₁ list₁ ≡ stepOf (stateOf (t .head) ws bs a) (lentFor payload out list) call
+      → putEnded n line₁ ≡ putOf line 0 (lineBytes count (steps.lineOf (s .answer) list₁))
+      → c ≡ tallied (t .tally) (length payload) (s .answer)
+      → turnLeft (turnOutcome (record { head = s .head; tally = c; count = count; offset = offset }) size (putEnded n line₁) status.Line) (areasOf ws₁ bs₁ a₁ out₁ list₁)
       ≡ advances t (areasOf ws bs a out list) line call payload size
-  advanced {count} {offset} e f g =
-      ap (λ (r : Ran). next (outcome (record { head = r .head; tally = r .tally; count = count; offset = offset }) size (r .written) status.Line) (r .areas)) g ∙ rw (e, f)
+  unfolding sum advances
+  advanced {count} {offset} {n} {s} {c} {ws₁} {bs₁} {a₁} {out₁} {list₁} e f g p k =
+      ap (leaves size (ended s ws₁ bs₁ a₁ out₁ list₁) c count offset) p
+      ∙ rw (k, e, f)
+      (ap
+      (λ (x : Ended).
+      leaves size x (tallied (t .tally) (length payload) (x .answer)) (sum 64 (t .count) 1) (sum 64 (t .offset) size)
+      (putOf line 0 (lineBytes (sum 64 (t .count) 1) (x .line))))
+      g)
 
 -- end, bad, close
 module _ (t : Trace) (line : List ℕ) {line₁ : List ℕ} where
-  pub ended-with : {p n : ℕ} {line₂ : List ℕ} → 700 ≤ length line → Piece line 0 (endBytes (t .count) (t .head .window .lrsn) (t .head .window .seqno0) (t .head .window .held)) 256 p line₂
-      → Piece line₂ p (tallyBytes (t .tally)) 429 n line₁ → outcome t 0 (putEnded n line₁) status.End ≡ endsWith t line true
+  pub ended-with : {p n : ℕ} {line₂ : List ℕ} → 700 ≤ length line → Wrote line 0 (endBytes (t .count) (t .head .window .lrsn) (t .head .window .seqno0) (t .head .window .held)) 256 p line₂
+      → Wrote line₂ p (tallyBytes (t .tally)) 429 n line₁ → turnOutcome t 0 (putEnded n line₁) status.End ≡ endsWith t line true
   ended-with room e f =
       let k = put-cursor line 0 _ (e .bytes) in
       let l = e .within in
-      ap (λ (p : Put). outcome t 0 p status.End)
+      ap (λ (p : Put). turnOutcome t 0 p status.End)
       (put-then line 0 (endBytes (t .count) (t .head .window .lrsn) (t .head .window .seqno0) (t .head .window .held)) (tallyBytes (t .tally)) (e .bytes) (f .bytes) (omega arith))
 
-  pub ended-bad : {n : ℕ} → putEnded n line₁ ≡ putOf line 0 (badBytes (t .offset)) → outcome t 0 (putEnded n line₁) status.Bad ≡ endsWith t line false
-  ended-bad e = ap (λ (p : Put). outcome t 0 p status.Bad) e
+  pub ended-bad : {n : ℕ} → putEnded n line₁ ≡ putOf line 0 (badBytes (t .offset)) → turnOutcome t 0 (putEnded n line₁) status.Bad ≡ endsWith t line false
+  ended-bad e = ap (λ (p : Put). turnOutcome t 0 p status.Bad) e
 
 module _ (t : Trace) (line : List ℕ) (more empty : Bool) {line₁ : List ℕ} {r : Turned} where
   pub close-more : more ≡ true → r ≡ record { trace = t; size = 0; length = 0; status = status.More } → line₁ ≡ line → turned r line₁ ≡ endsBy t line more empty
@@ -204,7 +208,7 @@ payload-lies piece at (records.Clock time stamp) = refl
 payload-lies piece at records.Clear = refl
 
 pub whole-is : (list line piece : List ℕ) (at : ℕ) {r : RecordRead} {size : ℕ} → lineNeed list ≤ length line → r ≡ recordOf (drop at piece) → size ≡ sizeOf r
-    → (size ≡ 0 → ⊥) → Whole list line piece at r size
+    → (size ≡ 0 → ⊥) → RecordHere list line piece at r size
 whole-is list line piece at {r} {size} a b c d =
     record {
       room = a;
@@ -214,7 +218,7 @@ whole-is list line piece at {r} {size} a b c d =
       pays = rw c (payload-no-longer r);
     }
 
-pub made-is : (t : Trace) (a : Areas) (list line piece : List ℕ) (at : ℕ) (r : RecordRead) (size n : ℕ) {call : Call} {x : Next} → Whole list line piece at r size
+pub made-is : (t : Trace) (a : Areas) (list line piece : List ℕ) (at : ℕ) (r : RecordRead) (size n : ℕ) {call : Call} {x : TurnLeft} → RecordHere list line piece at r size
     → call ≡ callIn r → n ≡ lengthIn r → x ≡ advances t a line call (take (at + size - (at + size - n)) (drop (at + size - n) piece)) size
     → x ≡ advances t a line (callIn r) (payloadIn (drop at piece) r) size
 made-is t a list line piece at r size n w e f g =
@@ -228,10 +232,6 @@ made-is t a list line piece at r size n w e f g =
 pub come-not : (r : RecordRead) (last : Bool) → last ≡ true → false ≡ (isShort r && not last)
 come-not r last e = rw (e, and-false (isShort r) refl)
 
-pub and-true : (b : Bool) → (b && true) ≡ b
-and-true true = refl
-and-true false = refl
-
 pub come-so : (r : RecordRead) (last : Bool) {b : Bool} → last ≡ false → b ≡ isShort r → b ≡ (isShort r && not last)
 come-so r last {b} e f = rw (e, ← f) (sym (and-true b))
 
@@ -243,11 +243,11 @@ empty-by piece at e =
     (λ h. rw (le-leb _ _ h, length-drop at piece) (let k : length piece - at ≡ 0 = omega arith in rw k))
 
 module _ (t : Trace) (a : Areas) (rest : List ℕ) (last : Bool) (line : List ℕ) {r : RecordRead} {n : ℕ} where
-  pub turn-close : {more empty : Bool} {o : Outcome} → r ≡ recordOf rest → n ≡ sizeOf r → n ≡ 0 → more ≡ (isShort r && not last) → empty ≡ eqb (length rest) 0
-      → o ≡ endsBy t line more empty → next o a ≡ nextBy t a rest last line (recordOf rest)
+  pub turn-close : {more empty : Bool} {o : TurnOutcome} → r ≡ recordOf rest → n ≡ sizeOf r → n ≡ 0 → more ≡ (isShort r && not last) → empty ≡ eqb (length rest) 0
+      → o ≡ endsBy t line more empty → turnLeft o a ≡ turnBy t a rest last line (recordOf rest)
   turn-close e f g h k o = rw (← e, ← f, g, ← h, ← k, o)
 
-  pub turn-made : {x : Next} → r ≡ recordOf rest → n ≡ sizeOf r → (n ≡ 0 → ⊥) → x ≡ advances t a line (callIn r) (payloadIn rest r) n → x ≡ nextBy t a rest last line (recordOf rest)
+  pub turn-made : {x : TurnLeft} → r ≡ recordOf rest → n ≡ sizeOf r → (n ≡ 0 → ⊥) → x ≡ advances t a line (callIn r) (payloadIn rest r) n → x ≡ turnBy t a rest last line (recordOf rest)
   turn-made e f g h = rw (← e, ← f, ne-eqb n 0 g) h
 
 -- next
@@ -256,12 +256,12 @@ room-so list line e f = leb-true _ _ (sym e ∙ f)
 
 module _ (t : Trace) (a : Areas) (rest : List ℕ) (last : Bool) (line : List ℕ) {b : Bool} where
   pub next-short : {line₁ : List ℕ} {r : Turned} → b ≡ leb (lineNeed (a .list)) (length line) → b ≡ false → r ≡ record { trace = t; size = 0; length = 0; status = status.LineShort } → line₁ ≡ line
-      → next (turned r line₁) a ≡ nextOf t a rest last line
-  unfolding nextOf
+      → turnLeft (turned r line₁) a ≡ turnOf t a rest last line
+  unfolding turnOf
   next-short e f g h = rw (← e, f, g, h)
 
-  pub next-turn : {x : Next} → b ≡ leb (lineNeed (a .list)) (length line) → b ≡ true → x ≡ nextBy t a rest last line (recordOf rest) → x ≡ nextOf t a rest last line
-  unfolding nextOf
+  pub next-turn : {x : TurnLeft} → b ≡ leb (lineNeed (a .list)) (length line) → b ≡ true → x ≡ turnBy t a rest last line (recordOf rest) → x ≡ turnOf t a rest last line
+  unfolding turnOf
   next-turn e f g = rw (← e, f) g
 
 pub ruleset begins = (judge-ready, judge-wide, judge-refused, no-head-made, begun-as, begun-made, begun-none, begun-bad, begun-header, needs)
@@ -283,6 +283,6 @@ pub ruleset reads = (
   needs,
 )
 
-pub ruleset runs = (answer-case, room-after, done, advanced, ended-with, ended-bad, close-more, close-end, close-bad, needs)
+pub ruleset runs = (answer-case, room-after, advanced, ended-with, ended-bad, close-more, close-end, close-bad, needs)
 
 pub ruleset turns = (whole-is, turn-close, turn-made, room-so, next-short, next-turn, needs)

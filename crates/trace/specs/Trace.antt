@@ -1,9 +1,10 @@
 -- What a replay writes for a whole file: 01, "Trace, mark DLT".
 use mathlib.Core.Bool.{Bool, true, false, _&&_, not, cond}
-use mathlib.Core.List.{List, [], _++_}
-use Prim.Native.Nat.{ℕ, zero, suc, _+_, _%_, _^_}
+use mathlib.Core.List.{List, _++_}
+use Prim.Native.Nat.{ℕ, zero, suc}
 use lib.Dec.{eqb, leb}
 use lib.ListN.{length, take, drop}
+use Rattle.numbers.specs.Circular.{sum}
 use Rattle.head.specs.Head.{madeOf}
 use Rattle.head.specs.declared.state.Head.{Head}
 use Rattle.head.specs.declared.state.Made.{Made}
@@ -14,7 +15,7 @@ use Rattle.dlt.specs.declared.header.HeaderRead.the-variants as headers
 use Rattle.dlt.specs.declared.record.RecordRead.{RecordRead}
 use Rattle.dlt.specs.declared.record.RecordRead.the-variants as records
 use Rattle.lines.specs.Lines.{lineBytes, endBytes, badBytes}
-use Rattle.step.specs.Step.{State, stateOf, lentFor, Ended, stepOf}
+use Rattle.step.specs.Step.{stateOf, lentFor, Ended, stepOf}
 use Rattle.tally.specs.Tally.{freshTally, tallied, tallyBytes}
 use Rattle.tally.specs.declared.Tally.{Tally}
 use Rattle.step.specs.declared.Call.{Call}
@@ -65,32 +66,29 @@ lengthIn records.Clear = 0
 abbrev pub payloadIn : List ℕ → RecordRead → List ℕ
 payloadIn rest r = take (lengthIn r) (drop 24 rest)
 
--- a record read: its call, on the receiver and the areas as they are
-abbrev pub called : Replay → List ℕ → RecordRead → Ended
-called t rest r =
+-- a record's call, with its payload, on the receiver and the areas as they are
+abbrev pub called : Replay → Call → List ℕ → Ended
+called t call payload =
     stepOf
     (stateOf (t .head) (t .areas .slots) (t .areas .payloads) (t .areas .history))
-    (lentFor (payloadIn rest r) (t .areas .output) (t .areas .list))
-    (callIn r)
+    (lentFor payload (t .areas .output) (t .areas .list))
+    call
 
--- records and bytes are counted mod 2^64, which no file reaches
-abbrev pub counted : ℕ → ℕ → ℕ
-counted n m = (n + m) % 2 ^ 64
-
-abbrev pub replayed : Replay → List ℕ → RecordRead → Ended → Replay
-replayed t rest r e =
+-- the replay behind a record of that payload and size; records and bytes are counted mod 2^64, which no file reaches
+abbrev pub replayed : Replay → List ℕ → ℕ → Ended → Replay
+replayed t payload size e =
     record {
-      count = counted (t .count) 1;
-      offset = counted (t .offset) (sizeOf r);
+      count = sum 64 (t .count) 1;
+      offset = sum 64 (t .offset) size;
       head = e .state .head;
-      tally = tallied (t .tally) (length (payloadIn rest r)) (e .answer);
+      tally = tallied (t .tally) (length payload) (e .answer);
       areas =
           record { slots = e .state .slots; payloads = e .state .payloads; history = e .state .history; output = e .output; list = e .list };
     }
 
 -- the record's number (from 1), and the line of its answer
 abbrev pub lineOf : Replay → Ended → List ℕ
-lineOf t e = lineBytes (counted (t .count) 1) (e .line)
+lineOf t e = lineBytes (sum 64 (t .count) 1) (e .line)
 
 -- end: records, lrsn, seqno0, held, and behind it the counters if they are asked for; bad: the record's offset
 abbrev pub endOf : Replay → List ℕ
@@ -114,11 +112,14 @@ linesOf zero t rest = closing t rest
 linesOf (suc n) t rest =
     let r = recordOf rest in
     orElse (eqb (sizeOf r) 0) (closing t rest)
-    (λ u. let e = called t rest r in lineOf t e ++ linesOf n (replayed t rest r e) (drop (sizeOf r) rest))
+    (λ u.
+    let payload = payloadIn rest r in
+    let e = called t (callIn r) payload in
+    lineOf t e ++ linesOf n (replayed t payload (sizeOf r) e) (drop (sizeOf r) rest))
 
 -- a fresh replay; counting asks for the counters
-abbrev pub begun : Bool → Areas → Head → Replay
-begun counting a h = record { count = 0; offset = 24; head = h; tally = freshTally counting; areas = a }
+abbrev pub freshReplay : Bool → Areas → Head → Replay
+freshReplay counting a h = record { count = 0; offset = 24; head = h; tally = freshTally counting; areas = a }
 
 -- a refused setting or a capacity over 32 is bad
 abbrev pub isRefused : Made → ℕ → Bool
@@ -130,7 +131,7 @@ byHeader counting a headers.Short rest = badBytes 0
 byHeader counting a headers.Bad rest = badBytes 0
 byHeader counting a (headers.Header start latency dropping first capacity) rest =
     let m = madeOf start latency dropping first capacity in
-    orElse (isRefused m capacity) (badBytes 0) (λ u. linesOf (length rest) (begun counting a (m .head)) rest)
+    orElse (isRefused m capacity) (badBytes 0) (λ u. linesOf (length rest) (freshReplay counting a (m .head)) rest)
 
 -- the whole output for a whole file: 01's lines, with the counters behind the end line if they are asked for
 unfoldable pub outputOf : Bool → Areas → List ℕ → List ℕ

@@ -1,6 +1,6 @@
 -- One turn of a replay, on the bytes of the file that are at hand: 01, "Trace, mark DLT". `Trace.antt` says what the whole file gives.
 use mathlib.Core.Bool.{Bool, true, false, _&&_, not, cond}
-use mathlib.Core.List.{List, _++_}
+use mathlib.Core.List.{List, []}
 use Prim.Native.Nat.{ℕ, _+_, _*_}
 use lib.Dec.{eqb, leb}
 use lib.IntN.{pos}
@@ -13,13 +13,9 @@ use Rattle.dlt.specs.declared.header.HeaderRead.{HeaderRead}
 use Rattle.dlt.specs.declared.header.HeaderRead.the-variants as headers
 use Rattle.dlt.specs.declared.record.RecordRead.{RecordRead}
 use Rattle.dlt.specs.declared.record.RecordRead.the-variants as records
-use Rattle.lines.specs.Lines.{lineBytes, endBytes, badBytes}
-use Rattle.step.specs.Step.{Ended, stateOf, lentFor, stepOf}
 use Rattle.step.specs.declared.Call.{Call}
-use Rattle.tally.specs.Tally.{freshTally, tallied, tallyBytes}
-use Rattle.tally.specs.declared.Tally.{Tally}
 use Rattle.text.specs.Put.{Put, putEnded, putOf}
-use Rattle.trace.specs.Trace.{Areas, Replay, callIn, payloadIn, counted, isRefused}
+use Rattle.trace.specs.Trace.{Areas, Replay, callIn, payloadIn, called, replayed, lineOf, endOf, badOf, freshReplay, isRefused}
 use Rattle.trace.specs.declared.Begun.{Begun}
 use Rattle.trace.specs.declared.Opened.{Opened}
 use Rattle.trace.specs.declared.Opened.the-variants as opened
@@ -32,9 +28,23 @@ use Rattle.trace.specs.declared.Turned.{Turned}
 abbrev pub noHead : Head
 noHead = madeOf (pos 0) 0 false 0 1 .head
 
+abbrev pub areasOf : List ℕ → List ℕ → List ℕ → List ℕ → List ℕ → Areas
+areasOf ws bs a out list = record { slots = ws; payloads = bs; history = a; output = out; list = list }
+
+-- where no area is lent
+abbrev pub noAreas : Areas
+noAreas = areasOf [] [] [] [] []
+
+-- a trace with its areas is a replay, and a replay without them a trace
+abbrev pub replayIn : Trace → Areas → Replay
+replayIn t a = record { count = t .count; offset = t .offset; head = t .head; tally = t .tally; areas = a }
+
+abbrev pub traceIn : Replay → Trace
+traceIn t = record { head = t .head; tally = t .tally; count = t .count; offset = t .offset }
+
 -- counting says that the counters are asked for
 abbrev pub begunAs : Opened → Head → Bool → Begun
-begunAs o h counting = record { trace = record { head = h; tally = freshTally counting; count = 0; offset = 24 }; opened = o }
+begunAs o h counting = record { trace = traceIn (freshReplay counting noAreas h); opened = o }
 
 abbrev pub begunBy : HeaderRead → Bool → Begun
 begunBy headers.Short counting = begunAs opened.Short noHead counting
@@ -46,32 +56,26 @@ begunBy (headers.Header start latency dropping first capacity) counting =
 abbrev pub beginOf : List ℕ → Bool → Begun
 beginOf piece counting = begunBy (headerOf piece) counting
 
-abbrev pub areasOf : List ℕ → List ℕ → List ℕ → List ℕ → List ℕ → Areas
-areasOf ws bs a out list = record { slots = ws; payloads = bs; history = a; output = out; list = list }
-
-abbrev pub replayIn : Trace → Areas → Replay
-replayIn t a = record { count = t .count; offset = t .offset; head = t .head; tally = t .tally; areas = a }
-
 -- what came of a turn: the trace, how many bytes of the file it used, and what it wrote at the start of the lent line
-pub record Outcome : Type 0 where
+pub record TurnOutcome : Type 0 where
   pub trace : Trace
   pub size : ℕ
   pub written : Put
   pub status : Status
 
-abbrev pub outcome : Trace → ℕ → Put → Status → Outcome
-outcome t size w s = record { trace = t; size = size; written = w; status = s }
+abbrev pub turnOutcome : Trace → ℕ → Put → Status → TurnOutcome
+turnOutcome t size w s = record { trace = t; size = size; written = w; status = s }
 
-abbrev pub turned : Turned → List ℕ → Outcome
-turned r line = outcome (r .trace) (r .size) (putEnded (r .length) line) (r .status)
+abbrev pub turned : Turned → List ℕ → TurnOutcome
+turned r line = turnOutcome (r .trace) (r .size) (putEnded (r .length) line) (r .status)
 
 -- and the areas after it
-pub record Next : Type 0 where
-  pub outcome : Outcome
+pub record TurnLeft : Type 0 where
+  pub outcome : TurnOutcome
   pub areas : Areas
 
-abbrev pub next : Outcome → Areas → Next
-next o a = record { outcome = o; areas = a }
+abbrev pub turnLeft : TurnOutcome → Areas → TurnLeft
+turnLeft o a = record { outcome = o; areas = a }
 
 abbrev pub isShort : RecordRead → Bool
 isShort records.Short = true
@@ -90,52 +94,33 @@ abbrev pub lineNeed : List ℕ → ℕ
 lineNeed list = 700 + 21 * length list
 
 -- nothing is done, and nothing changes
-abbrev pub stays : Trace → List ℕ → Status → Outcome
-stays t line s = outcome t 0 (putEnded 0 line) s
+abbrev pub stays : Trace → List ℕ → Status → TurnOutcome
+stays t line s = turnOutcome t 0 (putEnded 0 line) s
 
 -- the last line: at the end of the file the end, else bad
-abbrev pub endsWith : Trace → List ℕ → Bool → Outcome
+abbrev pub endsWith : Trace → List ℕ → Bool → TurnOutcome
 endsWith t line empty =
-    outcome t 0
-    (putOf line 0
-    (cond empty (endBytes (t .count) (t .head .window .lrsn) (t .head .window .seqno0) (t .head .window .held) ++ tallyBytes (t .tally)) (badBytes (t .offset))))
-    (cond empty status.End status.Bad)
+    let r = replayIn t noAreas in
+    turnOutcome t 0 (putOf line 0 (cond empty (endOf r) (badOf r))) (cond empty status.End status.Bad)
 
-abbrev pub endsBy : Trace → List ℕ → Bool → Bool → Outcome
+abbrev pub endsBy : Trace → List ℕ → Bool → Bool → TurnOutcome
 endsBy t line more empty = cond more (stays t line status.More) (endsWith t line empty)
 
--- a call, with its payload lent, on a head and the areas
-abbrev pub stepIn : Head → Areas → Call → List ℕ → Ended
-stepIn h a call payload = stepOf (stateOf h (a .slots) (a .payloads) (a .history)) (lentFor payload (a .output) (a .list)) call
-
--- a call and its line: the head, the counters, what was written, and the areas
-pub record Ran : Type 0 where
-  pub head : Head
-  pub tally : Tally
-  pub written : Put
-  pub areas : Areas
-
-abbrev pub ran : Head → Tally → Put → Areas → Ran
-ran h c w a = record { head = h; tally = c; written = w; areas = a }
-
--- size is the length of the payload
-abbrev pub ranOf : Ended → Tally → ℕ → List ℕ → ℕ → Ran
-ranOf e c size line nth =
-    ran (e .state .head) (tallied c size (e .answer)) (putOf line 0 (lineBytes nth (e .line))) (areasOf (e .state .slots) (e .state .payloads) (e .state .history) (e .output) (e .list))
-
--- the record's call, counted, with the size of its record
-abbrev pub advances : Trace → Areas → List ℕ → Call → List ℕ → ℕ → Next
+-- a record's call, its line, and the replay behind it
+unfoldable pub advances : Trace → Areas → List ℕ → Call → List ℕ → ℕ → TurnLeft
 advances t a line call payload size =
-    let r = ranOf (stepIn (t .head) a call payload) (t .tally) (length payload) line (counted (t .count) 1) in
-    next (outcome (record { head = r .head; tally = r .tally; count = counted (t .count) 1; offset = counted (t .offset) size }) size (r .written) status.Line) (r .areas)
+    let r = replayIn t a in
+    let e = called r call payload in
+    let behind = replayed r payload size e in
+    turnLeft (turnOutcome (traceIn behind) size (putOf line 0 (lineOf r e)) status.Line) (behind .areas)
 
 -- by the record that the bytes at hand start with; `last` says that none come behind them
-abbrev pub nextBy : Trace → Areas → List ℕ → Bool → List ℕ → RecordRead → Next
-nextBy t a rest last line r =
+abbrev pub turnBy : Trace → Areas → List ℕ → Bool → List ℕ → RecordRead → TurnLeft
+turnBy t a rest last line r =
     cond (eqb (sizeOf r) 0)
-    (next (endsBy t line (isShort r && not last) (eqb (length rest) 0)) a)
+    (turnLeft (endsBy t line (isShort r && not last) (eqb (length rest) 0)) a)
     (advances t a line (callIn r) (payloadIn rest r) (sizeOf r))
 
-unfoldable pub nextOf : Trace → Areas → List ℕ → Bool → List ℕ → Next
-nextOf t a rest last line =
-    cond (leb (lineNeed (a .list)) (length line)) (nextBy t a rest last line (recordOf rest)) (next (stays t line status.LineShort) a)
+unfoldable pub turnOf : Trace → Areas → List ℕ → Bool → List ℕ → TurnLeft
+turnOf t a rest last line =
+    cond (leb (lineNeed (a .list)) (length line)) (turnBy t a rest last line (recordOf rest)) (turnLeft (stays t line status.LineShort) a)

@@ -11,8 +11,8 @@ ghost use Rattle.text.specs.Put.{putEnded, putOf};
 ghost use Rattle.lines.specs.Lines.{lineBytes};
 ghost use Rattle.step.specs.Step as steps;
 ghost use Rattle.trace.specs.Trace.{callIn, lengthIn, payloadIn};
-ghost use Rattle.trace.specs.Turn.{noHead, begunAs, begunBy, beginOf, areasOf, next, turned, isShort, lineNeed, endsWith, endsBy, stepIn, ran, ranOf, advances, nextBy, nextOf};
-ghost use Rattle.trace.specs.Whole.{Whole};
+ghost use Rattle.trace.specs.Turn.{noHead, begunAs, begunBy, beginOf, areasOf, turnLeft, turned, isShort, lineNeed, endsWith, endsBy, advances, turnBy, turnOf};
+ghost use Rattle.trace.specs.RecordHere.{RecordHere};
 ghost use Rattle.trace.specs.declared.Opened.the-variants as opened;
 use dlt::header::HeaderRead;
 use dlt::record::RecordRead;
@@ -232,42 +232,7 @@ fn answer_line(line: &mut [u8], nth: u64, answer: Answer, list: &[u32]) -> usize
     }
 }
 
-struct Done {
-    head: Head,
-    tally: Tally,
-    length: usize,
-}
-
-// A call, its line and what it counts.
-fn run(
-    h: Head,
-    before: Tally,
-    words: &mut [u64],
-    bytes: &mut [u8],
-    area: &mut [u64],
-    out: &mut [u8],
-    list: &mut [u32],
-    line: &mut [u8],
-    nth: u64,
-    call: Call,
-    payload: &[u8],
-) -> Done
-    requires { ⌜ lineNeed (now list) ≤ length (now line) ⌝ }
-    ensures { λ r. ⌜ ran (r .head) (r .tally) (putEnded (r .length) (now (line .exit))) (areasOf (now (words .exit)) (now (bytes .exit)) (now (area .exit)) (now (out .exit)) (now (list .exit))) ≡ ranOf (stepIn h (areasOf (now (words .entry)) (now (bytes .entry)) (now (area .entry)) (now (out .entry)) (now (list .entry))) call (now (payload .entry))) before (length (now (payload .entry))) (now (line .entry)) nth ⌝ }
-{
-    let r = step::step(h, words, bytes, area, out, list, call, payload);
-    let answer = r.answer;
-    let length = answer_line(line, nth, answer, list);
-    let tally = tally::after(before, payload.len(), answer);
-    let head = r.head;
-    Done {
-        head,
-        tally,
-        length,
-    }
-}
-
-// A record's call, counted.
+// A record's call, its line and what it counts.
 fn advance(
     t: Trace,
     words: &mut [u64],
@@ -281,28 +246,17 @@ fn advance(
     size: usize,
 ) -> Turned
     requires { ⌜ lineNeed (now list) ≤ length (now line) ⌝ }
-    ensures { λ r. ⌜ next (turned r (now (line .exit))) (areasOf (now (words .exit)) (now (bytes .exit)) (now (area .exit)) (now (out .exit)) (now (list .exit))) ≡ advances t (areasOf (now (words .entry)) (now (bytes .entry)) (now (area .entry)) (now (out .entry)) (now (list .entry))) (now (line .entry)) call (now (payload .entry)) size ⌝ }
+    ensures { λ r. ⌜ turnLeft (turned r (now (line .exit))) (areasOf (now (words .exit)) (now (bytes .exit)) (now (area .exit)) (now (out .exit)) (now (list .exit))) ≡ advances t (areasOf (now (words .entry)) (now (bytes .entry)) (now (area .entry)) (now (out .entry)) (now (list .entry))) (now (line .entry)) call (now (payload .entry)) size ⌝ }
 {
     let count = std::num::wrapping_add_u64(t.count, 1);
     let offset = std::num::wrapping_add_u64(t.offset, size as u64);
+    let before = t.tally;
     let head = t.head;
-    let tally = t.tally;
-    let r = run(
-        head,
-        tally,
-        words,
-        bytes,
-        area,
-        out,
-        list,
-        line,
-        count,
-        call,
-        payload,
-    );
-    let length = r.length;
+    let r = step::step(head, words, bytes, area, out, list, call, payload);
+    let answer = r.answer;
+    let length = answer_line(line, count, answer, list);
+    let tally = tally::after(before, payload.len(), answer);
     let head = r.head;
-    let tally = r.tally;
     let trace = Trace {
         head,
         tally,
@@ -386,8 +340,8 @@ fn make(
     r: RecordRead,
     size: usize,
 ) -> Turned
-    requires { ⌜ Whole (now list) (now line) (now piece) at r size ⌝ }
-    ensures { λ x. ⌜ next (turned x (now (line .exit))) (areasOf (now (words .exit)) (now (bytes .exit)) (now (area .exit)) (now (out .exit)) (now (list .exit))) ≡ advances t (areasOf (now (words .entry)) (now (bytes .entry)) (now (area .entry)) (now (out .entry)) (now (list .entry))) (now (line .entry)) (callIn r) (payloadIn (drop at (now (piece .entry))) r) size ⌝ }
+    requires { ⌜ RecordHere (now list) (now line) (now piece) at r size ⌝ }
+    ensures { λ x. ⌜ turnLeft (turned x (now (line .exit))) (areasOf (now (words .exit)) (now (bytes .exit)) (now (area .exit)) (now (out .exit)) (now (list .exit))) ≡ advances t (areasOf (now (words .entry)) (now (bytes .entry)) (now (area .entry)) (now (out .entry)) (now (list .entry))) (now (line .entry)) (callIn r) (payloadIn (drop at (now (piece .entry))) r) size ⌝ }
 {
     let call = call_of(r);
     let n = length_of(r);
@@ -436,7 +390,7 @@ fn turn(
     last: bool,
 ) -> Turned
     requires { ⌜ lineNeed (now list) ≤ length (now line) ⌝ }
-    ensures { λ x. ⌜ next (turned x (now (line .exit))) (areasOf (now (words .exit)) (now (bytes .exit)) (now (area .exit)) (now (out .exit)) (now (list .exit))) ≡ nextBy t (areasOf (now (words .entry)) (now (bytes .entry)) (now (area .entry)) (now (out .entry)) (now (list .entry))) (drop at (now (piece .entry))) last (now (line .entry)) (recordOf (drop at (now (piece .entry)))) ⌝ }
+    ensures { λ x. ⌜ turnLeft (turned x (now (line .exit))) (areasOf (now (words .exit)) (now (bytes .exit)) (now (area .exit)) (now (out .exit)) (now (list .exit))) ≡ turnBy t (areasOf (now (words .entry)) (now (bytes .entry)) (now (area .entry)) (now (out .entry)) (now (list .entry))) (drop at (now (piece .entry))) last (now (line .entry)) (recordOf (drop at (now (piece .entry)))) ⌝ }
 {
     let r = dlt::record::record(piece, at);
     let size = dlt::record::size(r);
@@ -462,7 +416,7 @@ pub fn next(
     at: usize,
     last: bool,
 ) -> Turned
-    ensures { λ x. ⌜ next (turned x (now (line .exit))) (areasOf (now (words .exit)) (now (bytes .exit)) (now (area .exit)) (now (out .exit)) (now (list .exit))) ≡ nextOf t (areasOf (now (words .entry)) (now (bytes .entry)) (now (area .entry)) (now (out .entry)) (now (list .entry))) (drop at (now (piece .entry))) last (now (line .entry)) ⌝ }
+    ensures { λ x. ⌜ turnLeft (turned x (now (line .exit))) (areasOf (now (words .exit)) (now (bytes .exit)) (now (area .exit)) (now (out .exit)) (now (list .exit))) ≡ turnOf t (areasOf (now (words .entry)) (now (bytes .entry)) (now (area .entry)) (now (out .entry)) (now (list .entry))) (drop at (now (piece .entry))) last (now (line .entry)) ⌝ }
 {
     if has_room(line, list) {
         return turn(t, words, bytes, area, out, list, line, piece, at, last);

@@ -8,7 +8,7 @@ use Rattle.dlt.specs.declared.record.RecordRead.{RecordRead}
 use Rattle.trace.specs.Trace.{lengthIn}
 use Rattle.trace.specs.Turn.{lineNeed}
 
-pub record Whole (list line piece : List ℕ) (at : ℕ) (r : RecordRead) (size : ℕ) : Type 0 where
+pub record RecordHere (list line piece : List ℕ) (at : ℕ) (r : RecordRead) (size : ℕ) : Type 0 where
   pub room : lineNeed list ≤ length line
   pub read : r ≡ recordOf (drop at piece)
   pub sized : size ≡ sizeOf r
