@@ -4,4 +4,5 @@ pub mod Quick
 pub mod Messages
 pub mod Singles
 pub mod Datas
+pub mod Clears
 pub mod Says

@@ -189,16 +189,14 @@ fn refusal(ws: &[u64; 79], slots: usize, bytes: usize, time: i64, p: Packet, siz
     ensures { λ r. ⌜ r ≡ pushRefusal (now (ws .entry)) slots bytes time p size ⌝ }
 {
     let ok = crate::sound::sound(ws);
-    head::gate::refuse_push(
-        ok,
-        words::size(ws[1]),
-        slots,
-        bytes,
-        time,
-        words::whole(ws[0]),
-        p,
-        size,
-    )
+    let capacity = words::size(ws[1]);
+    let latest = words::whole(ws[0]);
+    if crate::clear::areas_clear(ok, capacity, slots, bytes, time, latest) {
+        if crate::clear::packet_clear(p, size) {
+            return 0;
+        }
+    }
+    head::gate::refuse_push(ok, capacity, slots, bytes, time, latest, p, size)
 }
 
 pub fn handle_data_packet(

@@ -197,14 +197,12 @@ fn refusal(ws: &[u64; 79], slots: usize, bytes: usize, time: i64) -> u32
     ensures { λ r. ⌜ r ≡ popRefusal (now (ws .entry)) slots bytes time ⌝ }
 {
     let ok = crate::sound::sound(ws);
-    head::gate::refuse_pop(
-        ok,
-        words::size(ws[1]),
-        slots,
-        bytes,
-        time,
-        words::whole(ws[0]),
-    )
+    let capacity = words::size(ws[1]);
+    let latest = words::whole(ws[0]);
+    if crate::clear::areas_clear(ok, capacity, slots, bytes, time, latest) {
+        return 0;
+    }
+    head::gate::refuse_pop(ok, capacity, slots, bytes, time, latest)
 }
 
 pub fn pop_next_message(

@@ -1,4 +1,4 @@
-use Rattle.inplace.proofs.Messages.{pops-in}
+use Rattle.inplace.proofs.Clears.{pop-clears}
 use Rattle.inplace.proofs.message.refusal.Statement.{statement}
 use Rattle.inplace.proofs.message.refusal.Tie as tie
 
@@ -6,10 +6,12 @@ pub refusal-spec : {M : Type 1} → statement M
 refusal-spec =
     tie.close
     (tie.spec
-    (λ c κs. search pops-in)
-    (λ c. search pops-in)
-    (λ c κs. search pops-in)
-    (λ c. search pops-in)
-    (λ c κs. search pops-in)
-    (λ c κs. search pops-in)
-    (λ c. search pops-in))
+    (λ c κs. search pop-clears)
+    (λ c. search pop-clears)
+    (λ c κs. search pop-clears)
+    (λ c. search pop-clears)
+    (λ c κs. search pop-clears)
+    (λ c κs. search pop-clears)
+    (λ c. search pop-clears)
+    (λ c κs. search pop-clears)
+    (λ c. search pop-clears))
