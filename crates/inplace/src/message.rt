@@ -118,15 +118,15 @@ fn release_time(ws: &[u64; 79], base: TimeBase, stamp: u32) -> i64
 }
 
 // The words that the release of one packet moves: the front, the last released time and the latest reading.
-fn put_single(ws: &mut [u64; 79], w: Window, released: i64, time: i64)
-    ensures { λ _. ⌜ now (ws .exit) ≡ putSingle (now (ws .entry)) w released time ⌝ }
+fn put_single(ws: &mut [u64; 79], w: Window, released: i64, reading: i64)
+    ensures { λ _. ⌜ now (ws .exit) ≡ putSingle (now (ws .entry)) w released reading ⌝ }
 {
     ws[2] = words::of_size(w.start);
     ws[3] = words::of_size(w.held);
     ws[4] = words::of_number(w.seqno0);
     ws[10] = 1;
     ws[11] = words::of_whole(released);
-    ws[0] = words::of_whole(time);
+    ws[0] = words::of_whole(reading);
 }
 
 // The usual pop, of a message of one packet: what it leaves alone is not even read.

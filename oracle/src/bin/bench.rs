@@ -299,6 +299,8 @@ struct Row {
 }
 
 const CAPACITY: usize = 8_192;
+/// A window little larger than what a stream's latency holds: a few packets over 1,000.
+const SMALLER: usize = 1_200;
 const TS: u32 = 1_316;
 /// The payloads come from here, as from a reader's buffer: 64 KB, 64 places.
 const SOURCE: usize = 65_536 + 1_456;
@@ -370,8 +372,10 @@ fn rows(zero: Instant) -> Vec<Row> {
     let lap = CAPACITY as u32 + 2_008;
     let end = lap + 16_800;
     let backlog = Settings { latency: 10_000, first: 0, capacity: CAPACITY };
-    let streams: [(&str, &str, u32, u32, u32, u32, u32); 9] = [
+    let streams: [(&str, &str, u32, u32, u32, u32, u32); 11] = [
         ("a", "clean stream, single-packet messages, 1,316 bytes", 10_000, 1, TS, 0, 0),
+        ("w", "the same in a window of 1,200", 10_000, 1, TS, 0, 0),
+        ("w16", "the same in a window of 1,200, 16 bytes", 10_000, 1, 16, 0, 0),
         ("a188", "the same, 188 bytes", 10_000, 1, 188, 0, 0),
         ("a16", "the same, 16 bytes", 10_000, 1, 16, 0, 0),
         ("a0", "the same, 1,316 bytes, no latency: each popped at once", 0, 1, TS, 0, 0),
@@ -386,7 +390,8 @@ fn rows(zero: Instant) -> Vec<Row> {
         let before = m.take();
         stream(&mut m, lap, end, packets, length, loss, acks);
         let timed = m.take();
-        let settings = Settings { latency, ..backlog };
+        let capacity = if name.starts_with('w') { SMALLER } else { CAPACITY };
+        let settings = Settings { latency, capacity, ..backlog };
         let units = (end - lap) as usize;
         rows.push(Row { name, what, unit: "packet", units, settings, before, timed, repeats: 31 });
     }
