@@ -108,7 +108,7 @@ pub fn put_payload(bytes: &[u8], s: usize, n: usize, out: &mut [u8], at: usize)
 {
     let a = 1456 * s;
     let e = a + n;
-    window::copy::put(out, at, &bytes[a..e]);
+    copy::put(out, at, &bytes[a..e]);
 }
 
 // Puts the payloads of the first `count` entries into the output, one after the other.
