@@ -11,7 +11,7 @@ use Rattle.text.specs.Decimal.{decimal}
 use Rattle.text.specs.Put.{putEnded, putOf}
 use Rattle.text.proofs.Numerals.{decimal-short}
 use Rattle.text.proofs.Puts.{put-cursor, put-then, puts, put-none, put-room}
-use Rattle.shapes.specs.Shapes.{Wrote}
+use Rattle.shapes.specs.Ready.{Wrote}
 use Rattle.counts.specs.Counts.{fresh}
 use Rattle.counts.specs.declared.Counters.{Counters}
 use Rattle.step.specs.declared.Answer.{Answer}
