@@ -6,7 +6,7 @@ use Prim.Native.Nat.{ℕ}
 use lib.ListN.{replicate}
 use lib.IntN.{pos}
 use Rattle.numbers.specs.Circular as circular
-use Rattle.numbers.specs.Whole as whole
+use Rattle.numbers.specs.Instants as instants
 use Rattle.numbers.specs.declared.instant.Moment.the-variants.{Unset, At}
 use Rattle.acks.specs.History.{writeAck, freshHistory, noneDue, isWorn, firstKept, leaving, nextAck, firstAfter, AckOutcome, appendOf, fullAckOf, ack2Of, lightAckOf, clearedOf}
 use Rattle.acks.specs.Rtt.{freshRtt, updated}
@@ -131,11 +131,11 @@ abbrev probed : Links
 probed = linkOf freshLinks (pos 1000) 32
 
 pair : linkOf probed (pos 1700) 33 ≡ record { gaps = replicate 1 700 ++ replicate 15 0; at = 1; count = 1; probe = Unset }
-unfolding linkOf pairOf sinceTime freshLinks whole.intervalOf whole.clamp
+unfolding linkOf pairOf sinceTime freshLinks instants.intervalOf instants.clamp
 pair = refl
 
 from-later : linkOf probed (pos 900) 33 .gaps ≡ replicate 16 0
-unfolding linkOf pairOf sinceTime freshLinks whole.intervalOf whole.clamp
+unfolding linkOf pairOf sinceTime freshLinks instants.intervalOf instants.clamp
 from-later = refl
 
 -- the first arrival only sets the time

@@ -11,7 +11,7 @@ use lib.IntN.{pos, _-ℤ_}
 use lib.ListN.{length, getD, set, length-set}
 use lib.Seq.{getD-set-same, getD-set-other}
 use Rattle.numbers.specs.Circular.{before, sum}
-use Rattle.numbers.specs.Whole.{intervalOf}
+use Rattle.numbers.specs.Instants.{intervalOf}
 use Rattle.numbers.proofs.Flags.{and-left, and-right, by-bool, by-test, by-order}
 use Rattle.numbers.proofs.Halves.{same, above--, below--}
 use Rattle.numbers.proofs.Signs.{clamp-in, clamp-high}

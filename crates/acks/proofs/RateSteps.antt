@@ -15,7 +15,7 @@ use lib.ListN.{getD, set, replicate}
 use lib.Signed.{ltZ, nonNeg}
 use mir.Syntax.{w32}
 use mir.Val.{Fits}
-use Rattle.numbers.specs.Whole.{clamp, intervalOf, isReading}
+use Rattle.numbers.specs.Instants.{clamp, intervalOf, isReading}
 use Rattle.numbers.specs.declared.instant.Moment.{Moment}
 use Rattle.numbers.specs.declared.instant.Moment.the-variants.{Unset, At}
 use Rattle.numbers.proofs.Flags.{by-test, by-order}

@@ -6,7 +6,7 @@ use lib.Dec.{eqb, ltb, leb}
 use lib.IntN.{ℤ, natAbs}
 use lib.ListN.{getD, set, replicate}
 use lib.Signed.{ltZ}
-use Rattle.numbers.specs.Whole.{isReading, intervalOf}
+use Rattle.numbers.specs.Instants.{isReading, intervalOf}
 use Rattle.numbers.specs.declared.instant.Moment.{Moment}
 use Rattle.numbers.specs.declared.instant.Moment.the-variants.{Unset, At}
 use Rattle.acks.specs.Median.{medianOf}

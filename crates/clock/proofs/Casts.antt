@@ -7,7 +7,7 @@ use native.Mathlib.Omega.{arith}
 use borrow.Author.Tests.{ltb-false}
 use lib.IntN.{ℤ, pos, negsuc, negℤ}
 use lib.Pow.{pow-pos}
-use Rattle.numbers.specs.Whole.{clamp}
+use Rattle.numbers.specs.Instants.{clamp}
 use Rattle.numbers.proofs.Halves.{above-neg, below-neg}
 use Rattle.numbers.proofs.Flags.{impossible, or-left, by-order}
 use Rattle.numbers.proofs.Signs.{clamp-low, clamp-high, clamp-in}

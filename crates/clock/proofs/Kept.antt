@@ -7,7 +7,7 @@ use borrow.Author.Tests.{le-leb, ltb-true}
 use lib.Dec.{ltb}
 use lib.IntN.{ℤ, pos, negsuc, natAbs}
 use lib.Signed.{ltZ, natAbs-le}
-use Rattle.numbers.specs.Whole.{isReading}
+use Rattle.numbers.specs.Instants.{isReading}
 use Rattle.numbers.specs.Circular.{difference}
 use Rattle.numbers.specs.declared.instant.Moment.{Moment}
 use Rattle.numbers.specs.declared.instant.Moment.the-variants.{Unset, At}

@@ -7,7 +7,7 @@ use borrow.Author.Tests.{lt-ltb, le-ltb}
 use lib.Dec.{ltb}
 use lib.IntN.{ℤ, pos, _-ℤ_}
 use lib.Signed.{ltZ}
-use Rattle.numbers.specs.Whole.{isReading}
+use Rattle.numbers.specs.Instants.{isReading}
 use Rattle.numbers.proofs.Flags.{by-bool, by-test}
 use Rattle.numbers.proofs.Halves.{apart, size, lt-false}
 use Rattle.numbers.proofs.Signs.{reading-size}

@@ -6,7 +6,7 @@ use native.Mathlib.Omega.{arith}
 use borrow.Author.Tests.{leb-true, le-leb}
 use lib.Dec.{leb}
 use lib.IntN.{ℤ, pos, negsuc, natAbs}
-use Rattle.numbers.specs.Whole.{isReading}
+use Rattle.numbers.specs.Instants.{isReading}
 use Rattle.numbers.proofs.Flags.{and-left, and-right}
 use Rattle.numbers.proofs.Signs.{reading-size}
 use Rattle.clock.specs.Base.{inReference}

@@ -4,7 +4,7 @@ use mathlib.Core.Bool.{false}
 use mathlib.Core.List.{map}
 use Rattle.numbers.specs.Circular as numbersCircular
 use Rattle.numbers.specs.Order as numbersOrder
-use Rattle.numbers.specs.Whole as numbersWhole
+use Rattle.numbers.specs.Instants as numbersInstants
 use Rattle.dlt.specs.Bytes as dltBytes
 use Rattle.dlt.specs.Header as dltHeader
 use Rattle.dlt.specs.Record as dltRecord
@@ -45,5 +45,5 @@ use Rattle.trace.specs.Trace.{outputOf}
 use Rattle.edges.specs.Table.{Row, areasFor, table, be}
 
 pub edges : map (λ (r : Row). outputOf false (areasFor (r .capacity)) (r .file)) table ≡ map (λ (r : Row). r .gives) table
-unfolding tallyTally.tallied tallyTally.tallyBytes numbersCircular.distance numbersCircular.equal numbersCircular.after numbersCircular.before numbersCircular.saturating numbersCircular.sum numbersCircular.successor numbersCircular.successors numbersCircular.wrap numbersCircular.signed numbersCircular.difference numbersOrder.order numbersWhole.clamp numbersWhole.intervalOf dltBytes.bigFrom dltBytes.big dltBytes.field dltBytes.timeAt dltHeader.isHeader dltHeader.headerOf dltRecord.leastSize dltRecord.dataOf dltRecord.fieldsOf dltRecord.recordOf textDecimal.digits textDecimal.decimal textDecimal.signedDecimal textPut.put textPut.putOf clockBase.freshBase clockBase.instantOf clockBase.stampOf clockBase.driftOf clockBase.shifted clockBase.moved clockBase.adjusted clockRanges.clockOk clockRelease.released clockRelease.releaseOf clockRoot.root clockSamples.noSamples clockSamples.distanceOf clockSamples.meanWith clockSamples.squaresWith clockSamples.sampled clockSamples.varianceOf clockSamples.deviationOf clockSamples.truncatedOf clockSync.freshClock clockSync.adjustedBy clockSync.judged clockSync.sampleTaken clockSync.synchronized acksHistory.writeAck acksHistory.freshHistory acksHistory.noneDue acksHistory.isWorn acksHistory.firstKept acksHistory.leaving acksHistory.nextAck acksHistory.firstAfter acksHistory.appendOf acksHistory.fullAckOf acksHistory.ack2Of acksHistory.lightAckOf acksHistory.clearedOf acksHistory.historyOk acksMedian.insert acksMedian.sort acksMedian.medianOf acksRates.sinceTime acksRates.windowOf acksRates.freshArrivals acksRates.freshLinks acksRates.arrivalOf acksRates.takeIn acksRates.keptOf acksRates.rateOf acksRates.speedKept acksRates.speedOf acksRates.pairOf acksRates.linkOf acksRates.linkRate acksRates.capacityOf acksRates.allUnder acksRates.arrivalsOk acksRates.linksOk acksRtt.freshRtt acksRtt.updated acksRtt.rttOk slotsRing.slotOf slotsWords.entryOf slotsWords.entryAt slotsWords.writeAt slotsWords.writeReport windowPush.withLost windowPush.appendNextOf windowPush.appendWithLossOf windowPush.recoveredOf windowPush.recoverOf windowPush.pushOf windowShow.shownOf windowWindow.firstGap windowpopPop.runFrom windowpopPop.messageOf windowpopPop.filled windowpopPop.isLate windowpopPop.walkFrom windowpopPop.dueOf windowpopPop.limitOf windowpopPop.discardFront windowpopPop.discarded windowpopPop.releasedOf windowpopPop.lateOf windowpopPop.frontOf windowpopPop.popOf windowreportDrop.giveUp windowreportDrop.sweep windowreportDrop.endIn windowreportDrop.dropOf windowreportReport.runPut windowreportReport.slotsTo windowreportReport.runsTo windowreportReport.listTo windowreportReport.reportOf headHead.headOk headHead.freshHead headHead.madeOf headRules.thenOf receiverAcking.roomyAck receiverAcking.dueAck receiverAcking.fullAckCallOf receiverAcking.heldAck2 receiverAcking.ack2CallOf receiverData.ackedOf receiverData.ratedOf receiverData.gotOf receiverData.takenOf receiverData.dataCallOf receiverLoss.reportedOf receiverLoss.reportCallOf receiverMessage.takenOf receiverMessage.popCallOf receiverRequest.dropCallOf receiverRequest.clearedOf receiverRequest.clearCallOf receiverRequest.roomCallOf receiverShow.placeCallOf receiverShow.shownCallOf receiverSync.syncOf receiverSync.clockCallOf shapesShapes.spaced shapesShapes.closed shapesShapes.lineOf linesLines.endBytes linesLines.badBytes traceTrace.linesOf traceTrace.outputOf be
+unfolding tallyTally.tallied tallyTally.tallyBytes numbersCircular.distance numbersCircular.equal numbersCircular.after numbersCircular.before numbersCircular.saturating numbersCircular.sum numbersCircular.successor numbersCircular.wrap numbersCircular.signed numbersCircular.difference numbersOrder.order numbersInstants.clamp numbersInstants.intervalOf dltBytes.bigFrom dltBytes.big dltBytes.field dltBytes.timeAt dltHeader.isHeader dltHeader.headerOf dltRecord.leastSize dltRecord.dataOf dltRecord.fieldsOf dltRecord.recordOf textDecimal.digits textDecimal.decimal textDecimal.signedDecimal textPut.put textPut.putOf clockBase.freshBase clockBase.instantOf clockBase.stampOf clockBase.driftOf clockBase.shifted clockBase.moved clockBase.adjusted clockRanges.clockOk clockRelease.released clockRelease.releaseOf clockRoot.root clockSamples.noSamples clockSamples.distanceOf clockSamples.meanWith clockSamples.squaresWith clockSamples.sampled clockSamples.varianceOf clockSamples.deviationOf clockSamples.truncatedOf clockSync.freshClock clockSync.adjustedBy clockSync.judged clockSync.sampleTaken clockSync.synchronized acksHistory.writeAck acksHistory.freshHistory acksHistory.noneDue acksHistory.isWorn acksHistory.firstKept acksHistory.leaving acksHistory.nextAck acksHistory.firstAfter acksHistory.appendOf acksHistory.fullAckOf acksHistory.ack2Of acksHistory.lightAckOf acksHistory.clearedOf acksHistory.historyOk acksMedian.insert acksMedian.sort acksMedian.medianOf acksRates.sinceTime acksRates.windowOf acksRates.freshArrivals acksRates.freshLinks acksRates.arrivalOf acksRates.takeIn acksRates.keptOf acksRates.rateOf acksRates.speedKept acksRates.speedOf acksRates.pairOf acksRates.linkOf acksRates.linkRate acksRates.capacityOf acksRates.allUnder acksRates.arrivalsOk acksRates.linksOk acksRtt.freshRtt acksRtt.updated acksRtt.rttOk slotsRing.slotOf slotsWords.entryOf slotsWords.entryAt slotsWords.writeAt slotsWords.writeReport windowPush.withLost windowPush.appendNextOf windowPush.appendWithLossOf windowPush.recoveredOf windowPush.recoverOf windowPush.pushOf windowShow.shownOf windowWindow.firstGap windowpopPop.runFrom windowpopPop.messageOf windowpopPop.filled windowpopPop.isLate windowpopPop.walkFrom windowpopPop.dueOf windowpopPop.limitOf windowpopPop.discardFront windowpopPop.discarded windowpopPop.releasedOf windowpopPop.lateOf windowpopPop.frontOf windowpopPop.popOf windowreportDrop.giveUp windowreportDrop.sweep windowreportDrop.endIn windowreportDrop.dropOf windowreportReport.runPut windowreportReport.slotsTo windowreportReport.runsTo windowreportReport.listTo windowreportReport.reportOf headHead.headOk headHead.freshHead headHead.madeOf headRules.thenOf receiverAcking.roomyAck receiverAcking.dueAck receiverAcking.fullAckCallOf receiverAcking.heldAck2 receiverAcking.ack2CallOf receiverData.ackedOf receiverData.ratedOf receiverData.gotOf receiverData.takenOf receiverData.dataCallOf receiverLoss.reportedOf receiverLoss.reportCallOf receiverMessage.takenOf receiverMessage.popCallOf receiverRequest.dropCallOf receiverRequest.clearedOf receiverRequest.clearCallOf receiverRequest.roomCallOf receiverShow.placeCallOf receiverShow.shownCallOf receiverSync.syncOf receiverSync.clockCallOf shapesShapes.spaced shapesShapes.closed shapesShapes.lineOf linesLines.endBytes linesLines.badBytes traceTrace.linesOf traceTrace.outputOf be
 edges = refl

@@ -10,7 +10,7 @@ use borrow.Author.Tests.{eq-eqb, ne-eqb, eqb-true, eqb-false, lt-ltb, le-ltb}
 use lib.Dec.{eqb, ltb}
 use lib.IntN.{ℤ}
 use lib.Signed.{ltZ}
-use Rattle.numbers.specs.Whole.{isReading}
+use Rattle.numbers.specs.Instants.{isReading}
 use Rattle.numbers.proofs.Flags.{by-order}
 use Rattle.head.specs.Rules.{Rule, thenOf, firstFrom, firstRefusal, judged, pushRules, popRules, timedRules, dropRules, showRules, clockRules, headRules}
 use Rattle.window.specs.declared.push.Packet.{Packet}

@@ -5,7 +5,7 @@ use mathlib.Core.List.{List}
 use Prim.Native.Nat.{ℕ, _≤_}
 use lib.IntN.{ℤ}
 use lib.Signed.{ltZ}
-use Rattle.numbers.specs.Whole.{isReading}
+use Rattle.numbers.specs.Instants.{isReading}
 use Rattle.clock.specs.Ranges.{clockOk}
 use Rattle.acks.specs.Rtt.{rttOk}
 use Rattle.acks.specs.Rates.{arrivalsOk, linksOk}

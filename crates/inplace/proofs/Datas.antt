@@ -14,7 +14,7 @@ use lib.ListN.{length, set}
 use Rattle.numbers.proofs.Flags.{by-bool}
 use Rattle.numbers.specs.declared.instant.Moment.{Moment}
 use Rattle.numbers.specs.declared.instant.Moment.the-variants.{Unset, At}
-use Rattle.numbers.specs.Whole.{isReading}
+use Rattle.numbers.specs.Instants.{isReading}
 use Rattle.acks.specs.Rates as rates
 use Rattle.acks.specs.Rates.{sinceTime, nextPlace, countAfter, arrivedAfter, arrivedFirst, arrivalOf, withProbe, paired, pairedSince, pairOf, linkOf}
 use Rattle.acks.specs.History.{lightAckOf}

@@ -12,7 +12,7 @@ use lib.Dec.{ltb, leb}
 use lib.IntN.{ℤ, pos}
 use Rattle.numbers.proofs.Flags.{impossible}
 use Rattle.numbers.proofs.Signs.{signed-low}
-use Rattle.numbers.specs.Whole.{isReading}
+use Rattle.numbers.specs.Instants.{isReading}
 use Rattle.clock.specs.Base.{inReference}
 use Rattle.clock.specs.Ranges.{lastOk, clockOk}
 use Rattle.acks.specs.Rtt.{rttOk}

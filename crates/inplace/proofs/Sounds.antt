@@ -27,7 +27,7 @@ use Rattle.window.specs.declared.Window.{Window}
 use Rattle.head.specs.declared.state.Head.{Head}
 use Rattle.head.specs.Head.{headOk, freshHead}
 use Rattle.window.specs.Window.{windowOk}
-use Rattle.numbers.specs.Whole.{isReading}
+use Rattle.numbers.specs.Instants.{isReading}
 use Rattle.packing.specs.Words.{numberOf, numberFormed, wholeOf, momentOf}
 use Rattle.packing.specs.Packed.{at, sixteen, sixteenOf, numbersFormed, firstFormed, ratesFormed, lastFormed, formed, windowOf, clockOf, rttOf, arrivalsOf, linksOf, historyOf, headOf, nowhere, unpackOf}
 use Rattle.inplace.specs.Sound.{bitsTo, raisedTo, allSmall}

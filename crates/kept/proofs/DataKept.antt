@@ -8,7 +8,7 @@ use borrow.Author.Tests.{eqb-true, leb-false, ltb-false, not-false}
 use lib.Dec.{eqb, lit<}
 use lib.IntN.{ℤ, pos, natAbs}
 use lib.ListN.{length}
-use Rattle.numbers.specs.Whole.{isReading}
+use Rattle.numbers.specs.Instants.{isReading}
 use Rattle.numbers.proofs.Flags.{by-test}
 use Rattle.clock.proofs.Kept.{fresh-ok}
 use Rattle.acks.proofs.RttKept.{fresh-rtt-ok}

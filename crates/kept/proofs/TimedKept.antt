@@ -7,7 +7,7 @@ use borrow.Author.Tests.{eqb-true, not-false}
 use lib.Dec.{eqb, lit<}
 use lib.IntN.{ℤ, natAbs}
 use lib.ListN.{length}
-use Rattle.numbers.specs.Whole.{isReading}
+use Rattle.numbers.specs.Instants.{isReading}
 use Rattle.numbers.proofs.Flags.{by-test}
 use Rattle.clock.specs.Sync.{synchronized}
 use Rattle.clock.specs.Ranges.{clockOk}

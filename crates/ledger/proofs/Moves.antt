@@ -10,7 +10,7 @@ use lib.IntN.{ℤ, natAbs}
 use lib.ListN.{length, set, replicate}
 use Rattle.numbers.specs.Circular.{distance, before, sum}
 use Rattle.numbers.specs.Order.{order}
-use Rattle.numbers.specs.Whole.{isReading}
+use Rattle.numbers.specs.Instants.{isReading}
 use Rattle.numbers.specs.declared.seq.Order.{Order}
 use Rattle.numbers.specs.declared.seq.Order.the-variants.{Before, Equal, After}
 use Rattle.numbers.proofs.Flags.{by-test}

@@ -28,7 +28,8 @@ use Rattle.receiver.specs.declared.sync.ClockAnswer.{ClockAnswer}
 use Rattle.receiver.specs.declared.sync.ClockAnswer.the-variants as clocks
 use Rattle.receiver.specs.declared.acking.FullAckAnswer.{FullAckAnswer}
 use Rattle.receiver.specs.declared.acking.RttAnswer.{RttAnswer}
-use Rattle.shapes.specs.Shapes.{closed, lineOf, oneIf}
+use Rattle.shapes.specs.Shapes.{closed, lineOf}
+use Rattle.shapes.specs.Inner.{oneIf}
 use Rattle.lines.specs.Lines.{letters, lineBytes, endBytes, badBytes}
 
 module _ (out : List ℕ) (at n : ℕ) where

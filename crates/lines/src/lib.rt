@@ -5,7 +5,7 @@ ghost use mathlib.Core.List.{[]};
 ghost use Prim.Native.Nat.{_+_, _*_, _≤_, min};
 ghost use lib.ListN.{length};
 ghost use Rattle.receiver.specs.Paper.{dataLine, messageLine, lossLine, fullAckLine, rttLine, dropLine, clockLine, clearLine, refusedBy};
-ghost use Rattle.shapes.specs.Shapes.{Wrote};
+ghost use Rattle.shapes.specs.Ready.{Wrote};
 ghost use Rattle.lines.specs.Lines.{lineBytes, endBytes, badBytes};
 use receiver::acking::FullAckAnswer;
 use receiver::acking::RttAnswer;

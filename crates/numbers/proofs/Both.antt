@@ -5,9 +5,9 @@ use Prim.Native.Nat.{ℕ, _+_, _*_, _<_, _≤_, _^_}
 use native.Mathlib.Omega.{arith}
 use lib.IntN.{ℤ}
 use lib.Signed.{mag}
-use Rattle.numbers.specs.Circular.{distance, equal, after, before, saturating, sum, successors, signed, difference, wrap}
+use Rattle.numbers.specs.Circular.{distance, equal, after, before, saturating, sum, signed, difference, wrap}
 use Rattle.numbers.specs.Order.{OneOf}
-use Rattle.numbers.proofs.Circle.{distance-zero, one-order, tie, mirror, run, saturating-sum, sum-saturating}
+use Rattle.numbers.proofs.Circle.{distance-zero, one-order, tie, mirror, saturating-sum, sum-saturating}
 use Rattle.numbers.proofs.Places.{place-turns, place-distance, place-after, place-one}
 use Rattle.numbers.proofs.Signs.{difference-range, signed-congruent, signed-only}
 
@@ -23,9 +23,6 @@ seq-tie a b = tie 31 a b (omega arith)
 
 pub seq-mirror : (a b : ℕ) → (distance 31 a b ≡ 2 ^ 30 → ⊥) → after 31 a b ≡ before 31 b a
 seq-mirror a b = mirror 31 a b (omega arith)
-
-pub seq-run : (n : ℕ) {a : ℕ} → a < 2 ^ 31 → successors 31 n a ≡ sum 31 a n
-seq-run = run 31
 
 pub seq-saturating-sum : (b : ℕ) {n : ℕ} → n < 2 ^ 30 → saturating 31 (sum 31 b n) b ≡ n
 seq-saturating-sum b = saturating-sum 31 b (omega arith)

@@ -12,7 +12,7 @@ use Rattle.numbers.proofs.Flags.{and-left, and-right, by-order, and-fal
 use Rattle.numbers.specs.Order.{OneOf, first, second, third, order}
 use Rattle.numbers.specs.declared.seq.Order.{Order}
 use Rattle.numbers.specs.declared.seq.Order.the-variants.{Before, Equal, After}
-use Rattle.numbers.specs.Circular.{distance, equal, after, before, saturating, sum, successor, successors}
+use Rattle.numbers.specs.Circular.{distance, equal, after, before, saturating, sum}
 
 -- b, then n, then what b lacks of a whole turn: n is left
 back : (m b n : ℕ) → 0 < m → (b + n + (m - b % m)) % m ≡ n % m
@@ -174,14 +174,6 @@ unfolding sum
 sum-sum w a m n =
     let e : a + m + n ≡ a + (m + n) = omega arith in
     mod-add-mod (a + m) (2 ^ w) n ∙ ap (λ (x : ℕ). x % 2 ^ w) e
-
--- n successors of a are the sum of a and n
-pub run : (w n : ℕ) {a : ℕ} → a < 2 ^ w → successors w n a ≡ sum w a n
-unfolding successors successor
-run w zero h = sym (sum-zero w h)
-run w (suc n) {a} h =
-    let e : n + 1 ≡ suc n = omega arith in
-    rw (run w n h) (sum-sum w a n 1 ∙ ap (sum w a) e)
 
 -- n past b lies at n
 pub distance-sum : (w b : ℕ) {n : ℕ} → n < 2 ^ w → distance w (sum w b n) b ≡ n

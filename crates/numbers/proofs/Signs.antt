@@ -10,7 +10,7 @@ use lib.IntN.{ℤ, pos, negsuc, natAbs, _-ℤ_}
 use mir.Syntax.{w32, w64}
 use mir.Val.{SFits}
 use mir.Facts.{sfits-widen}
-use Rattle.numbers.specs.Whole.{least, most, clamp, isReading}
+use Rattle.numbers.specs.Instants.{least, most, clamp, isReading}
 use Rattle.numbers.specs.Circular.{distance, signed, difference, wrap}
 use Rattle.numbers.proofs.Halves.{above, below, apart, same, above--, below--, halves-lt, halves-not-lt}
 use Rattle.numbers.proofs.Flags.{by-order}

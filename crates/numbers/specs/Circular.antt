@@ -1,7 +1,7 @@
 -- Circular numbers of w bits: 01, "Numbers". Sequence numbers have 31 bits and stamps 32; each definition stands once, over w.
 -- A number of 2^w or more is read mod 2^w.
 use mathlib.Core.Bool.{Bool, _&&_, _||_, not, cond}
-use Prim.Native.Nat.{ℕ, zero, suc, _+_, _-_, _%_, _^_}
+use Prim.Native.Nat.{ℕ, _+_, _-_, _%_, _^_}
 use lib.Dec.{eqb, ltb}
 use lib.IntN.{ℤ, pos, negsuc, _-ℤ_}
 
@@ -31,11 +31,6 @@ sum w a n = (a + n) % 2 ^ w
 
 unfoldable pub successor : ℕ → ℕ → ℕ
 successor w a = sum w a 1
-
--- n successors, one after the other
-unfoldable pub successors : ℕ → ℕ → ℕ → ℕ
-successors w zero a = a
-successors w (suc n) a = successor w (successors w n a)
 
 -- z mod 2^w, for a number of either sign
 unfoldable pub wrap : ℕ → ℤ → ℕ

@@ -1,4 +1,4 @@
 -- The definitions of the numbers, laid out as 01, "Numbers".
 pub mod Circular
 pub mod Order
-pub mod Whole
+pub mod Instants

@@ -2,7 +2,7 @@
 ghost use mathlib.Core.Path.{_≡_};
 ghost use lib.IntN.{natAbs};
 ghost use lib.Signed.{mag};
-ghost use Rattle.numbers.specs.Whole.{clamp, intervalOf, isReading};
+ghost use Rattle.numbers.specs.Instants.{clamp, intervalOf, isReading};
 
 // A time that may be unset.
 pub enum Moment {

@@ -10,7 +10,7 @@ use lib.Dec.{eqb}
 use lib.IntN.{ℤ, natAbs}
 use lib.ListN.{length}
 use lib.Signed.{ltZ}
-use Rattle.numbers.specs.Whole.{isReading}
+use Rattle.numbers.specs.Instants.{isReading}
 use Rattle.acks.specs.History.{ack2Of, fullAckOf, lightAckOf}
 use Rattle.acks.specs.declared.history.History.{History}
 use Rattle.acks.specs.declared.history.AckAnswer.{AckAnswer}

@@ -9,7 +9,7 @@ use denote.Enum.Declared.{tagOf}
 use lib.IntN.{ℤ, natAbs}
 use lib.ListN.{length}
 use types.Run.{OneOf, miss}
-use Rattle.numbers.specs.Whole.{isReading}
+use Rattle.numbers.specs.Instants.{isReading}
 use Rattle.numbers.proofs.Signs.{reading-size}
 use Rattle.acks.specs.Rates.{arrivalOf, linkOf, arrivalsOk, linksOk}
 use Rattle.acks.specs.History.{lightAckOf}

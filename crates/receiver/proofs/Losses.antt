@@ -12,7 +12,7 @@ use types.Run.{OneOf, miss}
 use lib.Dec.{ltb}
 use lib.IntN.{ℤ, pos, negsuc, natAbs}
 use lib.ListN.{length}
-use Rattle.numbers.specs.Whole.{isReading}
+use Rattle.numbers.specs.Instants.{isReading}
 use Rattle.numbers.proofs.Flags.{and-left}
 use Rattle.acks.specs.Rtt.{rttOk}
 use Rattle.acks.specs.declared.rtt.Rtt.{Rtt}

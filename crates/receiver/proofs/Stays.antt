@@ -7,7 +7,7 @@ use lib.Dec.{eqb, ltb}
 use lib.IntN.{ℤ, natAbs}
 use lib.ListN.{length}
 use lib.Signed.{ltZ}
-use Rattle.numbers.specs.Whole.{intervalOf}
+use Rattle.numbers.specs.Instants.{intervalOf}
 use Rattle.clock.specs.Release.{releaseOf}
 use Rattle.clock.specs.declared.time.SynchronizedRemoteClock.{SynchronizedRemoteClock}
 use Rattle.slots.specs.Words.{isReceived, stampIn}
@@ -81,7 +81,7 @@ module _ (h : Head) (ws bs out : List ℕ) (now : ℤ) where
       (record {
         window = pop.discardFront w ws (walk .count);
         clock = k;
-        answer = pops.Late (w .seqno0) (numberIn w (walk .count)) (intervalOf (pop.dueOf (k .base) latency (walk .first)) now);
+        answer = pops.Late (w .seqno0) (numberIn w (walk .count)) (intervalOf (pop.dueOf (k .base) latency (walk .«first_stamp»)) now);
       })
       (λ e. absurd (e refl))
       (λ e. absurd (e refl))

@@ -2,7 +2,7 @@
 ghost use mathlib.Core.Path.{_≡_};
 ghost use mathlib.Core.Bool.{true};
 ghost use lib.IntN.{natAbs};
-ghost use Rattle.numbers.specs.Whole.{isReading};
+ghost use Rattle.numbers.specs.Instants.{isReading};
 ghost use Rattle.acks.specs.Rates.{arrivalsOk, linksOk};
 ghost use Rattle.window.specs.Ready.{Good, Bytes, PacketRight};
 ghost use Rattle.window.specs.Push.{pushEnded, pushOf};

@@ -6,7 +6,9 @@ ghost use lib.ListN.{length};
 ghost use Rattle.text.specs.Decimal.{decimal};
 ghost use Rattle.text.specs.Put.{putEnded, putOf};
 ghost use Rattle.receiver.specs.Paper.{whole as Paper·whole, plain};
-ghost use Rattle.shapes.specs.Shapes.{spaced, closed, Wrote, oneIf};
+ghost use Rattle.shapes.specs.Shapes.{spaced, closed};
+ghost use Rattle.shapes.specs.Inner.{oneIf};
+ghost use Rattle.shapes.specs.Ready.{Wrote};
 
 pub fn flag(b: bool) -> u64
     ensures { λ r. ⌜ r ≡ oneIf b ⌝ }

@@ -1,2 +1,2 @@
 -- Laws of the step function.
-pub mod Turns
+pub mod Left

@@ -11,7 +11,7 @@ use Rattle.text.specs.Decimal.{decimal}
 use Rattle.text.specs.Put.{putEnded, putOf}
 use Rattle.text.proofs.Numerals.{decimal-short}
 use Rattle.text.proofs.Puts.{put-cursor, put-then, puts, put-none, put-room}
-use Rattle.shapes.specs.Shapes.{Wrote}
+use Rattle.shapes.specs.Ready.{Wrote}
 use Rattle.counts.specs.Counts.{fresh}
 use Rattle.counts.specs.declared.Counters.{Counters}
 use Rattle.step.specs.declared.Answer.{Answer}
@@ -82,44 +82,44 @@ pub after-byte : (out : List ℕ) (at b : ℕ) {p : ℕ} {o₁ : List ℕ} → p
 after-byte out at b e = omega (arith, put-cursor out at (b ∷ []) e)
 
 -- put_packets, put_losses, put_others
-two-pieces : (out : List ℕ) (at : ℕ) (a b : List ℕ) (m n : ℕ) {p q : ℕ} {o₁ o₂ : List ℕ}
+wrote-then : (out : List ℕ) (at : ℕ) (a b : List ℕ) (m n : ℕ) {p q : ℕ} {o₁ o₂ : List ℕ}
     → Wrote out at a m p o₁ → Wrote o₁ p b n q o₂ → at + m ≤ length out → Wrote out at (a ++ b) (m + n) q o₂
-two-pieces out at a b m n e f h =
+wrote-then out at a b m n e f h =
     let k = e .within in
     let l = f .within in
     record { bytes = two-puts out at a b (e .bytes) (f .bytes) (omega arith); within = omega arith }
 
 module _ (out : List ℕ) (at : ℕ) (c : Counters) where
-  pub packets-piece : {p q s r : ℕ} {o₁ o₂ o₃ o₄ : List ℕ} → at + 168 ≤ length out → Wrote out at (named (bytes "rx_data") (c .«rx_data»)) 42 p o₁ → Wrote o₁ p (named (bytes "rx_bytes") (c .«rx_bytes»)) 42 q o₂
+  pub packets-wrote : {p q s r : ℕ} {o₁ o₂ o₃ o₄ : List ℕ} → at + 168 ≤ length out → Wrote out at (named (bytes "rx_data") (c .«rx_data»)) 42 p o₁ → Wrote o₁ p (named (bytes "rx_bytes") (c .«rx_bytes»)) 42 q o₂
       → Wrote o₂ q (named (bytes "rx_unique_data") (c .«rx_unique_data»)) 42 s o₃ → Wrote o₃ s (named (bytes "rx_unique_bytes") (c .«rx_unique_bytes»)) 42 r o₄ → Wrote out at (packetBytes c) 168 r o₄
   unfolding packetBytes
-  packets-piece room e f g h = two-pieces out at _ _ 126 42 (two-pieces out at _ _ 84 42 (two-pieces out at _ _ 42 42 e f (omega arith)) g (omega arith)) h (omega arith)
+  packets-wrote room e f g h = wrote-then out at _ _ 126 42 (wrote-then out at _ _ 84 42 (wrote-then out at _ _ 42 42 e f (omega arith)) g (omega arith)) h (omega arith)
 
-  pub losses-piece : {p q r : ℕ} {o₁ o₂ o₃ : List ℕ} → at + 126 ≤ length out → Wrote out at (named (bytes "rx_retransmit_data") (c .«rx_retransmit_data»)) 42 p o₁
+  pub losses-wrote : {p q r : ℕ} {o₁ o₂ o₃ : List ℕ} → at + 126 ≤ length out → Wrote out at (named (bytes "rx_retransmit_data") (c .«rx_retransmit_data»)) 42 p o₁
       → Wrote o₁ p (named (bytes "rx_dropped_data") (c .«rx_dropped_data»)) 42 q o₂ → Wrote o₂ q (named (bytes "rx_dropped_bytes") (c .«rx_dropped_bytes»)) 42 r o₃ → Wrote out at (lossBytes c) 126 r o₃
   unfolding lossBytes
-  losses-piece room e f g = two-pieces out at _ _ 84 42 (two-pieces out at _ _ 42 42 e f (omega arith)) g (omega arith)
+  losses-wrote room e f g = wrote-then out at _ _ 84 42 (wrote-then out at _ _ 42 42 e f (omega arith)) g (omega arith)
 
-  pub others-piece : {p q r : ℕ} {o₁ o₂ o₃ : List ℕ} → at + 126 ≤ length out → Wrote out at (named (bytes "rx_ack2") (c .«rx_ack2»)) 42 p o₁
+  pub others-wrote : {p q r : ℕ} {o₁ o₂ o₃ : List ℕ} → at + 126 ≤ length out → Wrote out at (named (bytes "rx_ack2") (c .«rx_ack2»)) 42 p o₁
       → Wrote o₁ p (named (bytes "rx_ack2_errors") (c .«rx_ack2_errors»)) 42 q o₂ → Wrote o₂ q (named (bytes "rx_clock_adjustments") (c .«rx_clock_adjustments»)) 42 r o₃ → Wrote out at (otherBytes c) 126 r o₃
   unfolding otherBytes
-  others-piece room e f g = two-pieces out at _ _ 84 42 (two-pieces out at _ _ 42 42 e f (omega arith)) g (omega arith)
+  others-wrote room e f g = wrote-then out at _ _ 84 42 (wrote-then out at _ _ 42 42 e f (omega arith)) g (omega arith)
 
 -- put_counters, line
-piece-of : (out : List ℕ) (at : ℕ) (bs : List ℕ) (m : ℕ) {p : ℕ} {o₁ : List ℕ} → putEnded p o₁ ≡ putOf out at bs → length bs ≤ m → Wrote out at bs m p o₁
-piece-of out at bs m e h = record { bytes = e; within = let k = put-cursor out at bs e in omega arith }
+wrote-of : (out : List ℕ) (at : ℕ) (bs : List ℕ) (m : ℕ) {p : ℕ} {o₁ : List ℕ} → putEnded p o₁ ≡ putOf out at bs → length bs ≤ m → Wrote out at bs m p o₁
+wrote-of out at bs m e h = record { bytes = e; within = let k = put-cursor out at bs e in omega arith }
 
 module _ (out : List ℕ) (at : ℕ) (c : Counters) where
-  pub all-piece : {p q r : ℕ} {o₁ o₂ o₃ : List ℕ} → at + 420 ≤ length out
+  pub all-wrote : {p q r : ℕ} {o₁ o₂ o₃ : List ℕ} → at + 420 ≤ length out
       → Wrote out at (packetBytes c) 168 p o₁ → Wrote o₁ p (lossBytes c) 126 q o₂ → Wrote o₂ q (otherBytes c) 126 r o₃ → Wrote out at (allBytes c) 420 r o₃
   unfolding allBytes
-  all-piece room e f g = two-pieces out at _ _ 294 126 (two-pieces out at _ _ 168 126 e f (omega arith)) g (omega arith)
+  all-wrote room e f g = wrote-then out at _ _ 294 126 (wrote-then out at _ _ 168 126 e f (omega arith)) g (omega arith)
 
-  pub counters-piece : {p q r : ℕ} {o₁ o₂ o₃ : List ℕ} → at + 429 ≤ length out → Wrote out at (bytes "counters") 8 p o₁
+  pub counters-wrote : {p q r : ℕ} {o₁ o₂ o₃ : List ℕ} → at + 429 ≤ length out → Wrote out at (bytes "counters") 8 p o₁
       → Wrote o₁ p (allBytes c) 420 q o₂ → putEnded r o₃ ≡ putOf o₂ q (10 ∷ []) → Wrote out at (countersBytes c) 429 r o₃
   unfolding countersBytes
-  counters-piece room e f g =
-      two-pieces out at _ _ 428 1 (two-pieces out at _ _ 8 420 e f (omega arith)) (piece-of _ _ (10 ∷ []) 1 g (omega arith)) (omega arith)
+  counters-wrote room e f g =
+      wrote-then out at _ _ 428 1 (wrote-then out at _ _ 8 420 e f (omega arith)) (wrote-of _ _ (10 ∷ []) 1 g (omega arith)) (omega arith)
 
 module _ (out : List ℕ) (at : ℕ) (t : Tally) where
   pub line-asked : {r : ℕ} {o₁ : List ℕ} → t .asked ≡ true → Wrote out at (countersBytes (t .counters)) 429 r o₁ → Wrote out at (tallyBytes t) 429 r o₁
@@ -128,10 +128,10 @@ module _ (out : List ℕ) (at : ℕ) (t : Tally) where
 
   pub line-not : t .asked ≡ false → Wrote out at (tallyBytes t) 429 at out
   unfolding tallyBytes
-  line-not h = rw h (piece-of out at [] 429 (puts out at [] (omega arith) (put-none out at)) (omega arith))
+  line-not h = rw h (wrote-of out at [] 429 (puts out at [] (omega arith) (put-none out at)) (omega arith))
 
 pub ruleset tallies = (fresh-is, counted-case, after-asked, after-not, needs)
 
 pub ruleset names = (name-room, equals-room, count-room, named-bytes, named-within, after-byte, needs)
 
-pub ruleset rows = (packets-piece, losses-piece, others-piece, all-piece, counters-piece, line-asked, line-not, needs)
+pub ruleset rows = (packets-wrote, losses-wrote, others-wrote, all-wrote, counters-wrote, line-asked, line-not, needs)

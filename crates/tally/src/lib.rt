@@ -2,7 +2,7 @@
 ghost use mathlib.Core.Path.{_≡_};
 ghost use Prim.Native.Nat.{_+_, _≤_};
 ghost use lib.ListN.{length};
-ghost use Rattle.shapes.specs.Shapes.{Wrote};
+ghost use Rattle.shapes.specs.Ready.{Wrote};
 ghost use Rattle.tally.specs.Tally.{freshTally, countedOf, tallied, named, packetBytes, lossBytes, otherBytes, allBytes, countersBytes, tallyBytes};
 use counts::Counters;
 use counts::after::after_ack2;

@@ -10,10 +10,10 @@ use borrow.Author.Needs.{needs}
 use lib.Dec.{leb·zero}
 use lib.IntN.{ℤ, pos, negsuc, natAbs}
 use lib.Signed.{leZ}
-use lib.ListN.{length, getD, take, drop, set, length-set, length-drop, drop-of-length-le}
+use lib.ListN.{length, take, drop, set, length-set, length-drop, drop-of-length-le}
 use mir.Syntax.{w8, w64}
 use mir.Val.{Fits}
-use lib.Seq.{paste, paste-zero, paste-suc, take-length, take-all, set-split, drop-cons, getD-set-same, drop-set-lt, append-snoc}
+use lib.Seq.{paste, take-length, take-all, set-split, drop-cons, getD-set-same, drop-set-lt, append-snoc}
 use Rattle.numbers.proofs.Flags.{impossible}
 use Rattle.text.specs.Decimal.{decimal, signedDecimal}
 use Rattle.text.specs.Put.{put, putEnded, putOf}
@@ -28,25 +28,11 @@ byte-put out at b h =
     (set-split out at b h ∙ rw (← add-one at) (sym (append-assoc (take at out) (b ∷ []) (drop (at + 1) out))))
 
 -- put_bytes
-pub copy-start : (out : List ℕ) (at : ℕ) (text : List ℕ) → out ≡ paste out at text 0
-copy-start out at text = paste-zero out at text
-
-pub copy-again : (out₀ : List ℕ) (at : ℕ) (text : List ℕ) (i : ℕ) {out : List ℕ}
-    → out ≡ paste out₀ at text i → i < length text → at + length text ≤ length out₀
-    → set out (at + i) (getD text i 0) ≡ paste out₀ at text (i + 1)
-copy-again out₀ at text i a h k = rw (a, add-one i) (paste-suc out₀ at text i 0 (omega arith) h)
-
-pub copy-long : (out₀ out : List ℕ) (j x : ℕ) → length out ≡ length out₀ → length (set out j x) ≡ length out₀
-copy-long out₀ out j x e = length-set out j x ∙ e
-
-pub copy-done : (out₀ : List ℕ) (at : ℕ) (text : List ℕ) (i : ℕ) {out : List ℕ}
-    → out ≡ paste out₀ at text i → i ≤ length text → length text ≤ i
-    → putEnded (at + i) out ≡ putOf out₀ at text
+pub bytes-put : (out : List ℕ) (at : ℕ) (text : List ℕ) {out₁ : List ℕ} → out₁ ≡ paste out at text (length text) → putEnded (at + length text) out₁ ≡ putOf out at text
 unfolding put
-copy-done out₀ at text i a h k =
-    let e : i ≡ length text = omega arith in
-    puts out₀ at text (ap (λ (n : ℕ). at + n) e)
-    (a ∙ ap (paste out₀ at text) e ∙ ap (λ (l : List ℕ). take at out₀ ++ l ++ drop (at + length text) out₀) (take-length text))
+bytes-put out at text e =
+    puts out at text refl
+    (e ∙ ap (λ (l : List ℕ). take at out ++ l ++ drop (at + length text) out) (take-length text))
 
 -- spell: what stands at the end of the area, and the digits that are left
 drop-set-here : (l : List ℕ) (j x : ℕ) → j < length l → drop j (set l j x) ≡ x ∷ drop (j + 1) l
@@ -123,8 +109,8 @@ signed-below out at (negsuc m) {r = r} {out₁ = out₁} size p h q room e f =
 pub sign-room : (out : List ℕ) (at b : ℕ) {r : ℕ} {out₁ : List ℕ} → putEnded r out₁ ≡ putOf out at (b ∷ []) → at + 21 ≤ length out → r + 20 ≤ length out₁
 sign-room out at b e h = put-room out at (b ∷ []) 20 e h
 
-pub ruleset spelling = (spell-long, spell-start, spell-again, spell-done, decimal-short, spell-some, spell-less, spell-index, digit-fits, digit-wide, quotient-less, copy-long, needs)
+pub ruleset spelling = (spell-long, spell-start, spell-again, spell-done, decimal-short, spell-some, spell-less, spell-index, digit-fits, digit-wide, quotient-less, needs)
 
 pub ruleset lines = (decimal-put, signed-above, signed-below, sign-room, needs)
 
-pub ruleset copies = (byte-put, copy-start, copy-again, copy-long, copy-done, needs)
+pub ruleset copies = (byte-put, bytes-put, needs)

@@ -19,12 +19,8 @@ pub fn put_bytes(out: &mut [u8], at: usize, text: &[u8]) -> usize
     requires { ⌜ at + length (now text) ≤ length (now out) ⌝ }
     ensures { λ r. ⌜ putEnded r (now (out .exit)) ≡ putOf (now (out .entry)) at (now (text .entry)) ⌝ }
 {
-    let mut i = 0;
-    while i < text.len() {
-        out[at + i] = text[i];
-        i += 1;
-    }
-    at + i
+    copy::put(out, at, text);
+    at + text.len()
 }
 
 // The digits of n at the end of an area that holds any u64; answers where they start.

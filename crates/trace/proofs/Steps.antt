@@ -23,7 +23,7 @@ use Rattle.dlt.specs.declared.header.HeaderRead.{HeaderRead}
 use Rattle.dlt.specs.declared.header.HeaderRead.the-variants as headers
 use Rattle.dlt.specs.declared.record.RecordRead.{RecordRead}
 use Rattle.dlt.specs.declared.record.RecordRead.the-variants as records
-use Rattle.shapes.specs.Shapes.{Wrote}
+use Rattle.shapes.specs.Ready.{Wrote}
 use Rattle.tally.specs.Tally.{freshTally, tallied, tallyBytes}
 use Rattle.tally.specs.declared.Tally.{Tally}
 use Rattle.text.specs.Put.{Put, putEnded, putOf}
@@ -39,7 +39,7 @@ use Rattle.trace.specs.Trace.{Areas, callIn, lengthIn, payloadIn}
 use Rattle.trace.specs.Turn.{noHead, begunAs, begunBy, beginOf, isShort, lineNeed, areasOf, TurnOutcome, turnOutcome, TurnLeft, turnLeft, turned, endsWith, endsBy, advances, turnBy, turnOf}
 use Rattle.trace.specs.declared.Turned.{Turned}
 use Rattle.trace.specs.declared.Status.{Status}
-use Rattle.trace.specs.RecordHere.{RecordHere}
+use Rattle.trace.specs.Ready.{RecordHere}
 use Rattle.trace.specs.declared.Status.the-variants as status
 use Rattle.trace.specs.declared.Trace.{Trace}
 use Rattle.trace.specs.declared.Begun.{Begun}

@@ -12,7 +12,7 @@ ghost use Rattle.lines.specs.Lines.{lineBytes};
 ghost use Rattle.step.specs.Step as steps;
 ghost use Rattle.trace.specs.Trace.{callIn, lengthIn, payloadIn};
 ghost use Rattle.trace.specs.Turn.{noHead, begunAs, begunBy, beginOf, areasOf, turnLeft, turned, isShort, lineNeed, endsWith, endsBy, advances, turnBy, turnOf};
-ghost use Rattle.trace.specs.RecordHere.{RecordHere};
+ghost use Rattle.trace.specs.Ready.{RecordHere};
 ghost use Rattle.trace.specs.declared.Opened.the-variants as opened;
 use dlt::header::HeaderRead;
 use dlt::record::RecordRead;

@@ -89,7 +89,7 @@ fn put_packet(words: &mut [u64], bytes: &mut [u8], s: usize, p: Packet, payload:
             stamp: p.stamp,
         },
     );
-    crate::copy::put(bytes, 1456 * s, payload);
+    copy::put(bytes, 1456 * s, payload);
 }
 
 // A push at the next expected number.

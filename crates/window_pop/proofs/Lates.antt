@@ -104,11 +104,11 @@ module _ (base : TimeBase) (limit : ℤ) (e : Entry) {t u : Bool} {l : ℤ} (a :
 
 -- walk_past
 module _ (k : Walk) (i : ℕ) (e : Entry) {t : Bool} (a : t ≡ isReceived e) (f : t ≡ true) where
-  pub past-first : {stamp : ℕ} → k .count ≡ 0 → stamp ≡ stampIn e → _≡_ {A = Walk} (record { count = i + 1; first = stamp }) (walkPast k i e)
+  pub past-first : {stamp : ℕ} → k .count ≡ 0 → stamp ≡ stampIn e → _≡_ {A = Walk} (record { count = i + 1; «first_stamp» = stamp }) (walkPast k i e)
   unfolding walkPast
   past-first h b = rw (← a, f, eq-eqb (k .count) 0 h, ← b)
 
-  pub past-later : (k .count ≡ 0 → ⊥) → _≡_ {A = Walk} (record { count = i + 1; first = k .first }) (walkPast k i e)
+  pub past-later : (k .count ≡ 0 → ⊥) → _≡_ {A = Walk} (record { count = i + 1; «first_stamp» = k .«first_stamp» }) (walkPast k i e)
   unfolding walkPast
   past-later h = rw (← a, f, ne-eqb (k .count) 0 h)
 

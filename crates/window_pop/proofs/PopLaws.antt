@@ -9,7 +9,7 @@ use lib.Dec.{ltb, eqb}
 use lib.IntN.{ℤ}
 use lib.ListN.{length}
 use lib.Signed.{ltZ}
-use Rattle.numbers.specs.Whole.{intervalOf}
+use Rattle.numbers.specs.Instants.{intervalOf}
 use Rattle.numbers.proofs.Flags.{by-test}
 use Rattle.numbers.proofs.Circle.{sum-below}
 use Rattle.clock.specs.Release.{releaseOf}
@@ -73,7 +73,7 @@ module _ (k : SynchronizedRemoteClock) (latency : ℕ) (drop : Bool) (w : Window
       (λ t.
       by-test P (eqb (walk .count) 0) _ _
       (λ u. a)
-      (λ u. b (walk .count) (walk .first) (omega (arith, eqb-false (walk .count) 0 u)) (walk-within w ws (k .base) (limitOf now latency) refl)))
+      (λ u. b (walk .count) (walk .«first_stamp») (omega (arith, eqb-false (walk .count) 0 u)) (walk-within w ws (k .base) (limitOf now latency) refl)))
       (λ t. a)
 
   module _ (bs out : List ℕ) where

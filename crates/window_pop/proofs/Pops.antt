@@ -11,7 +11,7 @@ use lib.Dec.{ltb, eqb}
 use lib.IntN.{ℤ}
 use lib.ListN.{length}
 use lib.Signed.{ltZ}
-use Rattle.numbers.specs.Whole.{intervalOf}
+use Rattle.numbers.specs.Instants.{intervalOf}
 use Rattle.numbers.proofs.Flags.{impossible, by-test, by-order}
 use Rattle.numbers.proofs.Circle.{sum-below}
 use Rattle.clock.specs.Release.{releaseOf}
@@ -62,7 +62,7 @@ module _ (k : SynchronizedRemoteClock) (latency : ℕ) (w : Window) (ws : List �
   discard-none h = rw (eq-eqb (walk .count) 0 h)
 
   pub discard-some : {d d₁ n i i₁ : ℤ} {c : Window}
-      → (walk .count ≡ 0 → ⊥) → c ≡ discardFront w ws (walk .count) → d ≡ dueOf (k .base) latency (walk .first) → i ≡ intervalOf d₁ n → d₁ ≡ d → n ≡ now → i₁ ≡ i
+      → (walk .count ≡ 0 → ⊥) → c ≡ discardFront w ws (walk .count) → d ≡ dueOf (k .base) latency (walk .«first_stamp») → i ≡ intervalOf d₁ n → d₁ ≡ d → n ≡ now → i₁ ≡ i
       → popped c k (answers.Late (w .seqno0) (c .seqno0) i₁) ≡ discarded k latency w ws now walk
   unfolding discarded discardFront
   discard-some h e a b p q o = rw (ne-eqb (walk .count) 0 h, o, b, p, q, a, e)

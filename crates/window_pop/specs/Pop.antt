@@ -7,7 +7,7 @@ use lib.IntN.{ℤ, pos, _+ℤ_, _-ℤ_}
 use lib.ListN.{length}
 use lib.Seq.{paste}
 use lib.Signed.{ltZ, leZ}
-use Rattle.numbers.specs.Whole.{intervalOf}
+use Rattle.numbers.specs.Instants.{intervalOf}
 use Rattle.clock.specs.Base.{instantOf}
 use Rattle.clock.specs.Release.{releaseOf}
 use Rattle.clock.specs.declared.base.TimeBase.{TimeBase}
@@ -70,11 +70,11 @@ isLate base limit e = leZ (instantOf base (stampIn e)) limit || not (isFirst e)
 
 -- one more received entry walked: entry i
 abbrev pub walkedTo : Walk → ℕ → Entry → Walk
-walkedTo k i e = record { count = i + 1; first = cond (eqb (k .count) 0) (stampIn e) (k .first) }
+walkedTo k i e = record { count = i + 1; «first_stamp» = cond (eqb (k .count) 0) (stampIn e) (k .«first_stamp») }
 
 -- no received entry walked
 abbrev pub noWalk : Walk
-noWalk = record { count = 0; first = 0 }
+noWalk = record { count = 0; «first_stamp» = 0 }
 
 -- the walk over entries not received, or late: how many entries go through the last received one walked, and the stamp of the first
 unfoldable pub walkFrom : TimeBase → ℤ → ℕ → ℕ → List ℕ → ℕ → Walk → ℕ → Walk
@@ -108,7 +108,7 @@ discarded k latency w ws now walk =
     (record {
       window = discardFront w ws (walk .count);
       clock = k;
-      answer = answers.Late (w .seqno0) (numberIn w (walk .count)) (intervalOf (dueOf (k .base) latency (walk .first)) now);
+      answer = answers.Late (w .seqno0) (numberIn w (walk .count)) (intervalOf (dueOf (k .base) latency (walk .«first_stamp»)) now);
     })
 
 -- refusal 11 if the message is longer than the output; else its payloads in order, and the release time

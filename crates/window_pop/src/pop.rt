@@ -23,7 +23,7 @@ pub struct Message {
 // How far a late walk discards, and the stamp of the first received entry walked.
 pub struct Walk {
     pub count: usize,
-    pub first: u32,
+    pub first_stamp: u32,
 }
 
 pub enum PopAnswer {
@@ -108,7 +108,7 @@ pub fn put_payload(bytes: &[u8], s: usize, n: usize, out: &mut [u8], at: usize)
 {
     let a = 1456 * s;
     let e = a + n;
-    window::copy::put(out, at, &bytes[a..e]);
+    copy::put(out, at, &bytes[a..e]);
 }
 
 // Puts the payloads of the first `count` entries into the output, one after the other.
@@ -177,12 +177,12 @@ fn walk_past(k: Walk, i: usize, e: Entry) -> Walk
         if k.count == 0 {
             return Walk {
                 count: i + 1,
-                first: slots::entry::stamp_in(e),
+                first_stamp: slots::entry::stamp_in(e),
             };
         }
         return Walk {
             count: i + 1,
-            first: k.first,
+            first_stamp: k.first_stamp,
         };
     }
     k
@@ -202,7 +202,10 @@ fn walk_late(
 {
     let mut i = 0;
     let mut s = start;
-    let mut k = Walk { count: 0, first: 0 };
+    let mut k = Walk {
+        count: 0,
+        first_stamp: 0,
+    };
     while i < held {
         let e = slots::entry::read_at(words, s);
         if is_kept(base, limit, e) {
@@ -251,7 +254,7 @@ fn discard(
         };
     }
     let base = clock.base;
-    let delay = numbers::instant::interval(due(base, latency, walk.first), time);
+    let delay = numbers::instant::interval(due(base, latency, walk.first_stamp), time);
     let window = discard_front(w, words, walk.count);
     let answer = PopAnswer::Late {
         first: w.seqno0,

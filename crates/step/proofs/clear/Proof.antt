@@ -1,4 +1,4 @@
-use Rattle.step.proofs.Turns.{turns}
+use Rattle.step.proofs.Left.{leaving}
 use Rattle.step.proofs.clear.Statement.{statement}
 use Rattle.step.proofs.clear.Tie as tie
 
@@ -6,5 +6,5 @@ pub clear-spec : {M : Type 1} → statement M
 clear-spec =
     tie.close
     (tie.spec
-    (λ c κs. search turns)
-    (λ c. search turns))
+    (λ c κs. search leaving)
+    (λ c. search leaving))

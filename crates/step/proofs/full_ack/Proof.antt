@@ -1,4 +1,4 @@
-use Rattle.step.proofs.Turns.{turns}
+use Rattle.step.proofs.Left.{leaving}
 use Rattle.step.proofs.full_ack.Statement.{statement}
 use Rattle.step.proofs.full_ack.Tie as tie
 
@@ -6,6 +6,6 @@ pub full-ack-spec : {M : Type 1} → statement M
 full-ack-spec =
     tie.close
     (tie.spec
-    (λ c κs. search turns)
-    (λ c. search turns)
-    (λ c. search turns))
+    (λ c κs. search leaving)
+    (λ c. search leaving)
+    (λ c. search leaving))

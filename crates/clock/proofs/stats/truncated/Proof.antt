@@ -6,7 +6,7 @@ use lib.Ieee.{ofBits, neg}
 use mir.Syntax.{w32, w64}
 use mir.Val.{SFits}
 use mir.Facts.{toZ-ofZ}
-use Rattle.numbers.specs.Whole.{clamp}
+use Rattle.numbers.specs.Instants.{clamp}
 use Rattle.clock.specs.Samples.{truncatedOf}
 use Rattle.clock.proofs.Casts.{signed-most, signed-least, signed-nan, signed-clamped}
 use Rattle.clock.proofs.stats.truncated.Statement.{statement}

@@ -8,7 +8,7 @@ use lib.Signed.{ltZ}
 use mir.Syntax.{w32}
 use mir.Val.{SFits}
 use mir.Facts.{toZ-ofZ}
-use Rattle.numbers.specs.Whole.{clamp}
+use Rattle.numbers.specs.Instants.{clamp}
 use Rattle.numbers.proofs.Halves.{in-range, not-lt-halves, apart}
 use Rattle.numbers.proofs.instant.clamp.Statement.{statement}
 use Rattle.numbers.proofs.instant.clamp.Tie as tie

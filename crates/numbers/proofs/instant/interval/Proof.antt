@@ -9,7 +9,7 @@ use lib.Signed.{ltZ, leZ}
 use mir.Syntax.{w32, w64}
 use mir.Val.{SFits}
 use mir.Facts.{toZ-ofZ}
-use Rattle.numbers.specs.Whole.{clamp, intervalOf}
+use Rattle.numbers.specs.Instants.{clamp, intervalOf}
 use Rattle.numbers.proofs.Halves.{apart, range, in-range, above-+, below-+, above--, below--, lt-true, lt-false, le-true, le-false}
 use Rattle.numbers.proofs.Signs.{clamp-low, clamp-high}
 use borrow.Author.Needs.{needs}

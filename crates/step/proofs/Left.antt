@@ -28,41 +28,41 @@ use Rattle.step.specs.declared.Answer.the-variants as answers
 use Rattle.step.specs.declared.Stepped.{Stepped}
 
 -- each call
-pub data-turned : (h : Head) (ws bs : List ℕ) (now : ℤ) (p : Packet) (payload : List ℕ) {r : Handled} {ws₁ bs₁ : List ℕ} {n : ℤ}
+pub data-call-left : (h : Head) (ws bs : List ℕ) (now : ℤ) (p : Packet) (payload : List ℕ) {r : Handled} {ws₁ bs₁ : List ℕ} {n : ℤ}
     → dataEnded r ws₁ bs₁ ≡ dataCallOf h ws bs n p payload → n ≡ now
     → callLeft (stepped (r .head) (answers.Data (r .answer))) ws₁ bs₁ ≡ dataLeft h ws bs now p payload
-data-turned h ws bs now p payload e q =
+data-call-left h ws bs now p payload e q =
     ap (λ (o : DataOutcome). callLeft (stepped (o .handled .head) (answers.Data (o .handled .answer))) (o .slots) (o .payloads)) e ∙ rw q
 
-pub pop-turned : (h : Head) (ws bs out : List ℕ) (now : ℤ) {r : Given} {out₁ : List ℕ} {n : ℤ}
+pub pop-call-left : (h : Head) (ws bs out : List ℕ) (now : ℤ) {r : Given} {out₁ : List ℕ} {n : ℤ}
     → messageEnded r out₁ ≡ popCallOf h ws bs out n → n ≡ now → popCallLeft (stepped (r .head) (answers.Pop (r .answer))) ws bs out₁ ≡ popLeft h ws bs out now
-pop-turned h ws bs out now e q =
+pop-call-left h ws bs out now e q =
     ap (λ (o : MessageOutcome). popCallLeft (stepped (o .given .head) (answers.Pop (o .given .answer))) ws bs (o .output)) e ∙ rw q
 
-pub report-turned : (h : Head) (ws list : List ℕ) (now : ℤ) {r : Reported} {ws₁ list₁ : List ℕ} {n : ℤ}
+pub report-call-left : (h : Head) (ws list : List ℕ) (now : ℤ) {r : Reported} {ws₁ list₁ : List ℕ} {n : ℤ}
     → lossEnded r ws₁ list₁ ≡ reportCallOf h ws list n → n ≡ now → callLeft (stepped (r .head) (answers.Report (r .answer))) ws₁ list₁ ≡ reportLeft h ws list now
-report-turned h ws list now e q =
+report-call-left h ws list now e q =
     ap (λ (o : LossOutcome). callLeft (stepped (o .reported .head) (answers.Report (o .reported .answer))) (o .slots) (o .list)) e ∙ rw q
 
-pub full-ack-turned : (h : Head) (a : List ℕ) (now : ℤ) {r : FullAcked} {a₁ : List ℕ} {n : ℤ}
+pub full-ack-call-left : (h : Head) (a : List ℕ) (now : ℤ) {r : FullAcked} {a₁ : List ℕ} {n : ℤ}
     → fullAckEnded r a₁ ≡ fullAckCallOf h a n → n ≡ now → callLeft (stepped (r .head) (answers.FullAck (r .answer))) a₁ [] ≡ fullAckLeft h a now
-full-ack-turned h a now e q =
+full-ack-call-left h a now e q =
     ap (λ (o : FullAckOutcome). callLeft (stepped (o .acked .head) (answers.FullAck (o .acked .answer))) (o .area) []) e ∙ rw q
 
-pub ack2-turned : (h : Head) (a : List ℕ) (now : ℤ) (number : ℕ) {r : Ack2ed} {n : ℤ}
+pub ack2-call-left : (h : Head) (a : List ℕ) (now : ℤ) (number : ℕ) {r : Ack2ed} {n : ℤ}
     → ack2Ended r ≡ ack2CallOf h a n number → n ≡ now → callLeft (stepped (r .head) (answers.Ack2 (r .answer))) [] [] ≡ ack2Left h a now number
-ack2-turned h a now number e q = ap (λ (o : Ack2Outcome). callLeft (stepped (o .acked2 .head) (answers.Ack2 (o .acked2 .answer))) [] []) e ∙ rw q
+ack2-call-left h a now number e q = ap (λ (o : Ack2Outcome). callLeft (stepped (o .acked2 .head) (answers.Ack2 (o .acked2 .answer))) [] []) e ∙ rw q
 
-pub drop-turned : (h : Head) (ws : List ℕ) (first last : ℕ) {a : DropAnswer} {ws₁ : List ℕ}
+pub drop-call-left : (h : Head) (ws : List ℕ) (first last : ℕ) {a : DropAnswer} {ws₁ : List ℕ}
     → dropEnded a ws₁ ≡ dropCallOf h ws first last → callLeft (stepped h (answers.Drop a)) ws₁ [] ≡ dropLeft h ws first last
-drop-turned h ws first last e = ap (λ (o : DropOutcome). callLeft (stepped h (answers.Drop (o .answer))) (o .slots) []) e
+drop-call-left h ws first last e = ap (λ (o : DropOutcome). callLeft (stepped h (answers.Drop (o .answer))) (o .slots) []) e
 
-pub clock-turned : (h : Head) (now : ℤ) (stamp : ℕ) {r : Clocked} {n : ℤ}
+pub clock-call-left : (h : Head) (now : ℤ) (stamp : ℕ) {r : Clocked} {n : ℤ}
     → clockEnded r ≡ clockCallOf h n stamp → n ≡ now → callLeft (stepped (r .head) (answers.Clock (r .answer))) [] [] ≡ clockLeft h now stamp
-clock-turned h now stamp e q = ap (λ (o : ClockOutcome). callLeft (stepped (o .clocked .head) (answers.Clock (o .clocked .answer))) [] []) e ∙ rw q
+clock-call-left h now stamp e q = ap (λ (o : ClockOutcome). callLeft (stepped (o .clocked .head) (answers.Clock (o .clocked .answer))) [] []) e ∙ rw q
 
-pub clear-turned : (h : Head) {r : Cleared} → clearEnded r ≡ clearCallOf h → callLeft (stepped (r .head) (answers.Clear (r .answer))) [] [] ≡ clearLeft h
-clear-turned h e = ap (λ (o : ClearOutcome). callLeft (stepped (o .cleared .head) (answers.Clear (o .cleared .answer))) [] []) e
+pub clear-call-left : (h : Head) {r : Cleared} → clearEnded r ≡ clearCallOf h → callLeft (stepped (r .head) (answers.Clear (r .answer))) [] [] ≡ clearLeft h
+clear-call-left h e = ap (λ (o : ClearOutcome). callLeft (stepped (o .cleared .head) (answers.Clear (o .cleared .answer))) [] []) e
 
 -- the call by its case
 module _ (h : Head) (ws bs a payload out list : List ℕ) (c : Call) where
@@ -95,4 +95,4 @@ module _ (h : Head) (ws bs a payload out list : List ℕ) (c : Call) where
   pub clear-left : {r : Stepped} → c ≡ calls.Clear → callLeft r [] [] ≡ clearLeft h → Left r ws bs a out list
   clear-left e f = ap (λ (t : CallLeft). ended (t .stepped) ws bs a out list) f ∙ rw e
 
-pub ruleset turns = (data-turned, pop-turned, report-turned, full-ack-turned, ack2-turned, drop-turned, clock-turned, clear-turned, data-left, pop-left, report-left, full-ack-left, ack2-left, drop-left, clock-left, clear-left, needs)
+pub ruleset leaving = (data-call-left, pop-call-left, report-call-left, full-ack-call-left, ack2-call-left, drop-call-left, clock-call-left, clear-call-left, data-left, pop-left, report-left, full-ack-left, ack2-left, drop-left, clock-left, clear-left, needs)

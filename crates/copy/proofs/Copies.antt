@@ -1,4 +1,4 @@
--- Laws for the loop of `copy::put`. Assumes nothing.
+-- Laws for the loop of `put`. Assumes nothing.
 use mathlib.Core.Path.{_≡_, _∙_, ap}
 use mathlib.Core.List.{List}
 use Prim.Native.Nat.{ℕ, _+_, _<_, _≤_}

@@ -1,4 +1,4 @@
-// Copies a run of bytes: into a slot's payload, and out of it.
+// Copies a run of bytes: into a slot's payload, out of it, and into the text of a line.
 ghost use mathlib.Core.Path.{_≡_};
 ghost use Prim.Native.Nat.{_+_, _≤_};
 ghost use lib.ListN.{length};

@@ -1,11 +1,11 @@
--- `copy::put` meets its contract. Assumes nothing.
+-- `put` meets its contract. Assumes nothing.
 use mathlib.Core.Path.{_≡_}
 use Prim.Native.Nat.{_-_, _≤_}
 use lib.ListN.{length}
 use lib.Seq.{paste}
-use Rattle.window.proofs.Copies.{copies}
-use Rattle.window.proofs.copy.put.Statement.{statement}
-use Rattle.window.proofs.copy.put.Tie as tie
+use Rattle.copy.proofs.Copies.{copies}
+use Rattle.copy.proofs.put.Statement.{statement}
+use Rattle.copy.proofs.put.Tie as tie
 
 abbrev Inv-loop : tie.InvT-loop
 Inv-loop to₀ at from i₀ to i = (i ≤ length from) × (length to ≡ length to₀) × (to ≡ paste to₀ at from i)
