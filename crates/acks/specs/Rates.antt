@@ -132,14 +132,11 @@ abbrev pub timeOk : Moment → Bool
 timeOk Unset = true
 timeOk (At t) = isReading t
 
+abbrev pub intervalsOk : List ℕ → ℕ → ℕ → Bool
+intervalsOk gaps at count = leb count 16 && ltb at 16 && allUnder (2 ^ 31) (windowOf gaps at count)
+
 unfoldable pub arrivalsOk : Arrivals → Bool
-arrivalsOk a =
-    leb (a .count) 16
-    && ltb (a .at) 16
-    && allUnder (2 ^ 31) (arrivalGaps a)
-    && allUnder 1457 (arrivalSizes a)
-    && timeOk (a .last)
+arrivalsOk a = intervalsOk (a .gaps) (a .at) (a .count) && allUnder 1457 (arrivalSizes a) && timeOk (a .last)
 
 unfoldable pub linksOk : Links → Bool
-linksOk l =
-    leb (l .count) 16 && ltb (l .at) 16 && allUnder (2 ^ 31) (linkGaps l) && timeOk (l .probe)
+linksOk l = intervalsOk (l .gaps) (l .at) (l .count) && timeOk (l .probe)
