@@ -6,6 +6,7 @@ use lib.Dec.{eqb, ltb, leb}
 use lib.IntN.{ℤ, natAbs}
 use lib.ListN.{getD, set, replicate}
 use lib.Signed.{ltZ}
+use Rattle.numbers.specs.Ring.{placeIn}
 use Rattle.numbers.specs.Whole.{isReading, intervalOf}
 use Rattle.numbers.specs.declared.instant.Moment.{Moment}
 use Rattle.numbers.specs.declared.instant.Moment.the-variants.{Unset, At}
@@ -24,14 +25,14 @@ sinceTime now t = natAbs (intervalOf (cond (ltZ now t) now t) now)
 
 -- a window is a ring of 16 places; `at` is the next to be written, so that the newest 16 stay
 abbrev pub nextPlace : ℕ → ℕ
-nextPlace at = (at + 1) % 16
+nextPlace at = placeIn 16 at 1
 
 abbrev pub countAfter : ℕ → ℕ
 countAfter count = min (count + 1) 16
 
 -- the window as a list, oldest first: its n-th newest stands n places before the next to be written
 abbrev pub placeBefore : ℕ → ℕ → ℕ
-placeBefore at n = (at + (16 - n)) % 16
+placeBefore at n = placeIn 16 at (16 - n)
 
 unfoldable pub windowOf : List ℕ → ℕ → ℕ → List ℕ
 windowOf l at zero = []
