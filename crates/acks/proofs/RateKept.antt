@@ -1,9 +1,8 @@
 -- The windows' ranges are kept, and what recording does to a window as a list, oldest first. Assumes nothing.
-use mathlib.Core.Path.{_≡_, refl, sym, _∙_}
-use mathlib.Core.Bool.{Bool, true}
+use mathlib.Core.Path.{_≡_, refl, _∙_}
+use mathlib.Core.Bool.{true}
 use mathlib.Core.List.{[], _∷_, _++_}
 use Prim.Native.Nat.{ℕ, _+_, _-_, _%_, _^_, _<_, _≤_}
-use native.Mathlib.Nat.{mod-lt}
 use native.Mathlib.Omega.{arith}
 use lib.Dec.{eqb}
 use lib.IntN.{ℤ}
@@ -17,7 +16,7 @@ use Rattle.numbers.proofs.Halves.{halves-not-lt}
 use Rattle.acks.specs.Rates.{sinceTime, windowOf, arrivalGaps, arrivalSizes, linkGaps, freshArrivals, freshLinks, arrivedSince, arrivalOf, withProbe, pairedSince, pairOf, linkOf, allUnder, arrivalsOk, linksOk}
 use Rattle.acks.specs.declared.rates.Arrivals.{Arrivals}
 use Rattle.acks.specs.declared.rates.Links.{Links}
-use Rattle.acks.proofs.Windows.{enters, under-enters, ArrivalRanges, arrival-ranges, arrivals-ok, LinkRanges, link-ranges, links-ok}
+use Rattle.acks.proofs.Windows.{enters, under-enters, ranges-enter, ArrivalRanges, arrival-ranges, arrivals-ok, LinkRanges, link-ranges, links-ok}
 use Rattle.acks.proofs.RateSteps.{interval-above}
 
 -- an interval since a time is not negative, and under 2^31
@@ -27,27 +26,6 @@ since-under now t =
     by-bool (ltZ now t)
     (λ e. rw e (interval-above now now (halves-not-lt now now (omega arith)) .1))
     (λ e. rw e (interval-above t now e .1))
-
--- what a caller who tested a window may call with; `b` is the flag that its test gave
-module _ (a : Arrivals) {b : Bool} (p : b ≡ arrivalsOk a) (e : b ≡ true) where
-  pub arrivals-tested : arrivalsOk a ≡ true
-  arrivals-tested = sym p ∙ e
-
-  pub arrivals-place-by : a .at < 16
-  arrivals-place-by = arrival-ranges a arrivals-tested .place
-
-  pub arrivals-count-by : a .count ≤ 16
-  arrivals-count-by = arrival-ranges a arrivals-tested .holds
-
-module _ (l : Links) {b : Bool} (p : b ≡ linksOk l) (e : b ≡ true) where
-  pub links-tested : linksOk l ≡ true
-  links-tested = sym p ∙ e
-
-  pub links-place-by : l .at < 16
-  links-place-by = link-ranges l links-tested .place
-
-  pub links-count-by : l .count ≤ 16
-  links-count-by = link-ranges l links-tested .holds
 
 pub fresh-arrivals-ok : arrivalsOk freshArrivals ≡ true
 unfolding arrivalsOk freshArrivals windowOf allUnder
@@ -60,13 +38,11 @@ fresh-links-ok = refl
 -- an arrival keeps the ranges
 module _ (a : Arrivals) (now : ℤ) (size : ℕ) where
   since-kept : (m : Moment) → ArrivalRanges a → isReading now ≡ true → size ≤ 1456 → ArrivalRanges (arrivedSince m a now size)
-  since-kept Unset r n s = record { holds = r .holds; place = r .place; gaps = r .gaps; sizes = r .sizes; last = n }
+  since-kept Unset r n s = record { intervals = r .intervals; sizes = r .sizes; last = n }
   since-kept (At t) r n s =
       record {
-        holds = omega arith;
-        place = mod-lt (a .at + 1) (omega arith);
-        gaps = under-enters (2 ^ 31) (a .gaps) (a .at) (a .count) (sinceTime now t) (r .place) (r .holds) (since-under now t) (r .gaps);
-        sizes = under-enters 1457 (a .sizes) (a .at) (a .count) size (r .place) (r .holds) (omega arith) (r .sizes);
+        intervals = ranges-enter (a .gaps) (a .at) (a .count) (sinceTime now t) (since-under now t) (r .intervals);
+        sizes = under-enters 1457 (a .sizes) (a .at) (a .count) size (r .intervals .place) (r .intervals .holds) (omega arith) (r .sizes);
         last = n;
       }
 
@@ -96,21 +72,15 @@ module _ (a : Arrivals) (now : ℤ) (size : ℕ) where
 -- so does a link's append
 module _ (l : Links) (now : ℤ) where
   pair-kept : (m : Moment) → LinkRanges l → LinkRanges (pairedSince m l now)
-  pair-kept Unset r = record { holds = r .holds; place = r .place; gaps = r .gaps; probe = refl }
-  pair-kept (At t) r =
-      record {
-        holds = omega arith;
-        place = mod-lt (l .at + 1) (omega arith);
-        gaps = under-enters (2 ^ 31) (l .gaps) (l .at) (l .count) (sinceTime now t) (r .place) (r .holds) (since-under now t) (r .gaps);
-        probe = refl;
-      }
+  pair-kept Unset r = record { intervals = r .intervals; probe = refl }
+  pair-kept (At t) r = record { intervals = ranges-enter (l .gaps) (l .at) (l .count) (sinceTime now t) (since-under now t) (r .intervals); probe = refl }
 
   pub link-kept : (number : ℕ) → linksOk l ≡ true → isReading now ≡ true → linksOk (linkOf l now number) ≡ true
   unfolding linkOf pairOf
   link-kept number e n =
       let r = link-ranges l e in
       by-test (λ (x : Links). linksOk x ≡ true) (eqb (number % 16) 0) _ _
-      (λ t. links-ok (withProbe l (At now)) (record { holds = r .holds; place = r .place; gaps = r .gaps; probe = n }))
+      (λ t. links-ok (withProbe l (At now)) (record { intervals = r .intervals; probe = n }))
       (λ t.
       by-test (λ (x : Links). linksOk x ≡ true) (eqb (number % 16) 1) _ _
       (λ u. links-ok (pairedSince (l .probe) l now) (pair-kept (l .probe) r))

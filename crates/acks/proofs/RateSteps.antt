@@ -22,14 +22,14 @@ use Rattle.numbers.proofs.Flags.{by-test, by-order}
 use Rattle.numbers.proofs.Halves.{above, below, same, size, not-negative, above--, below--, lt-false}
 use Rattle.numbers.proofs.Signs.{clamp-in, clamp-high}
 use Rattle.acks.specs.Median.{medianOf}
-use Rattle.acks.specs.Rates.{sinceTime, nextPlace, countAfter, freshArrivals, freshLinks, arrivedFirst, arrivalOf, keeps, takeIn, keptOf, rateOf, speedKept, speedOf, withProbe, pairOf, linkOf, linkRate, capacityOf, placeBefore, windowOf, arrivalGaps, arrivalSizes, linkGaps, allUnder, timeOk, arrivalsOk, linksOk}
+use Rattle.acks.specs.Rates.{sinceTime, nextPlace, countAfter, freshArrivals, freshLinks, arrivedFirst, arrivalOf, keeps, takeIn, keptOf, rateOf, speedKept, speedOf, withProbe, pairOf, linkOf, linkRate, capacityOf, placeBefore, windowOf, arrivalSizes, allUnder, timeOk, intervalsOk, arrivalsOk, linksOk}
 use Rattle.acks.specs.Inner.{firstUnder}
 use Rattle.acks.specs.declared.rates.Arrivals.{Arrivals}
 use Rattle.acks.specs.declared.rates.Links.{Links}
 use Rattle.acks.specs.declared.rates.Kept.{Kept}
 use Rattle.acks.specs.declared.rates.Speed.the-variants as speeds
 use Rattle.acks.specs.declared.rates.Link.the-variants as links
-use Rattle.acks.proofs.Windows.{under-place, under-sixteen, arrival-ranges, kept-count, kept-sum, kept-bytes}
+use Rattle.acks.proofs.Windows.{under-place, under-sixteen, interval-ranges, arrival-ranges, kept-count, kept-sum, kept-bytes}
 
 -- since
 clamp-above : (z : ℤ) → below z ≡ 0 → (below (clamp z) ≡ 0) × (natAbs (clamp z) < 2 ^ 31)
@@ -209,8 +209,8 @@ module _ (a : Arrivals) (ai : ℕ) (k : Kept) (o : arrivalsOk a ≡ true) (h : 1
   sizes-under : (i : ℕ) → i < 16 → getD (a .sizes) i 0 < 1457
   sizes-under i l =
       let r = arrival-ranges a o in
-      let p : a .count ≡ 16 = omega (arith, r .holds) in
-      under-place 1457 (a .sizes) (a .at) i (r .place) l (rw p at (r .sizes))
+      let p : a .count ≡ 16 = omega (arith, r .intervals .holds) in
+      under-place 1457 (a .sizes) (a .at) i (r .intervals .place) l (rw p at (r .sizes))
 
   bytes-most : k .bytes ≤ 1456 * k .count
   bytes-most = rw e (kept-bytes (a .gaps) (a .sizes) ai sizes-under 16 (omega arith))
@@ -245,36 +245,36 @@ module _ (l : Links) where
   unfolding capacityOf
   capacity-some h e f = rw (le-ltb _ _ h, ← e, f)
 
--- in_range
-module _ (a : Arrivals) where
-  pub arrivals-count : 16 < a .count → false ≡ arrivalsOk a
+-- intervals_ok, and in_range
+module _ (gaps : List ℕ) (at count : ℕ) where
+  pub intervals-count : 16 < count → false ≡ intervalsOk gaps at count
+  intervals-count h = rw (lt-leb _ _ h)
+
+  pub intervals-place : count ≤ 16 → 16 ≤ at → false ≡ intervalsOk gaps at count
+  intervals-place h k = rw (le-leb _ _ h, le-ltb _ _ k)
+
+  pub intervals-test : {g : Bool} → count ≤ 16 → at < 16 → g ≡ allUnder (2 ^ 31) (windowOf gaps at count) → g ≡ intervalsOk gaps at count
+  intervals-test h k e = rw (le-leb _ _ h, lt-ltb _ _ k) e
+
+  module _ {b : Bool} (e : b ≡ intervalsOk gaps at count) (t : b ≡ true) where
+    pub intervals-place-by : at < 16
+    intervals-place-by = interval-ranges gaps at count (sym e ∙ t) .place
+
+    pub intervals-count-by : count ≤ 16
+    intervals-count-by = interval-ranges gaps at count (sym e ∙ t) .holds
+
+module _ (a : Arrivals) {b : Bool} (e : b ≡ intervalsOk (a .gaps) (a .at) (a .count)) where
+  pub arrivals-out : b ≡ false → false ≡ arrivalsOk a
   unfolding arrivalsOk
-  arrivals-count h = rw (lt-leb _ _ h)
+  arrivals-out t = rw (← e, t)
 
-  module _ (h : a .count ≤ 16) where
-    pub arrivals-place : 16 ≤ a .at → false ≡ arrivalsOk a
-    unfolding arrivalsOk
-    arrivals-place k = rw (le-leb _ _ h, le-ltb _ _ k)
+  pub arrivals-test : {s t : Bool} → b ≡ true → s ≡ allUnder 1457 (arrivalSizes a) → t ≡ timeOk (a .last) → (s && t) ≡ arrivalsOk a
+  unfolding arrivalsOk
+  arrivals-test u f i = rw (← e, u, f, i)
 
-    pub arrivals-test : {g s t : Bool}
-        → a .at < 16 → g ≡ allUnder (2 ^ 31) (arrivalGaps a) → s ≡ allUnder 1457 (arrivalSizes a) → t ≡ timeOk (a .last)
-        → (g && s && t) ≡ arrivalsOk a
-    unfolding arrivalsOk
-    arrivals-test k e f i = rw (le-leb _ _ h, lt-ltb _ _ k, e, f, i)
-
-module _ (l : Links) where
-  pub links-count : 16 < l .count → false ≡ linksOk l
-  unfolding linksOk
-  links-count h = rw (lt-leb _ _ h)
-
-  module _ (h : l .count ≤ 16) where
-    pub links-place : 16 ≤ l .at → false ≡ linksOk l
-    unfolding linksOk
-    links-place k = rw (le-leb _ _ h, le-ltb _ _ k)
-
-    pub links-test : {g t : Bool} → l .at < 16 → g ≡ allUnder (2 ^ 31) (linkGaps l) → t ≡ timeOk (l .probe) → (g && t) ≡ linksOk l
-    unfolding linksOk
-    links-test k e f = rw (le-leb _ _ h, lt-ltb _ _ k, e, f)
+pub links-test : (l : Links) {g t : Bool} → g ≡ intervalsOk (l .gaps) (l .at) (l .count) → t ≡ timeOk (l .probe) → (g && t) ≡ linksOk l
+unfolding linksOk
+links-test l e f = rw (e, f)
 
 pub ruleset rateSteps = (
   since-later,
@@ -320,11 +320,13 @@ pub ruleset rateSteps = (
   speed-some,
   capacity-few,
   capacity-some,
-  arrivals-count,
-  arrivals-place,
+  intervals-count,
+  intervals-place,
+  intervals-test,
+  intervals-place-by,
+  intervals-count-by,
+  arrivals-out,
   arrivals-test,
-  links-count,
-  links-place,
   links-test,
   needs,
 )

@@ -2,11 +2,12 @@
 use mathlib.Core.Path.{_≡_, refl, ap, sym, _∙_}
 use mathlib.Core.Bool.{cond}
 use mathlib.Core.List.{List, _∷_, _++_}
-use Prim.Native.Nat.{ℕ, zero, suc, _+_, _-_, _%_, _<_, _≤_}
+use Prim.Native.Nat.{ℕ, zero, suc, _+_, _-_, _<_, _≤_}
 use native.Mathlib.Omega.{arith}
 use borrow.Author.Tests.{le-ltb}
 use lib.ListN.{length, getD, take, drop, length-append, length-drop, take-append-drop, drop-of-length-le, List·getD-append}
 use lib.Seq.{drop-cons, getD-take, getD-drop, getD-append-add, length-take-le}
+use Rattle.numbers.specs.Ring.{placeIn}
 use Rattle.numbers.proofs.Flags.{by-bool, by-order}
 use Rattle.acks.specs.Median.{medianOf}
 use Rattle.acks.specs.Inner.{below}
@@ -55,16 +56,16 @@ module _ (l : List ℕ) (at : ℕ) (e : length l ≡ 16) (h : at < 16) where
       let q : 16 - (16 - at) ≡ at = omega arith in
       rw p (rw q at (past-at (16 - at) (omega arith)))
 
-  pub turned-at : (i : ℕ) → i < 16 → getD (windowOf l at 16) i 0 ≡ getD l ((at + i) % 16) 0
+  pub turned-at : (i : ℕ) → i < 16 → getD (windowOf l at 16) i 0 ≡ getD l (placeIn 16 at i) 0
   turned-at i k =
       let d : length (drop at l) ≡ 16 - at = rw (length-drop at l, e) in
       rw turned
       (by-order i (16 - at)
       (λ u.
-      let p : (at + i) % 16 ≡ at + i = omega arith in
+      let p : placeIn 16 at i ≡ at + i = omega arith in
       List·getD-append (drop at l) (take at l) 0 i (omega arith) ∙ rw (getD-drop at l i 0, p))
       (λ u.
-      let p : (at + i) % 16 ≡ i - (16 - at) = omega arith in
+      let p : placeIn 16 at i ≡ i - (16 - at) = omega arith in
       let q : i ≡ length (drop at l) + (i - (16 - at)) = omega arith in
       ap (λ (j : ℕ). getD (drop at l ++ take at l) j 0) q
       ∙ getD-append-add (drop at l) (take at l) (i - (16 - at)) 0
@@ -104,9 +105,9 @@ sum-split f m (suc n) =
     let r = sum-split f m n in
     rw p (omega arith)
 
-sum-turned : (f : ℕ → ℕ) (at : ℕ) → at < 16 → sumTo (λ (i : ℕ). f ((at + i) % 16)) 16 ≡ sumTo f 16
+sum-turned : (f : ℕ → ℕ) (at : ℕ) → at < 16 → sumTo (λ (i : ℕ). f (placeIn 16 at i)) 16 ≡ sumTo f 16
 sum-turned f at h =
-    let g : ℕ → ℕ = λ i. f ((at + i) % 16) in
+    let g : ℕ → ℕ = λ i. f (placeIn 16 at i) in
     let p : 16 ≡ 16 - at + at = omega arith in
     let q : 16 ≡ at + (16 - at) = omega arith in
     let a : sumTo g 16 ≡ sumTo g (16 - at) + sumTo (λ (i : ℕ). g (16 - at + i)) at = ap (sumTo g) p ∙ sum-split g (16 - at) at in
@@ -133,11 +134,11 @@ kept-sums gaps sizes ai (suc n) =
 -- so what is kept of a whole window is what is kept of its places
 module _ (a : Arrivals) (full : a .count ≡ 16) (h : a .at < 16) (e : length (a .gaps) ≡ 16) (f : length (a .sizes) ≡ 16) where
   module _ (ai : ℕ) where
-    adds-turned : (v w : ℕ → ℕ) → ((i : ℕ) → i < 16 → v i ≡ w ((a .at + i) % 16)) → sumTo (adds (arrivalGaps a) ai v) 16 ≡ sumTo (adds (a .gaps) ai w) 16
+    adds-turned : (v w : ℕ → ℕ) → ((i : ℕ) → i < 16 → v i ≡ w (placeIn 16 (a .at) i)) → sumTo (adds (arrivalGaps a) ai v) 16 ≡ sumTo (adds (a .gaps) ai w) 16
     adds-turned v w s =
-        sum-same (adds (arrivalGaps a) ai v) (λ (i : ℕ). adds (a .gaps) ai w ((a .at + i) % 16)) 16
+        sum-same (adds (arrivalGaps a) ai v) (λ (i : ℕ). adds (a .gaps) ai w (placeIn 16 (a .at) i)) 16
         (λ i k.
-        let p : getD (arrivalGaps a) i 0 ≡ getD (a .gaps) ((a .at + i) % 16) 0 = rw full (turned-at (a .gaps) (a .at) e h i k) in
+        let p : getD (arrivalGaps a) i 0 ≡ getD (a .gaps) (placeIn 16 (a .at) i) 0 = rw full (turned-at (a .gaps) (a .at) e h i k) in
         rw (p, s i k))
         ∙ sum-turned (adds (a .gaps) ai w) (a .at) h
 

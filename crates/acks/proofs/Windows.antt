@@ -3,13 +3,14 @@ use mathlib.Core.Path.{_≡_, refl}
 use mathlib.Core.Bool.{true, _&&_}
 use mathlib.Core.List.{List, [], _∷_, _++_}
 use Prim.Native.Nat.{ℕ, zero, suc, _+_, _-_, _*_, _/_, _%_, _^_, _<_, _≤_}
+use native.Mathlib.Nat.{mod-lt}
 use native.Mathlib.Omega.{arith}
 use borrow.Author.Tests.{lt-ltb, le-leb, ltb-true, leb-true}
 use lib.Dec.{ltb, leb}
 use lib.ListN.{length, getD, set, drop, List·getD-eq-default}
 use lib.Seq.{getD-set-same, getD-set-other, set-out}
 use Rattle.numbers.proofs.Flags.{and-left, and-right, by-test, by-order}
-use Rattle.acks.specs.Rates.{nextPlace, countAfter, placeBefore, windowOf, arrivalGaps, arrivalSizes, linkGaps, keeps, takeIn, keptOf, allUnder, timeOk, arrivalsOk, linksOk}
+use Rattle.acks.specs.Rates.{nextPlace, countAfter, placeBefore, windowOf, arrivalSizes, keeps, takeIn, keptOf, allUnder, timeOk, intervalsOk, arrivalsOk, linksOk}
 use Rattle.acks.specs.Inner.{firstUnder}
 use Rattle.acks.specs.declared.rates.Arrivals.{Arrivals}
 use Rattle.acks.specs.declared.rates.Links.{Links}
@@ -103,60 +104,68 @@ unfolding windowOf allUnder
 under-sixteen b l at zero e = refl
 under-sixteen b l at (suc n) e = rw (under-first b l 16 (placeBefore at (suc n)) e (omega arith)) (under-sixteen b l at n e)
 
--- the tests of the two windows, taken apart and put together
+-- the test of a window's intervals, taken apart and put together
+pub record IntervalRanges (gaps : List ℕ) (at count : ℕ) : Type 0 where
+  pub holds : count ≤ 16
+  pub place : at < 16
+  pub under : allUnder (2 ^ 31) (windowOf gaps at count) ≡ true
+
+module _ (gaps : List ℕ) (at count : ℕ) where
+  pub interval-ranges : intervalsOk gaps at count ≡ true → IntervalRanges gaps at count
+  interval-ranges e =
+      let c = leb count 16 in
+      let p = ltb at 16 in
+      let g = allUnder (2 ^ 31) (windowOf gaps at count) in
+      let f = and-left (c && p) g e in
+      record { holds = leb-true count 16 (and-left c p f); place = ltb-true at 16 (and-right c p f); under = and-right (c && p) g e }
+
+  pub intervals-ok : IntervalRanges gaps at count → intervalsOk gaps at count ≡ true
+  intervals-ok r = rw (le-leb _ _ (r .holds), lt-ltb _ _ (r .place), r .under)
+
+  -- one that enters keeps them
+  pub ranges-enter : (x : ℕ) → x < 2 ^ 31 → IntervalRanges gaps at count → IntervalRanges (set gaps at x) (nextPlace at) (countAfter count)
+  ranges-enter x h r =
+      record {
+        holds = omega arith;
+        place = mod-lt (at + 1) (omega arith);
+        under = under-enters (2 ^ 31) gaps at count x (r .place) (r .holds) h (r .under);
+      }
+
+-- the tests of the two windows: the intervals', and what each has beside
 pub record ArrivalRanges (a : Arrivals) : Type 0 where
-  pub holds : a .count ≤ 16
-  pub place : a .at < 16
-  pub gaps : allUnder (2 ^ 31) (arrivalGaps a) ≡ true
+  pub intervals : IntervalRanges (a .gaps) (a .at) (a .count)
   pub sizes : allUnder 1457 (arrivalSizes a) ≡ true
   pub last : timeOk (a .last) ≡ true
 
 pub arrival-ranges : (a : Arrivals) → arrivalsOk a ≡ true → ArrivalRanges a
 unfolding arrivalsOk
 arrival-ranges a e =
-    let c = leb (a .count) 16 in
-    let p = ltb (a .at) 16 in
-    let g = allUnder (2 ^ 31) (arrivalGaps a) in
+    let i = intervalsOk (a .gaps) (a .at) (a .count) in
     let s = allUnder 1457 (arrivalSizes a) in
-    let e₃ = and-left (c && p && g && s) (timeOk (a .last)) e in
-    let e₂ = and-left (c && p && g) s e₃ in
-    let e₁ = and-left (c && p) g e₂ in
+    let f = and-left (i && s) (timeOk (a .last)) e in
     record {
-      holds = leb-true (a .count) 16 (and-left c p e₁);
-      place = ltb-true (a .at) 16 (and-right c p e₁);
-      gaps = and-right (c && p) g e₂;
-      sizes = and-right (c && p && g) s e₃;
-      last = and-right (c && p && g && s) (timeOk (a .last)) e;
+      intervals = interval-ranges (a .gaps) (a .at) (a .count) (and-left i s f);
+      sizes = and-right i s f;
+      last = and-right (i && s) (timeOk (a .last)) e;
     }
 
 pub arrivals-ok : (a : Arrivals) → ArrivalRanges a → arrivalsOk a ≡ true
 unfolding arrivalsOk
-arrivals-ok a r = rw (le-leb _ _ (r .holds), lt-ltb _ _ (r .place), r .gaps, r .sizes, r .last)
+arrivals-ok a r = rw (intervals-ok (a .gaps) (a .at) (a .count) (r .intervals), r .sizes, r .last)
 
 pub record LinkRanges (l : Links) : Type 0 where
-  pub holds : l .count ≤ 16
-  pub place : l .at < 16
-  pub gaps : allUnder (2 ^ 31) (linkGaps l) ≡ true
+  pub intervals : IntervalRanges (l .gaps) (l .at) (l .count)
   pub probe : timeOk (l .probe) ≡ true
 
 pub link-ranges : (l : Links) → linksOk l ≡ true → LinkRanges l
 unfolding linksOk
 link-ranges l e =
-    let c = leb (l .count) 16 in
-    let p = ltb (l .at) 16 in
-    let g = allUnder (2 ^ 31) (linkGaps l) in
-    let e₂ = and-left (c && p && g) (timeOk (l .probe)) e in
-    let e₁ = and-left (c && p) g e₂ in
-    record {
-      holds = leb-true (l .count) 16 (and-left c p e₁);
-      place = ltb-true (l .at) 16 (and-right c p e₁);
-      gaps = and-right (c && p) g e₂;
-      probe = and-right (c && p && g) (timeOk (l .probe)) e;
-    }
+    let i = intervalsOk (l .gaps) (l .at) (l .count) in
+    record { intervals = interval-ranges (l .gaps) (l .at) (l .count) (and-left i (timeOk (l .probe)) e); probe = and-right i (timeOk (l .probe)) e }
 
 pub links-ok : (l : Links) → LinkRanges l → linksOk l ≡ true
 unfolding linksOk
-links-ok l r = rw (le-leb _ _ (r .holds), lt-ltb _ _ (r .place), r .gaps, r .probe)
+links-ok l r = rw (intervals-ok (l .gaps) (l .at) (l .count) (r .intervals), r .probe)
 
 -- of what is kept each interval is 1 or more, and each size at most 1,456: so the rates fit 32 bits
 module _ (gaps sizes : List ℕ) (ai : ℕ) where

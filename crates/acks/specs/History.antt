@@ -5,6 +5,7 @@ use Prim.Native.Nat.{ℕ, zero, suc, _+_, _-_, _*_, _%_, _^_, min}
 use lib.Dec.{eqb, ltb, leb}
 use lib.ListN.{getD, set}
 use Rattle.numbers.specs.Circular.{before, sum}
+use Rattle.numbers.specs.Ring.{placeIn}
 use Rattle.acks.specs.declared.history.History.{History}
 use Rattle.acks.specs.declared.history.Acked.{Acked}
 use Rattle.acks.specs.declared.history.AckAnswer.the-variants.{Nothing, Worn, Ack}
@@ -14,7 +15,7 @@ use Rattle.acks.specs.declared.history.LightAcked.{LightAcked}
 
 -- the history area has 2,048 words, two an entry, i at (start + i) mod 1,024
 abbrev pub ackSlot : ℕ → ℕ → ℕ
-ackSlot start i = (start + i) % 1024
+ackSlot start i = placeIn 1024 start i
 
 -- data number mod 2^31
 abbrev pub numberAt : List ℕ → ℕ → ℕ

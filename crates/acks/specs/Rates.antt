@@ -7,6 +7,7 @@ use lib.IntN.{ℤ, natAbs}
 use lib.ListN.{getD, set, replicate}
 use lib.Signed.{ltZ}
 use Rattle.numbers.specs.Instants.{isReading, intervalOf}
+use Rattle.numbers.specs.Ring.{placeIn}
 use Rattle.numbers.specs.declared.instant.Moment.{Moment}
 use Rattle.numbers.specs.declared.instant.Moment.the-variants.{Unset, At}
 use Rattle.acks.specs.Median.{medianOf}
@@ -24,14 +25,14 @@ sinceTime now t = natAbs (intervalOf (cond (ltZ now t) now t) now)
 
 -- a window is a ring of 16 places; `at` is the next to be written, so that the newest 16 stay
 abbrev pub nextPlace : ℕ → ℕ
-nextPlace at = (at + 1) % 16
+nextPlace at = placeIn 16 at 1
 
 abbrev pub countAfter : ℕ → ℕ
 countAfter count = min (count + 1) 16
 
 -- the window as a list, oldest first: its n-th newest stands n places before the next to be written
 abbrev pub placeBefore : ℕ → ℕ → ℕ
-placeBefore at n = (at + (16 - n)) % 16
+placeBefore at n = placeIn 16 at (16 - n)
 
 unfoldable pub windowOf : List ℕ → ℕ → ℕ → List ℕ
 windowOf l at zero = []
@@ -132,14 +133,11 @@ abbrev pub timeOk : Moment → Bool
 timeOk Unset = true
 timeOk (At t) = isReading t
 
+abbrev pub intervalsOk : List ℕ → ℕ → ℕ → Bool
+intervalsOk gaps at count = leb count 16 && ltb at 16 && allUnder (2 ^ 31) (windowOf gaps at count)
+
 unfoldable pub arrivalsOk : Arrivals → Bool
-arrivalsOk a =
-    leb (a .count) 16
-    && ltb (a .at) 16
-    && allUnder (2 ^ 31) (arrivalGaps a)
-    && allUnder 1457 (arrivalSizes a)
-    && timeOk (a .last)
+arrivalsOk a = intervalsOk (a .gaps) (a .at) (a .count) && allUnder 1457 (arrivalSizes a) && timeOk (a .last)
 
 unfoldable pub linksOk : Links → Bool
-linksOk l =
-    leb (l .count) 16 && ltb (l .at) 16 && allUnder (2 ^ 31) (linkGaps l) && timeOk (l .probe)
+linksOk l = intervalsOk (l .gaps) (l .at) (l .count) && timeOk (l .probe)

@@ -2,7 +2,7 @@
 ghost use mathlib.Core.Path.{_≡_};
 ghost use mathlib.Core.Bool.{true};
 ghost use Prim.Native.Nat.{_*_, _<_, _≤_, _^_};
-ghost use Rattle.acks.specs.Rates.{sinceTime, countAfter, windowOf, freshArrivals, freshLinks, arrivalOf, keeps, takeIn, keptOf, rateOf, speedOf, pairOf, linkOf, linkRate, capacityOf, allUnder, timeOk, arrivalsOk, linksOk};
+ghost use Rattle.acks.specs.Rates.{sinceTime, countAfter, windowOf, freshArrivals, freshLinks, arrivalOf, keeps, takeIn, keptOf, rateOf, speedOf, pairOf, linkOf, linkRate, capacityOf, allUnder, timeOk, intervalsOk, arrivalsOk, linksOk};
 ghost use Rattle.acks.specs.Inner.{firstUnder};
 use numbers::instant::Moment;
 
@@ -150,6 +150,19 @@ fn all_under(values: [u32; 16], at: usize, count: usize, bound: u32) -> bool
     window_under(&values, at, count, bound)
 }
 
+// Whether the intervals of a window are in range: at most 16, and their place one of the sixteen.
+fn intervals_ok(gaps: [u32; 16], at: usize, count: usize) -> bool
+    ensures { λ r. ⌜ r ≡ intervalsOk gaps at count ⌝ }
+{
+    if 16 < count {
+        return false;
+    }
+    if 16 <= at {
+        return false;
+    }
+    all_under(gaps, at, count, 0x8000_0000)
+}
+
 pub fn time_ok(time: Moment) -> bool
     ensures { λ r. ⌜ r ≡ timeOk time ⌝ }
 {
@@ -229,15 +242,11 @@ impl Arrivals {
         let gaps = self.gaps;
         let sizes = self.sizes;
         let last = self.last;
-        if 16 < count {
+        if intervals_ok(gaps, at, count) {} else {
             return false;
         }
-        if 16 <= at {
-            return false;
-        }
-        let intervals = all_under(gaps, at, count, 0x8000_0000);
         let lengths = all_under(sizes, at, count, 1457);
-        intervals & lengths & time_ok(last)
+        lengths & time_ok(last)
     }
 }
 
@@ -318,13 +327,7 @@ impl Links {
         let count = self.count;
         let gaps = self.gaps;
         let probe = self.probe;
-        if 16 < count {
-            return false;
-        }
-        if 16 <= at {
-            return false;
-        }
-        let intervals = all_under(gaps, at, count, 0x8000_0000);
+        let intervals = intervals_ok(gaps, at, count);
         intervals & time_ok(probe)
     }
 }

@@ -108,15 +108,21 @@ push-ready h ws bs now p payload e =
       };
     }
 
--- a drop request and a show that nothing refused
-pub drop-ready : (h : Head) (ws : List ℕ) (first last : ℕ) → firstRefusal (dropRules (headOk h) (h .window .capacity) (length ws) first last) ≡ 0 → Good (h .window) ws
-drop-ready h ws first last e =
-    let c = clear (dropRules (headOk h) (h .window .capacity) (length ws) first last) (lit< tt, (lit< tt, (lit< tt, (lit< tt, tt)))) e in
+-- a drop request and a show that nothing refused, by the number that a program has
+pub drop-ready : (h : Head) (ws : List ℕ) (first last : ℕ) {n : ℕ} → n ≡ firstRefusal (dropRules (headOk h) (h .window .capacity) (length ws) first last) → n ≡ 0 → Good (h .window) ws
+drop-ready h ws first last b z =
+    let c = clear (dropRules (headOk h) (h .window .capacity) (length ws) first last) (lit< tt, (lit< tt, (lit< tt, (lit< tt, tt)))) (sym b ∙ z) in
     let r = in-parts h (not-false (headOk h) (c .0)) in
     good (h .window) ws (r .window) (ltb-false (length ws) (3 * h .window .capacity) (c .1 .0))
 
-pub show-ready : (h : Head) (ws : List ℕ) (bytes number : ℕ) → firstRefusal (showRules (headOk h) (h .window .capacity) (length ws) bytes number) ≡ 0 → Good (h .window) ws × (1456 * h .window .capacity ≤ bytes)
-show-ready h ws bytes number e =
-    let c = clear (showRules (headOk h) (h .window .capacity) (length ws) bytes number) (lit< tt, (lit< tt, (lit< tt, (lit< tt, tt)))) e in
-    let r = in-parts h (not-false (headOk h) (c .0)) in
-    (good (h .window) ws (r .window) (ltb-false (length ws) (3 * h .window .capacity) (c .1 .0)), ltb-false bytes (1456 * h .window .capacity) (c .1 .1 .0))
+module _ (h : Head) (ws : List ℕ) (bytes number : ℕ) {n : ℕ} (b : n ≡ firstRefusal (showRules (headOk h) (h .window .capacity) (length ws) bytes number)) (z : n ≡ 0) where
+  pub show-ready : Good (h .window) ws
+  show-ready =
+      let c = clear (showRules (headOk h) (h .window .capacity) (length ws) bytes number) (lit< tt, (lit< tt, (lit< tt, (lit< tt, tt)))) (sym b ∙ z) in
+      let r = in-parts h (not-false (headOk h) (c .0)) in
+      good (h .window) ws (r .window) (ltb-false (length ws) (3 * h .window .capacity) (c .1 .0))
+
+  pub show-bytes : 1456 * h .window .capacity ≤ bytes
+  show-bytes =
+      let c = clear (showRules (headOk h) (h .window .capacity) (length ws) bytes number) (lit< tt, (lit< tt, (lit< tt, (lit< tt, tt)))) (sym b ∙ z) in
+      ltb-false bytes (1456 * h .window .capacity) (c .1 .1 .0)

@@ -10,7 +10,7 @@ use borrow.Author.Tests.{ltb-true, leb-true, le-ltb, lt-leb, not-true}
 use lib.Dec.{ltb, leb}
 use lib.IntN.{ℤ}
 use lib.Signed.{ltZ}
-use Rattle.numbers.specs.Whole.{isReading}
+use Rattle.numbers.specs.Instants.{isReading}
 use Rattle.numbers.proofs.Flags.{impossible}
 use Rattle.window.specs.declared.push.Packet.{Packet}
 use Rattle.head.specs.Rules as rules

@@ -4,7 +4,7 @@ use Prim.Native.Nat.{ℕ, _*_, _%_, _^_}
 use lib.Dec.{ltb, leb}
 use lib.IntN.{ℤ}
 use lib.Signed.{ltZ}
-use Rattle.numbers.specs.Whole.{isReading}
+use Rattle.numbers.specs.Instants.{isReading}
 use Rattle.window.specs.declared.push.Packet.{Packet}
 
 -- head, areas and reading; a capacity in range is its own remainder

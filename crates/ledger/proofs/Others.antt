@@ -102,7 +102,7 @@ module _ (S : ℕ → List ℕ → Type 0) (l : Ledger) (h : Head) (ws bs : List
   drop-stands first last =
       by-refusal (Requested first last) (firstRefusal (dropRules (headOk h) (w .capacity) (length ws) first last)) _ _
       (λ z.
-      let g = drop-ready h ws first last z in
+      let g = drop-ready h ws first last refl z in
       let given = givenIn (endIn l first) (endIn l (sum 31 last 1)) 0 (l .held) in
       let held : map placeOf (entries w (dropOf w ws first last .slots) bs) ≡ given =
       ap (map placeOf) (drop-seen w ws bs g first last)
@@ -130,7 +130,7 @@ module _ (S : ℕ → List ℕ → Type 0) (l : Ledger) (h : Head) (ws bs : List
   drop-counted first last =
       by-refusal (λ (o : DropOutcome). Counts l first last (o .answer)) (firstRefusal (dropRules (headOk h) (w .capacity) (length ws) first last)) _ _
       (λ z.
-      let g = drop-ready h ws first last z in
+      let g = drop-ready h ws first last refl z in
       let n = dropOf w ws first last .count in
       subst (λ (x : List Place). lostCount x ≡ lostCount (givenIn (endIn l first) (endIn l (sum 31 last 1)) 0 x) + n) (a .held)
       (subst (λ (x : ℕ). lostCount (map placeOf es) ≡ lostCount (givenIn x (endIn l (sum 31 last 1)) 0 (map placeOf es)) + n) (end-is first)

@@ -2,7 +2,7 @@
 use mathlib.Core.Path.{_≡_, refl, ap, sym, _∙_}
 use mathlib.Core.Bool.{Bool, true, false, _&&_, cond}
 use mathlib.Core.List.{List, [], _∷_, _++_, map, append-assoc, append-nil}
-use Prim.Native.Nat.{ℕ, zero, suc, _+_, _-_, _*_, _^_, _<_, _≤_}
+use Prim.Native.Nat.{ℕ, zero, suc, _+_, _-_, _^_, _<_, _≤_}
 use native.Mathlib.Omega.{arith}
 use borrow.Author.Tests.{eqb-false, eq-eqb, ne-eqb}
 use lib.Dec.{eqb, ltb, leb}
@@ -10,6 +10,8 @@ use lib.ListN.{length, take, drop, set, replicate, getD}
 use Rattle.numbers.specs.Circular.{sum}
 use Rattle.numbers.proofs.Flags.{by-bool}
 use Rattle.numbers.proofs.Places.{place-one}
+use Rattle.slots.specs.declared.entry.Entry.the-variants.{Lost}
+use Rattle.window_report.specs.Report.{isDue}
 use Rattle.views.specs.Lists.{runOf, changedIn}
 use Rattle.views.specs.View as views
 use Rattle.views.specs.View.{Seen, gapIn}
@@ -101,7 +103,7 @@ given-long from to i (x ∷ xs) = ap suc (given-long from to (suc i) xs)
 
 -- a loss report moves no place
 reported-place : (time mean : ℕ) (e : Seen) → placeOf (views.reportedSeen time mean e) ≡ placeOf e
-reported-place time mean (views.lost k f) = by-bool (ltb (f + k * mean) time) (λ t. rw t) (λ t. rw t)
+reported-place time mean (views.lost k f) = by-bool (isDue time mean (Lost k f)) (λ t. rw t) (λ t. rw t)
 reported-place time mean (views.received l m t b) = refl
 reported-place time mean views.givenUp = refl
 

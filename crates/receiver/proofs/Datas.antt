@@ -46,10 +46,10 @@ too-early e = rw e
 
 -- rate
 pub arrivals-fit : (a : Arrivals) → arrivalsOk a ≡ true → (a .at < 16) × (a .count ≤ 16)
-arrivals-fit a e = let r = arrival-ranges a e in (r .place, r .holds)
+arrivals-fit a e = let r = arrival-ranges a e .intervals in (r .place, r .holds)
 
 pub links-fit : (l : Links) → linksOk l ≡ true → (l .at < 16) × (l .count ≤ 16)
-links-fit l e = let r = link-ranges l e in (r .place, r .holds)
+links-fit l e = let r = link-ranges l e .intervals in (r .place, r .holds)
 
 pub rated : (h : Head) (now : ℤ) (number size : ℕ) {n n₁ : ℤ} {a : Arrivals} {l : Links} {r : Head}
     → a ≡ arrivalOf (h .arrivals) n size → n ≡ now → l ≡ linkOf (h .links) n₁ number → n₁ ≡ now → r ≡ withRates h a l

@@ -7,7 +7,6 @@ use lib.ListN.{length}
 use Rattle.acks.specs.History as histories
 use Rattle.acks.specs.declared.history.History.{History}
 use Rattle.window.specs.Window.{roomOf}
-use Rattle.window.specs.Ready.{Good}
 use Rattle.window_report.specs.Drop as drop
 use Rattle.window_report.specs.Drop.{dropOf}
 use Rattle.head.specs.Rules.{firstRefusal, dropRules, headRules}
@@ -23,9 +22,6 @@ use Rattle.receiver.specs.declared.request.ClearAnswer.the-variants as c
 use Rattle.receiver.specs.declared.request.RoomAnswer.the-variants as rooms
 
 module _ (h : Head) (ws : List ℕ) (first last : ℕ) {n : ℕ} (b : n ≡ firstRefusal (dropRules (headOk h) (h .window .capacity) (length ws) first last)) where
-  pub drop-good : n ≡ 0 → Good (h .window) ws
-  drop-good z = drop-ready h ws first last (sym b ∙ z)
-
   pub drop-taken : {r : ℕ} {ws₁ : List ℕ} → n ≡ 0 → drop.dropEnded r ws₁ ≡ dropOf (h .window) ws first last → dropEnded (drops.Gone r) ws₁ ≡ dropCallOf h ws first last
   unfolding dropCallOf
   drop-taken z e =
@@ -61,4 +57,4 @@ module _ (h : Head) {n : ℕ} (b : n ≡ firstRefusal (headRules (headOk h))) wh
   unfolding roomCallOf
   room-refused z = sym (refused (roomEnded (rooms.Room (roomOf (h .window)))) (λ n. roomEnded (rooms.Refused n)) b z)
 
-pub ruleset requests = (drop-good, drop-taken, drop-refused, empties, clear-taken, clear-refused, room-holds, room-taken, room-refused, needs)
+pub ruleset requests = (drop-ready, drop-taken, drop-refused, empties, clear-taken, clear-refused, room-holds, room-taken, room-refused, needs)

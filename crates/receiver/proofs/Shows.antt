@@ -10,7 +10,6 @@ use denote.Ref.{RefT}
 use lib.Dec.{eqb}
 use lib.ListN.{length}
 use Rattle.numbers.proofs.Flags.{by-test}
-use Rattle.window.specs.Ready.{Good}
 use Rattle.window.specs.Show.{PartOf, ShownAt, nowhere, shownOf}
 use Rattle.window.specs.declared.show.Part.{Part}
 use Rattle.window.proofs.Shows.{shown-within}
@@ -18,14 +17,11 @@ use Rattle.head.specs.Rules.{firstRefusal, showRules}
 use Rattle.head.specs.Head.{headOk}
 use Rattle.head.specs.declared.state.Head.{Head}
 use Rattle.head.proofs.Gates.{taken, refused}
-use Rattle.head.proofs.Ready.{show-ready}
+use Rattle.head.proofs.Ready.{show-ready, show-bytes}
 use Rattle.receiver.specs.Show.{refusalOf, placeCallOf, shownEnded, foundAs, shownCallOf}
 use Rattle.receiver.specs.declared.show.ShowAnswer.the-variants.{Received, Other, Refused}
 
 module _ (h : Head) (ws : List ℕ) (bytes number : ℕ) {n : ℕ} (b : n ≡ firstRefusal (showRules (headOk h) (h .window .capacity) (length ws) bytes number)) where
-  pub show-good : n ≡ 0 → Good (h .window) ws
-  show-good z = show-ready h ws bytes number (sym b ∙ z) .0
-
   pub place-taken : {p : Part} → n ≡ 0 → p ≡ shownOf (h .window) ws number → p ≡ placeCallOf h ws bytes number
   unfolding placeCallOf
   place-taken z e = e ∙ sym (taken (shownOf (h .window) ws number) (λ n. nowhere) b z)
@@ -53,10 +49,12 @@ unfolding placeCallOf
 place-within h ws bytes number e =
     rw e
     (by-test (λ (q : Part). q .at + q .len ≤ bytes) (eqb (refusalOf h ws bytes number) 0) _ _
-    (λ t. let r = show-ready h ws bytes number (eqb-true (refusalOf h ws bytes number) 0 t) in shown-within (h .window) ws number refl (r .0) (r .1))
+    (λ t.
+    let z = eqb-true (refusalOf h ws bytes number) 0 t in
+    shown-within (h .window) ws number refl (show-ready h ws bytes number refl z) (show-bytes h ws bytes number refl z))
     (λ t. omega arith))
 
 pub part-shown : (h : Head) (ws : List ℕ) (bytes number : ℕ) {s r : RefT (List ℕ)} {p : Part} → p ≡ placeCallOf h ws bytes number → PartOf s (p .at) (p .len) r → ShownAt (placeCallOf h ws bytes number) s r
 part-shown h ws bytes number {s} {r} e q = subst (λ (x : Part). ShownAt x s r) e q
 
-pub ruleset shows = (show-good, place-taken, place-refused, is-received, is-other, shown-refused, place-within, part-shown, needs)
+pub ruleset shows = (show-ready, place-taken, place-refused, is-received, is-other, shown-refused, place-within, part-shown, needs)

@@ -2,7 +2,7 @@
 use mathlib.Core.Path.{_≡_, refl, ap, sym, _∙_}
 use mathlib.Core.Bool.{Bool, true, false, _&&_, cond}
 use mathlib.Core.List.{List, [], _∷_, map}
-use Prim.Native.Nat.{ℕ, zero, suc, _+_, _*_, _^_, _<_, _≤_}
+use Prim.Native.Nat.{ℕ, zero, suc, _+_, _^_, _<_, _≤_}
 use native.Mathlib.Omega.{arith}
 use borrow.Author.Tests.{le-leb, lt-leb, lt-ltb, le-ltb}
 use lib.Dec.{ltb, leb}
@@ -40,7 +40,7 @@ module _ (capacity start : ℕ) (ws bs ws₁ : List ℕ) where
 
 -- neither makes an entry received, nor one that was not
 reported-mark : (time mean : ℕ) (e : Seen) → isReceived (reportedSeen time mean e) ≡ isReceived e
-reported-mark time mean (lost k f) = by-bool (ltb (f + k * mean) time) (λ t. rw t) (λ t. rw t)
+reported-mark time mean (lost k f) = by-bool (isDue time mean (Lost k f)) (λ t. rw t) (λ t. rw t)
 reported-mark time mean (received l m t b) = refl
 reported-mark time mean givenUp = refl
 
@@ -62,7 +62,7 @@ gap-given from to i (e ∷ es) = rw (given-mark (leb from i && ltb i to) e, gap-
 
 -- one entry after a report, and one in the range of a drop request
 seen-reported : (time mean s : ℕ) (bs : List ℕ) (e : Entry) → seenOf bs s (cond (isDue time mean e) (Lost (kAfter e) time) e) ≡ reportedSeen time mean (seenOf bs s e)
-seen-reported time mean s bs (Lost k f) = by-bool (ltb (f + k * mean) time) (λ t. rw t) (λ t. rw t)
+seen-reported time mean s bs (Lost k f) = by-bool (isDue time mean (Lost k f)) (λ t. rw t) (λ t. rw t)
 seen-reported time mean s bs (Received n l m t) = refl
 seen-reported time mean s bs GivenUp = refl
 

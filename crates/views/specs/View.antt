@@ -2,8 +2,7 @@
 use mathlib.Core.Path.{_≡_}
 use mathlib.Core.Bool.{Bool, true, false, cond}
 use mathlib.Core.List.{List, [], _∷_, _++_, map}
-use Prim.Native.Nat.{ℕ, zero, suc, _+_, _*_, _<_, _≤_, min}
-use lib.Dec.{ltb}
+use Prim.Native.Nat.{ℕ, zero, suc, _<_, _≤_}
 use lib.ListN.{length, set, take, drop, replicate}
 use Rattle.numbers.specs.Circular.{distance}
 use Rattle.slots.specs.Words.{entryAt}
@@ -19,6 +18,7 @@ use Rattle.window.specs.declared.push.PushAnswer.the-variants as answers
 use Rattle.window_pop.specs.Pop.{PopOutcome}
 use Rattle.window_pop.specs.declared.pop.PopAnswer.{PopAnswer}
 use Rattle.window_pop.specs.declared.pop.PopAnswer.the-variants as pops
+use Rattle.window_report.specs.Report.{isDue, kAfter}
 use Rattle.window_report.specs.declared.report.ReportAnswer.{ReportAnswer}
 use Rattle.window_report.specs.declared.report.ReportAnswer.the-variants as reports
 use Rattle.views.specs.Lists.{runOf, changedIn}
@@ -106,7 +106,7 @@ pub record Handed (w : Window) (es : List Seen) (out : List ℕ) (x : PopOutcome
 
 -- what a loss report does to the list: only k and feedback of lost entries that are due change
 abbrev pub reportedSeen : ℕ → ℕ → Seen → Seen
-reportedSeen time mean (lost k f) = cond (ltb (f + k * mean) time) (lost (min (k + 1) 65535) time) (lost k f)
+reportedSeen time mean (lost k f) = cond (isDue time mean (Lost k f)) (lost (kAfter (Lost k f)) time) (lost k f)
 reportedSeen time mean (received l m t b) = received l m t b
 reportedSeen time mean givenUp = givenUp
 

@@ -6,9 +6,8 @@ pub in-range-spec : {M : Type 1} → statement M
 in-range-spec =
     tie.close
     (tie.spec
-    (λ c. search rateSteps)
-    (λ c. search rateSteps)
     (λ c κs. search rateSteps)
+    (λ c. search rateSteps)
     (λ c κs. search rateSteps)
     (λ c κs. search rateSteps)
     (λ c. search rateSteps))
