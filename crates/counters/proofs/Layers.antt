@@ -23,7 +23,7 @@ use Rattle.receiver.specs.declared.request.DropAnswer.{DropAnswer}
 use Rattle.receiver.specs.declared.request.Cleared.{Cleared}
 use Rattle.receiver.specs.declared.sync.Clocked.{Clocked}
 use Rattle.counts.specs.Counts.{dataCounts, ack2Counts, dropCounts, clockCounts}
-use Rattle.counters.specs.Calls.{Counted, counted, dataCounted, ack2Counted, dropCounted, clockCounted, messageCounted, lossCounted, fullAckCounted, clearCounted}
+use Rattle.counters.specs.Calls.{counted, dataCounted, ack2Counted, dropCounted, clockCounted, messageCounted, lossCounted, fullAckCounted, clearCounted}
 use Rattle.counts.specs.declared.Counters.{Counters}
 
 -- counters by an answer, beside the outcome that has the answer

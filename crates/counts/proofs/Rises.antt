@@ -1,13 +1,12 @@
 -- What the code does at each return that counts, as laws over plain values: a rise is made from a smaller one, and an answer's counters by its case. Assumes nothing.
 use mathlib.Core.Path.{_≡_, refl, _∙_}
 use mathlib.Core.Bool.{Bool, true, false, _&&_}
-use mathlib.Core.List.{List, [], _∷_}
+use mathlib.Core.List.{[], _∷_}
 use Prim.Native.Nat.{ℕ, _+_, _%_, _^_}
 use borrow.Author.Needs.{needs}
 use borrow.Author.Tests.{ne-eqb}
 use denote.Enum.Declared.{tagOf}
-use lib.Dec.{eqb, leb}
-use lib.Ieee.{Float}
+use lib.Dec.{leb}
 use lib.IntN.{ℤ}
 use types.Run.{OneOf, miss}
 use Rattle.numbers.specs.Circular.{sum}

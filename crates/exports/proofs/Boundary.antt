@@ -34,7 +34,7 @@ use Rattle.receiver.specs.declared.request.Cleared.{Cleared}
 use Rattle.receiver.specs.declared.show.ShowAnswer.{ShowAnswer}
 use Rattle.receiver.specs.declared.sync.Clocked.{Clocked}
 use Rattle.counts.specs.declared.Counters.{Counters}
-use Rattle.counters.specs.Calls.{counted, dataCounted, ack2Counted, dropCounted, clockCounted}
+use Rattle.counters.specs.Calls.{counted, ack2Counted, dropCounted, clockCounted}
 use Rattle.packing.specs.Packed.{packOf, unpackOf}
 use Rattle.packing.specs.Tally.{countersWords, countersOf}
 use Rattle.cells.specs.Cells.{cellsOf, countLine, lossCells, shownCells, madeCells}
@@ -42,7 +42,7 @@ use Rattle.cells.proofs.Answers.{count-refusal}
 use Rattle.counts.specs.Counts.{dataCounts}
 use Rattle.inplace.specs.Calls.{PopIn, popIn, messageIn, DataLeft, dataLeft, dataAfter, dataIn}
 use Rattle.inplace.proofs.Says.{message-says, data-says}
-use Rattle.exports.specs.Calls.{Left, left, kept, saying, fromMade, fromData, fromMessage, fromLoss, fromFullAck, fromAck2, fromClock, fromClear, fromDrop, fromRoom, counting, newOf, dataExportOf, messageExportOf, lossExportOf, fullAckExportOf, ack2ExportOf, dropExportOf, clockExportOf, clearExportOf, roomExportOf, showExportOf, dataCountedOf, ack2CountedOf, dropCountedOf, clockCountedOf}
+use Rattle.exports.specs.Calls.{Left, left, kept, saying, fromMade, fromData, fromLoss, fromFullAck, fromAck2, fromClock, fromClear, fromDrop, fromRoom, counting, newOf, dataExportOf, messageExportOf, lossExportOf, fullAckExportOf, ack2ExportOf, dropExportOf, clockExportOf, clearExportOf, roomExportOf, showExportOf, dataCountedOf, ack2CountedOf, dropCountedOf, clockCountedOf}
 
 -- keep
 pub keeps : (ws : List ℕ) (n : ℕ) (h : Head) {vs : List ℕ} → n ≡ 0 → vs ≡ packOf h → vs ≡ kept ws n h

@@ -1,16 +1,11 @@
 -- What the code of state.rt does at each return, and what a head in range has shown. Assumes nothing.
-use mathlib.Core.Path.{_≡_, refl, sym, _∙_, ap}
-use mathlib.Core.Bool.{Bool, true, false, _&&_}
-use mathlib.Core.List.{List}
-use Prim.Native.Nat.{ℕ, _*_, _^_, _<_, _≤_}
-use native.Mathlib.Omega.{arith}
+use mathlib.Core.Path.{_≡_, sym, _∙_, ap}
+use mathlib.Core.Bool.{Bool, false, _&&_}
+use Prim.Native.Nat.{ℕ}
 use borrow.Author.Needs.{needs}
-use borrow.Author.Tests.{eq-eqb, ne-eqb, leb-true, ltb-true}
-use lib.Dec.{leb, ltb}
+use lib.Dec.{leb}
 use lib.IntN.{ℤ, pos}
-use lib.ListN.{length}
 use Rattle.numbers.specs.Instants.{isReading}
-use Rattle.numbers.proofs.Flags.{and-left, and-right}
 use Rattle.clock.specs.Sync.{freshClock}
 use Rattle.clock.specs.Ranges.{clockOk}
 use Rattle.clock.specs.declared.time.SynchronizedRemoteClock.{SynchronizedRemoteClock}
@@ -21,8 +16,6 @@ use Rattle.acks.specs.declared.rtt.Rtt.{Rtt}
 use Rattle.acks.specs.declared.rates.Arrivals.{Arrivals}
 use Rattle.acks.specs.declared.rates.Links.{Links}
 use Rattle.acks.specs.declared.history.History.{History}
-use Rattle.window.specs.Ready.{Good}
-use Rattle.window.specs.declared.Window.{Window}
 use Rattle.head.specs.Rules.{firstRefusal, makeRules}
 use Rattle.head.specs.Head.{headOk, freshHead, madeOf}
 use Rattle.window.specs.Window.{windowOk}

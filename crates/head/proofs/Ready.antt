@@ -1,35 +1,30 @@
 -- What a head in range, and a call that nothing refused, have shown: the facts that the layers below ask for. Assumes nothing.
-use mathlib.Core.Path.{_≡_, refl, sym, _∙_, ap}
-use mathlib.Core.Bool.{Bool, true, false, not, _&&_}
+use mathlib.Core.Path.{_≡_, sym, _∙_}
+use mathlib.Core.Bool.{true, _&&_}
 use mathlib.Core.List.{List}
-use Prim.Native.Nat.{ℕ, _+_, _-_, _*_, _^_, _<_, _≤_}
+use Prim.Native.Nat.{ℕ, _-_, _*_, _^_, _<_, _≤_}
 use borrow.Author.Tests.{leb-true, leb-false, ltb-false, not-false}
 use lib.Dec.{leb, lit<}
-use lib.IntN.{ℤ, natAbs}
+use lib.IntN.{ℤ}
 use lib.ListN.{length}
-use lib.Signed.{ltZ}
 use Rattle.numbers.specs.Instants.{isReading}
 use Rattle.numbers.proofs.Flags.{and-left, and-right}
-use Rattle.numbers.proofs.Signs.{reading-size}
-use Rattle.clock.specs.Ready.{Ready}
 use Rattle.clock.specs.Ranges.{clockOk}
-use Rattle.clock.proofs.Ranges.{ready, ranges, reference-size}
+use Rattle.clock.proofs.Ranges.{ready, ranges}
 use Rattle.acks.specs.Rtt.{rttOk}
 use Rattle.acks.specs.Rates.{arrivalsOk, linksOk}
-use Rattle.acks.specs.History.{historyOk, newestOf}
-use Rattle.acks.specs.Ready.{HistoryReady}
-use Rattle.window.specs.Ready.{Good, Bytes}
+use Rattle.acks.specs.History.{historyOk}
+use Rattle.window.specs.Ready.{Good}
 use Rattle.window.specs.Window.{windowOk}
-use Rattle.window.specs.Push as push
 use Rattle.window.specs.declared.Window.{Window}
 use Rattle.window.specs.declared.push.Packet.{Packet}
 use Rattle.window.proofs.Ranges.{in-window}
 use Rattle.window_pop.specs.Ready.{PopReady}
-use Rattle.head.specs.Rules.{Rule, firstRefusal, pushRules, popRules, timedRules, dropRules, showRules, clockRules, headRules}
+use Rattle.head.specs.Rules.{firstRefusal, pushRules, popRules, timedRules, dropRules, showRules, clockRules, headRules}
 use Rattle.head.specs.Head.{headOk}
 use Rattle.head.specs.Ready.{InRange, Timed, PushReady}
 use Rattle.head.specs.declared.state.Head.{Head}
-use Rattle.head.proofs.Gates.{Clear, clear}
+use Rattle.head.proofs.Gates.{clear}
 
 -- the parts of a head in range
 pub in-parts : (h : Head) → headOk h ≡ true → InRange h

@@ -1,8 +1,8 @@
 -- What the code of data.rt does at each return, as laws over plain values. Assumes nothing.
 use mathlib.Core.Path.{_≡_, refl, sym, _∙_, ap}
-use mathlib.Core.Bool.{Bool, true, false, cond, _&&_}
+use mathlib.Core.Bool.{Bool, true, false, cond}
 use mathlib.Core.List.{List, [], _∷_}
-use Prim.Native.Nat.{ℕ, zero, suc, _+_, _%_, _<_, _≤_}
+use Prim.Native.Nat.{ℕ, zero, suc, _+_, _%_, _<_}
 use denote.Enum.Declared.{tagOf}
 use types.Run.{OneOf, miss}
 use native.Mathlib.Omega.{arith}
@@ -14,15 +14,13 @@ use lib.ListN.{length, set}
 use Rattle.numbers.proofs.Flags.{by-bool}
 use Rattle.numbers.specs.declared.instant.Moment.{Moment}
 use Rattle.numbers.specs.declared.instant.Moment.the-variants.{Unset, At}
-use Rattle.numbers.specs.Instants.{isReading}
 use Rattle.acks.specs.Rates as rates
-use Rattle.acks.specs.Rates.{sinceTime, nextPlace, countAfter, arrivedAfter, arrivedFirst, arrivalOf, withProbe, paired, pairedSince, pairOf, linkOf}
+use Rattle.acks.specs.Rates.{sinceTime, nextPlace, countAfter, arrivedFirst, arrivalOf, withProbe, pairedSince, pairOf, linkOf}
 use Rattle.acks.specs.History.{lightAckOf}
 use Rattle.acks.specs.declared.history.History.{History}
 use Rattle.acks.specs.declared.history.LightAcked.{LightAcked}
 use Rattle.acks.specs.declared.rates.Arrivals.{Arrivals}
 use Rattle.acks.specs.declared.rates.Links.{Links}
-use Rattle.window.specs.Ready.{Good, Bytes, PacketRight}
 use Rattle.window.specs.Push.{PushOutcome, pushEnded, pushOf}
 use Rattle.window.specs.declared.Window.{Window}
 use Rattle.window.proofs.push.PushAnswer.{the-type}
@@ -31,13 +29,13 @@ use Rattle.window.specs.declared.push.Pushed.{Pushed}
 use Rattle.window.specs.declared.push.PushAnswer.{PushAnswer}
 use Rattle.window.specs.declared.push.PushAnswer.the-variants as pushes
 use Rattle.head.specs.Rules as rules
-use Rattle.head.specs.Rules.{firstRefusal, judged, pushRules}
+use Rattle.head.specs.Rules.{firstRefusal, pushRules}
 use Rattle.head.specs.Head.{headOk}
 use Rattle.head.specs.Parts.{withRates}
 use Rattle.head.specs.declared.state.Head.{Head}
 use Rattle.head.specs.Ready.{PushReady}
 use Rattle.head.proofs.Ready.{push-ready}
-use Rattle.receiver.specs.Data.{pushRefused, gotAnswer, placedOf, ackedOf, ratedOf, gotOf, afterPush, takenOf, dataCallOf, packet}
+use Rattle.receiver.specs.Data.{pushRefused, gotAnswer, placedOf, ackedOf, ratedOf, gotOf, afterPush, takenOf, dataCallOf}
 use Rattle.receiver.proofs.Datas.{arrivals-fit, links-fit, reading-under}
 use Rattle.receiver.specs.Paper.{dataLine}
 use Rattle.receiver.specs.declared.data.DataAnswer.{DataAnswer}

@@ -1,4 +1,5 @@
--- The laws of calls on words, a file each for sound.rt, message.rt and data.rt; and `Says`, that the words after a call say the head that it ended with.
+-- The laws of calls on words: sound.rt (`Quick`: its quick test), message.rt (`Singles`: a message of one packet), data.rt and clear.rt; and `Says`, that the words after a
+-- call say the head that it ended with.
 pub mod Sounds
 pub mod Quick
 pub mod Messages

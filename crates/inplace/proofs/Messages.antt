@@ -1,37 +1,36 @@
 -- What the code of message.rt does at each return, as laws over plain values. Assumes nothing.
 use mathlib.Core.Path.{_≡_, refl, sym, _∙_, ap}
-use mathlib.Core.Bool.{Bool, true, false, cond}
+use mathlib.Core.Bool.{Bool, true}
 use mathlib.Core.List.{List, [], _∷_}
-use Prim.Native.Nat.{ℕ, _^_, _<_}
+use Prim.Native.Nat.{ℕ}
 use denote.Enum.Declared.{tagOf}
 use types.Run.{OneOf, miss}
 use native.Mathlib.Omega.{arith}
 use borrow.Author.Needs.{needs}
-use borrow.Author.Tests.{ne-eqb, eq-eqb}
-use lib.Dec.{eqb}
+use borrow.Author.Tests.{ne-eqb}
 use lib.IntN.{ℤ}
 use lib.ListN.{length, set}
-use Rattle.numbers.proofs.Flags.{by-bool, impossible}
+use Rattle.numbers.proofs.Flags.{by-bool}
 use Rattle.clock.specs.declared.time.SynchronizedRemoteClock.{SynchronizedRemoteClock}
 use Rattle.window.specs.declared.Window.{Window}
-use Rattle.window_pop.specs.Pop.{PopOutcome, popEnded, popOf}
+use Rattle.window_pop.specs.Pop.{popEnded, popOf}
 use Rattle.window_pop.specs.Ready.{PopReady}
 use Rattle.window_pop.proofs.pop.PopAnswer.{the-type}
 use Rattle.window_pop.specs.declared.pop.Popped.{Popped}
 use Rattle.window_pop.specs.declared.pop.PopAnswer.{PopAnswer}
 use Rattle.window_pop.specs.declared.pop.PopAnswer.the-variants as pops
 use Rattle.head.specs.Rules as rules
-use Rattle.head.specs.Rules.{firstRefusal, judged, popRules}
-use Rattle.head.specs.Head.{headOk, freshHead}
+use Rattle.head.specs.Rules.{firstRefusal, popRules}
+use Rattle.head.specs.Head.{headOk}
 use Rattle.head.specs.declared.state.Head.{Head}
 use Rattle.head.proofs.Ready.{pop-ready}
-use Rattle.receiver.specs.Message.{poppedOf, answerOf, headAfter, popped, takenOf, popCallOf, messageEnded}
+use Rattle.receiver.specs.Message.{poppedOf, answerOf, headAfter, popped, takenOf, popCallOf}
 use Rattle.receiver.specs.Paper.{messageLine}
 use Rattle.receiver.specs.declared.message.MessageAnswer.{MessageAnswer}
 use Rattle.receiver.specs.declared.message.MessageAnswer.the-variants as answers
 use Rattle.packing.specs.Words.{wordOf, wholeOf, numberOf, flagOf}
 use Rattle.packing.specs.Packed as packed
-use Rattle.packing.specs.Packed.{at, windowOf, clockOf, headOf, formed, nowhere, packOf, unpackOf}
+use Rattle.packing.specs.Packed.{at, windowOf, clockOf, headOf, formed, packOf, unpackOf}
 use Rattle.packing.specs.Puts.{putWindow, putBase, putStats}
 use Rattle.packing.proofs.Undo.{pack-unpack}
 use Rattle.inplace.proofs.Sounds.{no-range}

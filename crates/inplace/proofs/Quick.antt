@@ -1,15 +1,15 @@
 -- What the quick test of sound.rt finds in range is in range. Assumes nothing.
-use mathlib.Core.Path.{_≡_, refl, sym, _∙_, ap}
+use mathlib.Core.Path.{_≡_, refl, sym, _∙_}
 use mathlib.Core.Bool.{Bool, true, false, _&&_}
 use mathlib.Core.List.{List}
 use Prim.Native.Nat.{ℕ, zero, suc, _+_, _-_, _*_, _%_, _^_, _<_, _≤_}
 use native.Mathlib.Nat.{mod-eq-of-lt}
 use native.Mathlib.Omega.{arith}
 use borrow.Author.Needs.{needs}
-use borrow.Author.Tests.{ltb-true, leb-true, lt-ltb, le-leb, eq-eqb}
+use borrow.Author.Tests.{ltb-true, leb-true, lt-ltb, le-leb}
 use lib.Bits.{bitOr}
 use lib.Dec.{ltb, leb}
-use lib.IntN.{ℤ, pos}
+use lib.IntN.{pos}
 use Rattle.numbers.proofs.Flags.{impossible}
 use Rattle.numbers.proofs.Signs.{signed-low}
 use Rattle.numbers.specs.Instants.{isReading}
@@ -20,7 +20,7 @@ use Rattle.acks.specs.Rates.{timeOk}
 use Rattle.acks.specs.History.{historyOk}
 use Rattle.window.specs.Window.{windowOk}
 use Rattle.head.specs.Head.{headOk}
-use Rattle.packing.specs.Words.{wholeOf, numberOf, momentOf, numberFormed, flagFormed, floatFormed, momentFormed}
+use Rattle.packing.specs.Words.{wholeOf, numberOf, momentOf, floatFormed, momentFormed}
 use Rattle.packing.specs.Packed.{at, windowOf, clockOf, rttOf, historyOf, firstFormed, lastFormed, unpackOf}
 use Rattle.packing.proofs.Floats.{nan-low}
 use Rattle.inplace.proofs.Sounds.{or-left, or-right, placesOk, partsOk, sound-quick, sound-slow}

@@ -1,25 +1,23 @@
 -- The words after a data packet or a pop say the head that the call ended with, so that the next call begins with it: whatever words the first call began
 -- with, that head fits its machine types. Assumes nothing.
-use mathlib.Core.Path.{_≡_, refl, sym, _∙_, ap, subst}
-use mathlib.Core.Bool.{Bool, true, false, _&&_, not, cond}
-use mathlib.Core.List.{List, [], _∷_}
-use Prim.Native.Nat.{ℕ, zero, suc, _+_, _-_, _%_, _*_, _^_, _<_, _≤_}
+use mathlib.Core.Path.{_≡_, refl, sym, _∙_, subst}
+use mathlib.Core.Bool.{Bool, true, false, _&&_, cond}
+use mathlib.Core.List.{List}
+use Prim.Native.Nat.{ℕ, zero, suc, _+_, _-_, _%_, _^_, _<_, _≤_}
 use native.Mathlib.Nat.{mod-lt}
 use native.Mathlib.Omega.{arith}
 use borrow.Author.Tests.{ltb-true, leb-true, eqb-true, eqb-false, not-false}
-use lib.Dec.{T, eqb, ltb, leb, lit<}
+use lib.Dec.{eqb, ltb, leb, lit<}
 use lib.Ieee.{binary64}
 use lib.Ieee.Bits.{ofBits-fits}
 use lib.IntN.{ℤ, pos, negsuc, natAbs}
-use lib.ListN.{length, getD, set, length-set}
+use lib.ListN.{length, set, length-set}
 use lib.Seq.{getD-set-same, getD-set-other}
-use lib.Signed.{mag, leZ}
-use Rattle.numbers.specs.Instants.{isReading}
 use Rattle.numbers.specs.declared.instant.Moment.{Moment}
 use Rattle.numbers.specs.declared.instant.Moment.the-variants.{Unset, At}
-use Rattle.numbers.proofs.Flags.{and-left, and-right, by-bool, by-test, by-order, impossible}
+use Rattle.numbers.proofs.Flags.{and-left, and-right, by-bool, by-test, by-order}
 use Rattle.numbers.proofs.Signs.{reading-size}
-use Rattle.clock.specs.Ranges.{clockOk, lastOk}
+use Rattle.clock.specs.Ranges.{lastOk}
 use Rattle.clock.specs.Release.{releaseOf}
 use Rattle.clock.specs.declared.time.SynchronizedRemoteClock.{SynchronizedRemoteClock}
 use Rattle.clock.proofs.Ranges.{ranges, reference-size}
@@ -47,7 +45,6 @@ use Rattle.window_pop.proofs.PopLaws.{pop-cases}
 use Rattle.head.specs.Rules.{firstRefusal, popRules, pushRules}
 use Rattle.head.specs.Head as heads
 use Rattle.head.specs.Head.{headOk}
-use Rattle.window.specs.Window.{windowOk}
 use Rattle.head.specs.declared.state.Head.{Head}
 use Rattle.head.proofs.Gates.{clear}
 use Rattle.head.proofs.Ready.{in-parts, push-ready}
@@ -62,7 +59,6 @@ use Rattle.receiver.specs.Message.{MessageOutcome, headAfter, takenOf, popCallO
 use Rattle.kept.proofs.DataKept.{data-kept}
 use Rattle.kept.proofs.Parts.{from-parts}
 use Rattle.kept.proofs.TimedKept.{message-kept}
-use Rattle.packing.specs.Words.{numberOf, floatOf}
 use Rattle.packing.specs.Packed.{at, sixteenOf, numbersFormed, formed, headOf, nowhere, packOf, unpackOf}
 use Rattle.packing.specs.Holds.{Number, Whole, Time, Numbers, Double, RttHolds, HistoryHolds, Holds}
 use Rattle.packing.proofs.Undo.{unpack-pack}

@@ -2,11 +2,11 @@
 use mathlib.Core.Path.{_≡_, refl, sym, _∙_, ap}
 use mathlib.Core.Bool.{Bool, true, false, not, _&&_}
 use mathlib.Core.List.{List}
-use Prim.Native.Nat.{ℕ, zero, suc, _+_, _-_, _*_, _^_, _<_, _≤_}
+use Prim.Native.Nat.{ℕ, suc, _+_, _-_, _*_, _^_, _<_, _≤_}
 use native.Mathlib.Omega.{arith}
 use borrow.Author.Needs.{needs}
 use borrow.Author.Tests.{lt-ltb, ltb-true, ltb-false, not-true, eq-eqb}
-use lib.Dec.{eqb, ltb}
+use lib.Dec.{ltb}
 use lib.IntN.{ℤ, natAbs}
 use lib.ListN.{length, set}
 use lib.Seq.{paste}
@@ -14,8 +14,7 @@ use lib.Signed.{ltZ}
 use Rattle.numbers.proofs.Flags.{impossible, and-left, and-right}
 use Rattle.numbers.specs.declared.instant.Moment.{Moment}
 use Rattle.clock.specs.Release as releases
-use Rattle.clock.specs.Release.{laterOf, releaseOf}
-use Rattle.clock.specs.Base.{instantOf}
+use Rattle.clock.specs.Release.{releaseOf}
 use Rattle.clock.specs.declared.base.TimeBase.{TimeBase}
 use Rattle.clock.specs.declared.stats.OnlineStats.{OnlineStats}
 use Rattle.clock.specs.declared.time.Release.{Release}
@@ -26,10 +25,9 @@ use Rattle.slots.specs.declared.entry.Entry.{Entry}
 use Rattle.slots.specs.declared.entry.Entry.the-variants.{Lost, Received, GivenUp}
 use Rattle.slots.proofs.Laws.{slot-zero, length-read}
 use Rattle.window.specs.Window.{entryIn, cut}
-use Rattle.window.specs.Ready.{Good, Bytes}
+use Rattle.window.specs.Ready.{Good}
 use Rattle.window.specs.declared.Window.{Window}
-use Rattle.window_pop.specs.Ready.{PopReady}
-use Rattle.window_pop.specs.Pop.{PopOutcome, popEnded, runFrom, messageOf, filled, dueOf, popOf}
+use Rattle.window_pop.specs.Pop.{popEnded, runFrom, messageOf, filled, dueOf, popOf}
 use Rattle.window_pop.specs.Pop as pop
 use Rattle.window_pop.specs.declared.pop.Message.{Message}
 use Rattle.window_pop.specs.declared.pop.PopAnswer.the-variants as pops
@@ -43,7 +41,7 @@ use Rattle.packing.proofs.Undo.{pack-unpack}
 use Rattle.inplace.proofs.Messages.{says-head, take-ready, take-is}
 use Rattle.inplace.specs.Sound.{Typed}
 use Rattle.inplace.specs.Calls.{PopIn, popIn}
-use Rattle.inplace.specs.Pops.{putPopped, settledBy, releasedOf, isSingle, releaseTime, putSingle, Single, singleOf, Fronted, isUsual, Usual, usualOf, Popping, messageTaken}
+use Rattle.inplace.specs.Pops.{putPopped, releasedOf, isSingle, releaseTime, putSingle, Single, singleOf, Fronted, isUsual, Usual, usualOf, Popping, messageTaken}
 
 -- is_single
 module _ (w : Window) (base : TimeBase) (latency : ℕ) (slots : List ℕ) (room : ℕ) (now : ℤ) where

@@ -1,35 +1,27 @@
 -- What the code of sound.rt does at each return, as laws over plain values. Assumes nothing.
 use mathlib.Core.Path.{_≡_, refl, sym, _∙_, ap}
 use mathlib.Core.Bool.{Bool, true, false, _&&_, cond, and-true}
-use mathlib.Core.List.{List, [], _∷_}
+use mathlib.Core.List.{List}
 use Prim.Native.Nat.{ℕ, zero, suc, _+_, _-_, _%_, _^_, _<_, _≤_}
 use native.Mathlib.Nat.{mod-lt, mod-le, mod-eq-of-lt}
 use native.Mathlib.Numerals.{add-one}
 use native.Mathlib.Omega.{arith}
 use borrow.Author.Needs.{needs}
 use borrow.Author.Tests.{lt-ltb, ltb-true}
-use lib.Bits.{bitOr, bitAnd, or-add-and, and-le-l, and-le-r}
+use lib.Bits.{bitOr, or-add-and, and-le-l, and-le-r}
 use lib.Dec.{ltb, leb}
-use lib.IntN.{ℤ, pos}
 use lib.ListN.{getD}
-use Rattle.numbers.proofs.Flags.{by-bool, by-order, and-left, and-right}
+use Rattle.numbers.proofs.Flags.{by-order, and-left, and-right}
 use Rattle.clock.specs.Ranges.{clockOk}
 use Rattle.acks.specs.Rtt.{rttOk}
 use Rattle.acks.specs.Rates.{placeBefore, windowOf as windowFrom, allUnder, arrivalsOk, linksOk, timeOk}
 use Rattle.acks.specs.History.{historyOk}
-use Rattle.numbers.specs.declared.instant.Moment.{Moment}
-use Rattle.clock.specs.declared.time.SynchronizedRemoteClock.{SynchronizedRemoteClock}
-use Rattle.acks.specs.declared.history.History.{History}
-use Rattle.acks.specs.declared.rates.Arrivals.{Arrivals}
-use Rattle.acks.specs.declared.rates.Links.{Links}
-use Rattle.acks.specs.declared.rtt.Rtt.{Rtt}
-use Rattle.window.specs.declared.Window.{Window}
 use Rattle.head.specs.declared.state.Head.{Head}
 use Rattle.head.specs.Head.{headOk, freshHead}
 use Rattle.window.specs.Window.{windowOk}
 use Rattle.numbers.specs.Instants.{isReading}
-use Rattle.packing.specs.Words.{numberOf, numberFormed, wholeOf, momentOf}
-use Rattle.packing.specs.Packed.{at, sixteen, sixteenOf, numbersFormed, firstFormed, ratesFormed, lastFormed, formed, windowOf, clockOf, rttOf, arrivalsOf, linksOf, historyOf, headOf, nowhere, unpackOf}
+use Rattle.packing.specs.Words.{numberOf, wholeOf, momentOf}
+use Rattle.packing.specs.Packed.{at, sixteenOf, numbersFormed, firstFormed, ratesFormed, lastFormed, formed, windowOf, clockOf, rttOf, arrivalsOf, linksOf, historyOf, headOf, nowhere, unpackOf}
 use Rattle.inplace.specs.Sound.{bitsTo, raisedTo, allSmall}
 
 -- bits, raised_bits

@@ -1,5 +1,5 @@
--- The definitions of calls on a head's words: `Calls` says what each leaves, and is what a reader must believe; `Sound`, `Pops` and `Pushes` say how the
--- code goes.
+-- The definitions of calls on a head's words: `Calls` says what each leaves, and is what a reader must believe; `Sound`, `Clear`, `Pops` and `Pushes` say how
+-- the code goes.
 pub mod Sound
 pub mod Clear
 pub mod Calls

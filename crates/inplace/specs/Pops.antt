@@ -23,7 +23,7 @@ use Rattle.window_pop.specs.declared.pop.PopAnswer.{PopAnswer}
 use Rattle.window_pop.specs.declared.pop.PopAnswer.the-variants as pops
 use Rattle.head.specs.Rules.{firstRefusal, popRules}
 use Rattle.head.specs.Head.{headOk}
-use Rattle.receiver.specs.Message.{answerOf, takenOf}
+use Rattle.receiver.specs.Message.{takenOf}
 use Rattle.receiver.specs.declared.message.MessageAnswer.{MessageAnswer}
 use Rattle.receiver.specs.declared.message.MessageAnswer.the-variants as answers
 use Rattle.packing.specs.Words.{wordOf, wholeOf, numberOf, flagOf, momentOf}

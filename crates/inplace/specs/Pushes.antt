@@ -20,7 +20,7 @@ use Rattle.window.specs.declared.push.PushAnswer.{PushAnswer}
 use Rattle.window.specs.declared.push.PushAnswer.the-variants as pushes
 use Rattle.head.specs.Rules.{firstRefusal, pushRules}
 use Rattle.head.specs.Head.{headOk}
-use Rattle.receiver.specs.Data.{pushRefused, gotAnswer, takenOf}
+use Rattle.receiver.specs.Data.{gotAnswer, takenOf}
 use Rattle.receiver.specs.declared.data.DataAnswer.{DataAnswer}
 use Rattle.receiver.specs.declared.data.DataAnswer.the-variants as answers
 use Rattle.packing.specs.Words.{wordOf, wholeOf, momentOf}

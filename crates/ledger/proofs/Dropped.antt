@@ -1,13 +1,11 @@
 -- A drop request counts the places that it gives up: 01, "become given up (words 2, 0, 0) and are counted". Assumes nothing.
-use mathlib.Core.Path.{_≡_, refl, ap, sym, _∙_, subst}
+use mathlib.Core.Path.{_≡_, refl, ap, sym, _∙_}
 use mathlib.Core.Bool.{Bool, true, false, _&&_, cond}
-use mathlib.Core.List.{List, [], _∷_, map}
-use Prim.Native.Nat.{ℕ, zero, suc, _+_, _-_, _*_, _<_, _≤_}
+use mathlib.Core.List.{List, _∷_, map}
+use Prim.Native.Nat.{ℕ, zero, suc, _+_, _-_, _≤_}
 use native.Mathlib.Omega.{arith}
 use borrow.Author.Tests.{le-leb, lt-leb, lt-ltb, le-ltb}
 use lib.Dec.{ltb, leb}
-use lib.ListN.{length}
-use Rattle.numbers.specs.Circular.{sum}
 use Rattle.numbers.proofs.Flags.{by-bool, by-order}
 use Rattle.slots.specs.Words as words
 use Rattle.slots.specs.Words.{entryAt}
@@ -21,8 +19,8 @@ use Rattle.window_report.specs.Drop.{dropFrom, dropTo, dropOf}
 use Rattle.window_report.specs.Drop.{lostAmong}
 use Rattle.window_report.proofs.DropLaws.{drop-counts}
 use Rattle.views.specs.Lists.{changedIn}
-use Rattle.views.specs.View.{Seen, seenOf, entriesFrom, entries}
-use Rattle.ledger.specs.Ledger.{Place, lost, received, givenUp, gaveUp, givenIn, lostCount}
+use Rattle.views.specs.View.{seenOf, entriesFrom, entries}
+use Rattle.ledger.specs.Ledger.{Place, gaveUp, givenIn, lostCount}
 use Rattle.ledger.specs.Runs.{placeOf}
 
 abbrev one : Bool → ℕ

@@ -1,7 +1,7 @@
 -- The ledger by example, computed from its definitions: 01's worked example, a late drop over the wrap, a drop request. Assumes nothing.
 use mathlib.Core.Path.{_≡_, refl}
 use mathlib.Core.Bool.{true, false}
-use mathlib.Core.List.{List, [], _∷_}
+use mathlib.Core.List.{[], _∷_}
 use Prim.Native.Nat.{ℕ}
 use lib.IntN.{pos}
 use Rattle.numbers.specs.Circular.{distance, equal, after, before, saturating, sum}
@@ -10,7 +10,6 @@ use Rattle.receiver.specs.declared.message.MessageAnswer.the-variants as messag
 use Rattle.receiver.specs.declared.request.DropAnswer.the-variants as drops
 use Rattle.step.specs.declared.Call.{Call}
 use Rattle.step.specs.declared.Call.the-variants as calls
-use Rattle.step.specs.declared.Answer.{Answer}
 use Rattle.step.specs.declared.Answer.the-variants as answers
 use Rattle.views.specs.Lists.{changedIn}
 use Rattle.ledger.specs.Ledger.{lost, received, givenUp, released, discarded, Ledger, opened, numberOf, frontOf, nextOf, marked, enter}

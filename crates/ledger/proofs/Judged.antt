@@ -2,13 +2,13 @@
 use mathlib.Core.Path.{_≡_, refl, ap, sym, _∙_, subst}
 use mathlib.Core.Bool.{Bool, true, false}
 use mathlib.Core.List.{List, [], _∷_, _++_, map}
-use mathlib.Core.Logic.{_⊎_, inl, inr}
+use mathlib.Core.Logic.{inl, inr}
 use Prim.Native.Nat.{ℕ, zero, suc, _+_, _-_, _^_, _<_, _≤_}
 use native.Mathlib.Nat.{mod-eq-of-lt}
 use native.Mathlib.Omega.{arith}
 use borrow.Author.Tests.{ltb-true}
 use lib.Dec.{ltb}
-use lib.IntN.{ℤ, natAbs}
+use lib.IntN.{ℤ}
 use lib.ListN.{length, getD, set}
 use Rattle.numbers.specs.Circular.{distance, before, after, sum}
 use Rattle.numbers.proofs.Flags.{impossible, and-left}
@@ -33,7 +33,7 @@ use Rattle.receiver.specs.declared.data.DataAnswer.the-variants as datas
 use Rattle.views.specs.View as views
 use Rattle.views.specs.View.{Seen, seenOf, seenAt, entries, LrsnRight, packetSeen}
 use Rattle.views.proofs.Lists.{entries-at}
-use Rattle.ledger.specs.Ledger.{Place, lost, received, givenUp, Ledger, numberOf, frontOf, nextOf}
+use Rattle.ledger.specs.Ledger.{Place, lost, givenUp, Ledger, numberOf, frontOf, nextOf}
 use Rattle.ledger.specs.Runs.{placeOf}
 use Rattle.ledger.specs.Seen.{appends, recovers, isLoss, LossIs}
 use Rattle.ledger.specs.Claims.{Judges}

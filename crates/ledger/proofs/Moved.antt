@@ -1,17 +1,17 @@
 -- What one call must keep of the ledger, and that each kind of change keeps it. Assumes nothing.
 use mathlib.Core.Path.{_≡_, ap, sym, _∙_, subst}
-use mathlib.Core.List.{List, [], _∷_, _++_, map, append-assoc, append-nil}
-use Prim.Native.Nat.{ℕ, _+_, _-_, _^_, _<_, _≤_}
+use mathlib.Core.List.{List, [], _++_, map, append-nil}
+use Prim.Native.Nat.{ℕ, _+_, _-_, _≤_}
 use native.Mathlib.Omega.{arith}
 use lib.ListN.{length, length-append, length-map, length-drop, take, drop}
 use lib.Seq.{length-take-le}
-use Rattle.numbers.specs.Circular.{distance, sum}
+use Rattle.numbers.specs.Circular.{sum}
 use Rattle.numbers.proofs.Circle.{sum-sum}
 use Rattle.window.specs.Window.{numberIn}
 use Rattle.window.specs.declared.Window.{Window}
 use Rattle.views.specs.View.{Seen, gapIn, LrsnRight, entries}
 use Rattle.views.proofs.Lists.{entries-length}
-use Rattle.ledger.specs.Ledger.{Place, lost, received, Fate, released, discarded, Ledger, numberOf, frontOf, nextOf, leave, receivedRun, releasedBytes}
+use Rattle.ledger.specs.Ledger.{Place, Fate, Ledger, numberOf, frontOf, nextOf, leave, receivedRun, releasedBytes}
 use Rattle.ledger.specs.Runs.{placeOf}
 use Rattle.ledger.proofs.Places.{map-drop, run-gap}
 use Rattle.ledger.proofs.Owned.{OwnHeld, OwnGone, gone-append, held-drop}

@@ -2,7 +2,7 @@
 use mathlib.Core.Path.{_≡_, refl, subst}
 use mathlib.Core.Bool.{Bool, true, false, cond}
 use mathlib.Core.List.{List, [], _∷_, _++_}
-use Prim.Native.Nat.{ℕ, _+_, _-_, _*_, _^_, _<_, _≤_}
+use Prim.Native.Nat.{ℕ, _+_, _-_, _^_, _<_, _≤_}
 use native.Mathlib.Omega.{arith}
 use borrow.Author.Tests.{eqb-true, eqb-false, ltb-true, ltb-false}
 use lib.Dec.{eqb, ltb, lit≤}
@@ -10,7 +10,6 @@ use lib.IntN.{ℤ, natAbs}
 use lib.ListN.{length, set, replicate}
 use Rattle.numbers.specs.Circular.{distance, before, sum}
 use Rattle.numbers.specs.Order.{order}
-use Rattle.numbers.specs.Instants.{isReading}
 use Rattle.numbers.specs.declared.seq.Order.{Order}
 use Rattle.numbers.specs.declared.seq.Order.the-variants.{Before, Equal, After}
 use Rattle.numbers.proofs.Flags.{by-test}
@@ -20,19 +19,18 @@ use Rattle.acks.specs.History.{lightAckOf}
 use Rattle.slots.specs.Words as words
 use Rattle.slots.specs.Words.{writeAt}
 use Rattle.slots.specs.Ring.{withPayload}
-use Rattle.window.specs.Window.{slotIn, entryIn, nextOf, numberIn, withLrsn, roomOf}
-use Rattle.window.specs.Ready.{Good, Bytes, PacketRight}
+use Rattle.window.specs.Window.{slotIn, entryIn, nextOf, withLrsn, roomOf}
+use Rattle.window.specs.Ready.{Good, PacketRight}
 use Rattle.window.specs.Push as push
 use Rattle.window.specs.Push.{PushOutcome, pushEnded, grown, movedPast, withLost, recoveredLrsn, appendNextOf, appendWithLossOf, recoveredOf, recoverOf, pushOf}
 use Rattle.window.specs.declared.Window.{Window}
 use Rattle.window.specs.declared.push.Packet.{Packet}
-use Rattle.window.specs.declared.push.PushAnswer.{PushAnswer}
 use Rattle.window.specs.declared.push.PushAnswer.the-variants as pushes
 use Rattle.head.specs.Rules.{Rule, thenOf, firstFrom, firstRefusal, pushRules}
 use Rattle.head.specs.Head.{headOk}
 use Rattle.head.specs.declared.state.Head.{Head}
 use Rattle.head.proofs.Ready.{push-ready}
-use Rattle.receiver.specs.Data.{DataOutcome, dataEnded, pushRefused, gotAnswer, ackedOf, gotOf, takenOf, dataCallOf}
+use Rattle.receiver.specs.Data.{DataOutcome, dataEnded, gotAnswer, ackedOf, gotOf, takenOf, dataCallOf}
 use Rattle.receiver.specs.Data as receiving
 use Rattle.receiver.specs.declared.data.DataAnswer.{DataAnswer}
 use Rattle.receiver.specs.declared.data.DataAnswer.the-variants as datas

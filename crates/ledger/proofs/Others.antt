@@ -1,13 +1,12 @@
 -- A loss report, a drop request, ACKs and the clock keep the ledger: 01, "Window", "ACKs, RTT, rates" and "Clock". Assumes nothing.
 use mathlib.Core.Path.{_≡_, refl, ap, sym, _∙_, subst}
-use mathlib.Core.Bool.{Bool, true, false, cond}
 use mathlib.Core.List.{List, [], map, append-nil}
-use Prim.Native.Nat.{ℕ, _+_, _*_, _^_, _<_, _≤_, min}
+use Prim.Native.Nat.{ℕ, _+_, _*_}
 use native.Mathlib.Omega.{arith}
 use lib.Dec.{eqb}
 use lib.IntN.{ℤ, natAbs}
 use lib.ListN.{length}
-use Rattle.numbers.specs.Circular.{saturating, sum}
+use Rattle.numbers.specs.Circular.{sum}
 use Rattle.numbers.proofs.Flags.{by-test}
 use Rattle.numbers.proofs.Signs.{reading-size}
 use Rattle.clock.specs.Sync.{synchronized}
@@ -21,9 +20,8 @@ use Rattle.acks.specs.declared.history.AckAnswer.the-variants as acks
 use Rattle.acks.specs.declared.history.Ack2Answer.{Ack2Answer}
 use Rattle.acks.specs.declared.history.Ack2Answer.the-variants as acks2
 use Rattle.window.specs.Window.{roomOf}
-use Rattle.window.specs.Ready.{Good}
 use Rattle.window.specs.declared.Window.{Window}
-use Rattle.window_report.specs.Report.{ReportOutcome, reportOf}
+use Rattle.window_report.specs.Report.{reportOf}
 use Rattle.window_report.specs.Drop as dropping
 use Rattle.window_report.specs.Drop.{dropFrom, dropTo, dropOf}
 use Rattle.window_report.specs.declared.report.ReportAnswer.{ReportAnswer}
@@ -33,13 +31,13 @@ use Rattle.head.specs.Head.{headOk}
 use Rattle.head.specs.declared.state.Head.{Head}
 use Rattle.head.proofs.Ready.{good, timed-ready, drop-ready}
 use Rattle.receiver.specs.Acking.{FullAckOutcome, Ack2Outcome, afterAck, afterAck2, roomyAck, dueAck, fullAckCallOf, heldAck2, ack2CallOf}
-use Rattle.receiver.specs.Loss.{LossOutcome, headAfter, ending, reportedOf, reportCallOf}
-use Rattle.receiver.specs.Request.{DropOutcome, goneOf, dropCallOf}
+use Rattle.receiver.specs.Loss.{LossOutcome, headAfter, reportedOf, reportCallOf}
+use Rattle.receiver.specs.Request.{DropOutcome, dropCallOf}
 use Rattle.receiver.specs.Sync.{ClockOutcome, afterSync, syncOf, clockCallOf}
 use Rattle.views.specs.View as views
-use Rattle.views.specs.View.{Seen, entries, LrsnRight}
+use Rattle.views.specs.View.{Seen, entries}
 use Rattle.views.proofs.Marks.{report-seen, report-right, drop-seen, drop-right}
-use Rattle.ledger.specs.Ledger.{Place, Ledger, numberOf, frontOf, holding, givenIn, endIn, enterDrop, lostCount, releasedBytes}
+use Rattle.ledger.specs.Ledger.{Place, Ledger, frontOf, givenIn, endIn, enterDrop, lostCount, releasedBytes}
 use Rattle.ledger.specs.Runs.{placeOf}
 use Rattle.ledger.specs.Claims.{Counts}
 use Rattle.ledger.proofs.Places.{given-places, given-long, reported-places}

@@ -1,8 +1,8 @@
 -- Whose bytes a place has: each way in which the ledger changes keeps "the bytes of a place belong to its number", whatever belonging means. Assumes nothing.
-use mathlib.Core.Path.{_≡_, refl, ap, sym, _∙_, subst}
+use mathlib.Core.Path.{_≡_, ap, sym, subst}
 use mathlib.Core.Bool.{Bool, true, false, _&&_, cond}
 use mathlib.Core.List.{List, [], _∷_, _++_, map}
-use Prim.Native.Nat.{ℕ, zero, suc, _+_, _-_, _^_, _<_, _≤_}
+use Prim.Native.Nat.{ℕ, zero, suc, _+_, _-_, _≤_}
 use native.Mathlib.Omega.{arith}
 use borrow.Author.Tests.{eqb-true}
 use lib.Dec.{eqb, ltb, leb}
@@ -10,7 +10,7 @@ use lib.ListN.{length, take, drop, replicate, getD}
 use Rattle.numbers.specs.Circular.{sum}
 use Rattle.numbers.proofs.Flags.{by-bool}
 use Rattle.views.specs.Lists.{runOf, changedIn}
-use Rattle.ledger.specs.Ledger.{Place, lost, received, givenUp, Fate, released, discarded, Ledger, numberOf, frontOf, nextOf, holding, leave, bytesOf, gaveUp, givenIn, marked, receivedRun}
+use Rattle.ledger.specs.Ledger.{Place, lost, received, givenUp, Fate, released, discarded, bytesOf, gaveUp, givenIn, marked, receivedRun}
 
 module _ (S : ℕ → List ℕ → Type 0) (first : ℕ) where
   -- the places of a list, the first of which is place p

@@ -1,12 +1,12 @@
 -- Lists of places: how marks, fates and runs go with what the receiver holds. Assumes nothing.
 use mathlib.Core.Path.{_≡_, refl, ap, sym, _∙_}
 use mathlib.Core.Bool.{Bool, true, false, _&&_, cond}
-use mathlib.Core.List.{List, [], _∷_, _++_, map, append-assoc, append-nil}
+use mathlib.Core.List.{List, [], _∷_, _++_, map, append-assoc}
 use Prim.Native.Nat.{ℕ, zero, suc, _+_, _-_, _^_, _<_, _≤_}
 use native.Mathlib.Omega.{arith}
-use borrow.Author.Tests.{eqb-false, eq-eqb, ne-eqb}
+use borrow.Author.Tests.{eq-eqb, ne-eqb}
 use lib.Dec.{eqb, ltb, leb}
-use lib.ListN.{length, take, drop, set, replicate, getD}
+use lib.ListN.{length, take, drop, set, replicate}
 use Rattle.numbers.specs.Circular.{sum}
 use Rattle.numbers.proofs.Flags.{by-bool}
 use Rattle.numbers.proofs.Places.{place-one}

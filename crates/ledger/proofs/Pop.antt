@@ -1,13 +1,12 @@
 -- A pop keeps the ledger: 01, "Window", from "Pop" on, with refusals 1 to 4 and 11. Assumes nothing.
 use mathlib.Core.Path.{_≡_, refl, ap, sym, _∙_, subst}
-use mathlib.Core.Bool.{Bool}
-use mathlib.Core.List.{List, [], _∷_, _++_, map, append-nil}
-use Prim.Native.Nat.{ℕ, _+_, _-_, _^_, _<_, _≤_}
+use mathlib.Core.List.{List, [], _++_, map}
+use Prim.Native.Nat.{ℕ, _+_, _-_, _<_, _≤_}
 use native.Mathlib.Omega.{arith}
 use lib.IntN.{ℤ}
 use lib.ListN.{length, take, drop}
 use lib.Seq.{take-at}
-use Rattle.numbers.specs.Circular.{distance, sum}
+use Rattle.numbers.specs.Circular.{distance}
 use Rattle.numbers.proofs.Circle.{sum-zero, distance-sum}
 use Rattle.window.specs.Window.{numberIn}
 use Rattle.window.specs.Ready.{Good}
@@ -22,9 +21,8 @@ use Rattle.head.specs.Head.{headOk}
 use Rattle.head.specs.declared.state.Head.{Head}
 use Rattle.head.proofs.Ready.{pop-ready}
 use Rattle.receiver.specs.Message.{MessageOutcome, popped, takenOf, popCallOf}
-use Rattle.receiver.specs.declared.message.MessageAnswer.{MessageAnswer}
 use Rattle.views.specs.View as views
-use Rattle.views.specs.View.{Seen, entries, LrsnRight, gapIn, joined, Handed}
+use Rattle.views.specs.View.{Seen, entries, LrsnRight, joined}
 use Rattle.views.proofs.Pops.{pop-seen, pop-right, pop-handed}
 use Rattle.ledger.specs.Ledger.{Place, Fate, released, discarded, bytesOf, Ledger, frontOf, leave, enterPop, receivedRun, releasedBytes}
 use Rattle.ledger.specs.Seen.{popBytes}

@@ -1,12 +1,12 @@
 -- Wrong programs that demand 3 rules out: 01, "Each proof's duty". Each theorem speaks of any step that meets it. docs/RULED_OUT.md lists them. Assumes nothing.
 use mathlib.Core.Path.{_≡_, refl, ap, sym, _∙_, subst}
-use mathlib.Core.Bool.{Bool, true, false}
-use mathlib.Core.List.{List, [], _∷_, _++_, map}
+use mathlib.Core.Bool.{true, false}
+use mathlib.Core.List.{List, [], _∷_, map}
 use mathlib.Core.Logic.{_⊎_, inl, inr}
 use Prim.Native.Nat.{ℕ, _+_, _-_, _^_, _<_, _≤_}
 use native.Mathlib.Omega.{arith}
 use lib.IntN.{ℤ, pos}
-use lib.ListN.{length, getD, length-append, length-map, length-drop, drop, replicate}
+use lib.ListN.{length, getD, length-append, length-map, length-drop, replicate}
 use Rattle.numbers.specs.Circular.{distance, sum}
 use Rattle.numbers.proofs.Flags.{impossible}
 use Rattle.numbers.proofs.Places.{place-one}
@@ -26,8 +26,8 @@ use Rattle.step.specs.declared.Answer.the-variants as answers
 use Rattle.views.specs.View.{Seen, entries}
 use Rattle.ledger.specs.Seen.{numberIn, NotClear, appends, kindIn}
 use Rattle.ledger.specs.Ledger.{Place, lost, received, Ledger, opened, numberOf, frontOf, nextOf, lostCount, enterData, enter}
-use Rattle.ledger.specs.Runs.{Event, Book, answered, turned, bookAfter, Fresh, fresh, NoneClear, Sent, now, before, placeOf}
-use Rattle.ledger.specs.Claims.{Judges, earlyRefusal, Says, Told, Demand3}
+use Rattle.ledger.specs.Runs.{Event, Book, bookAfter, Fresh, fresh, NoneClear, Sent, now, before, placeOf}
+use Rattle.ledger.specs.Claims.{Judges, earlyRefusal, Says, Demand3}
 
 abbrev sight : State → List Seen
 sight s = entries (s .head .window) (s .slots) (s .payloads)

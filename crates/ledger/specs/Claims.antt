@@ -2,7 +2,7 @@
 -- dropped unseen". The ledger is in Ledger, a run in Runs. Above each claim stands its phrase of the demand.
 use mathlib.Core.Path.{_≡_}
 use mathlib.Core.Bool.{true}
-use mathlib.Core.List.{List, _∷_, map}
+use mathlib.Core.List.{List, map}
 use mathlib.Core.Logic.{_⊎_}
 use Prim.Native.Nat.{ℕ, _+_, _-_, _^_, _<_, _≤_}
 use lib.ListN.{length, take, getD}

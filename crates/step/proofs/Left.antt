@@ -21,7 +21,7 @@ use Rattle.receiver.specs.declared.message.Given.{Given}
 use Rattle.receiver.specs.declared.request.DropAnswer.{DropAnswer}
 use Rattle.receiver.specs.declared.request.Cleared.{Cleared}
 use Rattle.receiver.specs.declared.sync.Clocked.{Clocked}
-use Rattle.step.specs.Step.{CallLeft, callLeft, PopLeft, popCallLeft, stepped, Ended, ended, stateOf, lentFor, dataLeft, popLeft, reportLeft, fullAckLeft, ack2Left, dropLeft, clockLeft, clearLeft, stepOf}
+use Rattle.step.specs.Step.{CallLeft, callLeft, PopLeft, popCallLeft, stepped, ended, stateOf, lentFor, dataLeft, popLeft, reportLeft, fullAckLeft, ack2Left, dropLeft, clockLeft, clearLeft, stepOf}
 use Rattle.step.specs.declared.Call.{Call}
 use Rattle.step.specs.declared.Call.the-variants as calls
 use Rattle.step.specs.declared.Answer.the-variants as answers

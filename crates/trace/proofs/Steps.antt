@@ -38,7 +38,6 @@ use Rattle.step.specs.declared.Answer.{Answer}
 use Rattle.trace.specs.Trace.{Areas, callIn, lengthIn, payloadIn}
 use Rattle.trace.specs.Turn.{noHead, begunAs, begunBy, beginOf, isShort, lineNeed, areasOf, TurnOutcome, turnOutcome, TurnLeft, turnLeft, turned, endsWith, endsBy, advances, turnBy, turnOf}
 use Rattle.trace.specs.declared.Turned.{Turned}
-use Rattle.trace.specs.declared.Status.{Status}
 use Rattle.trace.specs.Ready.{RecordHere}
 use Rattle.trace.specs.declared.Status.the-variants as status
 use Rattle.trace.specs.declared.Trace.{Trace}

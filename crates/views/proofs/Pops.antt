@@ -10,7 +10,6 @@ use lib.Seq.{paste, take-length, take-suc, take-at, drop-append-add, drop-drop, 
 use Rattle.numbers.proofs.Flags.{impossible, by-test}
 use Rattle.numbers.proofs.Circle.{distance-sum, sum-sum}
 use Rattle.clock.specs.declared.time.SynchronizedRemoteClock.{SynchronizedRemoteClock}
-use Rattle.slots.specs.Words as words
 use Rattle.slots.specs.Words.{entryAt, lengthIn, isLast, inMessage, messageIn, isFirst}
 use Rattle.slots.specs.Ring.{slotOf, payloadAt}
 use Rattle.slots.specs.declared.entry.Entry.{Entry}
