@@ -38,16 +38,16 @@ one-ack = refl
 
 -- of the same lrsn none before 2 mean RTT have passed, and one then
 too-soon : fullAckOf (one .acked .history) (one .area) 20999 10000 0 5 .acked .answer ≡ Nothing
-unfolding fullAckOf noneDue isWorn appendOf writeAck leaving firstKept nextAck firstAfter freshHistory circular.before circular.equal circular.after circular.distance
+unfolding fullAckOf noneDue isWorn appendOf writeAck leaving firstKept nextAck firstAfter freshHistory circular.before circular.equal circular.after circular.distance sinceTime instants.intervalOf instants.clamp
 too-soon = refl
 
 soon-enough : fullAckOf (one .acked .history) (one .area) 21000 10000 0 5 .acked ≡ record { history = history 0 2 1 0 5; answer = Ack 2 }
-unfolding fullAckOf noneDue isWorn appendOf writeAck leaving firstKept nextAck firstAfter freshHistory circular.before circular.equal circular.after circular.distance
+unfolding fullAckOf noneDue isWorn appendOf writeAck leaving firstKept nextAck firstAfter freshHistory circular.before circular.equal circular.after circular.distance sinceTime instants.intervalOf instants.clamp
 soon-enough = refl
 
 -- its ACK2 at 19,000 sets largest_ack2_dsn to 5, and r is 18,000; an ACK that is not held changes nothing
 answered : ack2Of (one .acked .history) (one .area) 19000 1 ≡ record { history = history 0 1 1 5 5; answer = Held 18000 }
-unfolding ack2Of fullAckOf noneDue isWorn appendOf writeAck leaving firstKept nextAck firstAfter freshHistory
+unfolding ack2Of fullAckOf noneDue isWorn appendOf writeAck leaving firstKept nextAck firstAfter freshHistory sinceTime instants.intervalOf instants.clamp
 answered = refl
 
 not-answered : (a : List ℕ) → ack2Of (history 0 1 1 0 5) a 19000 2 ≡ record { history = history 0 1 1 0 5; answer = NotHeld }

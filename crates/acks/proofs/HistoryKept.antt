@@ -1,5 +1,5 @@
 -- The history's ranges are kept, and so are the area's length and the words that no rule names. Assumes nothing.
-use mathlib.Core.Path.{_≡_, refl, sym, _∙_, ap, subst}
+use mathlib.Core.Path.{_≡_, refl, sym, _∙_, subst}
 use mathlib.Core.Bool.{Bool, true, false, _&&_}
 use mathlib.Core.List.{List}
 use Prim.Native.Nat.{ℕ, _+_, _-_, _*_, _^_, _<_, _≤_, min}
@@ -7,15 +7,12 @@ use native.Mathlib.Nat.{mod-lt, mod-eq-of-lt}
 use native.Mathlib.Omega.{arith}
 use borrow.Author.Tests.{ltb-true, leb-true, eqb-true, eqb-false, lt-ltb, le-leb}
 use lib.Dec.{eqb, ltb, leb}
-use lib.IntN.{pos, _-ℤ_}
+use lib.IntN.{pos}
 use lib.ListN.{length, getD, set, length-set}
 use lib.Seq.{getD-set-same, getD-set-other}
 use Rattle.numbers.specs.Circular.{before, sum}
-use Rattle.numbers.specs.Instants.{intervalOf}
-use Rattle.numbers.proofs.Flags.{and-left, and-right, by-bool, by-test, by-order}
-use Rattle.numbers.proofs.Halves.{same, above--, below--}
-use Rattle.numbers.proofs.Signs.{clamp-in, clamp-high}
-use Rattle.acks.specs.History.{ackSlot, numberAt, departureAt, since, writeAck, freshHistory, noneDue, newestOf, isWorn, leaving, nextAck, firstAfter, AckOutcome, grown, appendOf, fullAckOf, withLargest, withLast, isHeld, ack2Of, lightAckOf, clearedOf, historyOk}
+use Rattle.numbers.proofs.Flags.{and-left, and-right, by-bool, by-test}
+use Rattle.acks.specs.History.{ackSlot, numberAt, departureAt, writeAck, freshHistory, noneDue, newestOf, isWorn, leaving, nextAck, firstAfter, AckOutcome, grown, appendOf, fullAckOf, withLargest, withLast, isHeld, ack2Of, lightAckOf, clearedOf, historyOk}
 use Rattle.acks.specs.Ready.{HistoryReady}
 use Rattle.acks.specs.declared.history.History.{History}
 use Rattle.acks.specs.declared.history.Answered.{Answered}
@@ -23,6 +20,7 @@ use Rattle.acks.specs.declared.history.Ack2Answer.{Ack2Answer}
 use Rattle.acks.specs.declared.history.Ack2Answer.the-variants.{NotHeld, Held}
 use Rattle.acks.specs.declared.history.LightAcked.{LightAcked}
 use Rattle.acks.proofs.HistorySteps.{leaving-le, leaving-room}
+use Rattle.acks.proofs.RateKept.{since-under}
 
 -- the tests of a history, taken apart and put together
 pub record Ranges (h : History) : Type 0 where
@@ -170,18 +168,7 @@ pub ack2-small : (h : History) (a : List ℕ) (now number : ℕ) {r : ℕ} → a
 unfolding ack2Of
 ack2-small h a now number e =
     subst Small e
-    (by-test (λ (o : Answered). Small (o .answer)) (isHeld h number) _ _ (λ t. omega arith) (λ t. tt))
-
--- the interval is that of 01, "Numbers"
-pub since-interval : (now departure : ℕ) → departure ≤ now → pos (since now departure) ≡ intervalOf (pos departure) (pos now)
-unfolding intervalOf
-since-interval now departure h =
-    let z = pos now -ℤ pos departure in
-    let p = above-- (pos now) (pos departure) in
-    let q = below-- (pos now) (pos departure) in
-    by-order (now - departure) 2147483647
-    (λ k. rw (clamp-in z (omega arith) (omega arith)) (same (omega arith) (omega arith)))
-    (λ k. rw (clamp-high z (omega arith)) (ap pos (omega arith)))
+    (by-test (λ (o : Answered). Small (o .answer)) (isHeld h number) _ _ (λ t. since-under (pos now) (pos (departureAt a (ackSlot (h .start) (number - h .first)) now))) (λ t. tt))
 
 -- an entry that is written is read back, and every other word stays
 module _ (a : List ℕ) (p n d : ℕ) where

@@ -7,12 +7,18 @@ use native.Mathlib.Omega.{arith}
 use borrow.Author.Needs.{needs}
 use borrow.Author.Tests.{eq-eqb, ne-eqb, eqb-true, eqb-false, lt-ltb, le-ltb, le-leb, lt-leb}
 use lib.Dec.{eqb, ltb, leb}
+use lib.IntN.{pos, _-ℤ_}
 use lib.ListN.{length, set, length-set}
+use lib.Signed.{ltZ}
 use mir.Syntax.{w64}
 use mir.Val.{Fits}
 use Rattle.numbers.specs.Circular.{before, sum}
+use Rattle.numbers.specs.Instants.{intervalOf}
 use Rattle.numbers.proofs.Flags.{and-false, by-test, by-order}
+use Rattle.numbers.proofs.Halves.{size, above--, below--, halves-not-lt}
+use Rattle.numbers.proofs.Signs.{clamp-in, clamp-high}
 use Rattle.acks.specs.History.{ackSlot, numberAt, departureAt, since, writeAck, freshHistory, isRecent, noneDue, isWorn, isExpired, firstKept, leaving, nextAck, firstAfter, AckOutcome, ackEnded, appendOf, fullAckOf, withLast, ack2Of, lightAckOf, clearedOf, historyOk}
+use Rattle.acks.specs.Rates.{sinceTime}
 use Rattle.acks.specs.declared.history.History.{History}
 use Rattle.acks.specs.declared.history.AckAnswer.the-variants.{Nothing, Worn, Ack}
 use Rattle.acks.specs.declared.history.Answered.{Answered}
@@ -26,6 +32,28 @@ writes a p n d = refl
 
 pub second-in : (a : List ℕ) (p i v : ℕ) → 2 * p + 2 ≤ length a → 2 * p + 1 < length (set a i v)
 second-in a p i v h = simp length-set (omega arith)
+
+-- since
+module _ (now departure : ℕ) (h : departure ≤ now) where
+  not-later : ltZ (pos now) (pos departure) ≡ false
+  not-later = halves-not-lt (pos now) (pos departure) (omega arith)
+
+  pub since-near : now - departure < 2147483647 → now - departure ≡ since now departure
+  unfolding sinceTime intervalOf
+  since-near k =
+      let z = pos now -ℤ pos departure in
+      let p = above-- (pos now) (pos departure) in
+      let q = below-- (pos now) (pos departure) in
+      rw (not-later, clamp-in z (omega arith) (omega arith)) (omega (arith, size z))
+
+  pub since-far : 2147483647 ≤ now - departure → 2147483647 ≡ since now departure
+  unfolding sinceTime intervalOf
+  since-far k =
+      let z = pos now -ℤ pos departure in
+      let p = above-- (pos now) (pos departure) in
+      rw (not-later, clamp-high z (omega arith))
+
+pub ruleset sinces = (since-near, since-far, needs)
 
 -- is_recent
 pub recent-test : (a : List ℕ) (p now mean lrsn : ℕ) {n d s : ℕ} {b : Bool}

@@ -1,25 +1,33 @@
 -- The windows' ranges are kept, and what recording does to a window as a list, oldest first. Assumes nothing.
 use mathlib.Core.Path.{_≡_, refl, _∙_}
-use mathlib.Core.Bool.{true}
+use mathlib.Core.Bool.{true, false}
 use mathlib.Core.List.{[], _∷_, _++_}
 use Prim.Native.Nat.{ℕ, _+_, _-_, _%_, _^_, _<_, _≤_}
 use native.Mathlib.Omega.{arith}
 use lib.Dec.{eqb}
-use lib.IntN.{ℤ}
+use lib.IntN.{ℤ, pos}
 use lib.ListN.{length, drop, length-set}
 use lib.Signed.{ltZ}
-use Rattle.numbers.specs.Instants.{isReading}
+use Rattle.numbers.specs.Instants.{isReading, intervalOf}
 use Rattle.numbers.specs.declared.instant.Moment.{Moment}
 use Rattle.numbers.specs.declared.instant.Moment.the-variants.{Unset, At}
 use Rattle.numbers.proofs.Flags.{by-test, by-bool}
-use Rattle.numbers.proofs.Halves.{halves-not-lt}
+use Rattle.numbers.proofs.Halves.{same, size, halves-not-lt}
 use Rattle.acks.specs.Rates.{sinceTime, windowOf, arrivalGaps, arrivalSizes, linkGaps, freshArrivals, freshLinks, arrivedSince, arrivalOf, withProbe, pairedSince, pairOf, linkOf, allUnder, arrivalsOk, linksOk}
 use Rattle.acks.specs.declared.rates.Arrivals.{Arrivals}
 use Rattle.acks.specs.declared.rates.Links.{Links}
 use Rattle.acks.proofs.Windows.{enters, under-enters, ranges-enter, ArrivalRanges, arrival-ranges, arrivals-ok, LinkRanges, link-ranges, links-ok}
 use Rattle.acks.proofs.RateSteps.{interval-above}
 
--- an interval since a time is not negative, and under 2^31
+-- since a time that is not after `now`, it is the interval of 01, "Numbers"
+pub since-interval : (now t : ℤ) → ltZ now t ≡ false → pos (sinceTime now t) ≡ intervalOf t now
+unfolding sinceTime
+since-interval now t e =
+    let z = intervalOf t now in
+    let b = interval-above t now e .0 in
+    rw e (same (omega (arith, size z)) (omega arith))
+
+-- an interval since a time is under 2^31
 pub since-under : (now t : ℤ) → sinceTime now t < 2 ^ 31
 unfolding sinceTime
 since-under now t =

@@ -3,9 +3,11 @@ use mathlib.Core.Bool.{Bool, true, false, _&&_, _||_, cond}
 use mathlib.Core.List.{List}
 use Prim.Native.Nat.{ℕ, zero, suc, _+_, _-_, _*_, _%_, _^_, min}
 use lib.Dec.{eqb, ltb, leb}
+use lib.IntN.{pos}
 use lib.ListN.{getD, set}
 use Rattle.numbers.specs.Circular.{before, sum}
 use Rattle.numbers.specs.Ring.{placeIn}
+use Rattle.acks.specs.Rates.{sinceTime}
 use Rattle.acks.specs.declared.history.History.{History}
 use Rattle.acks.specs.declared.history.Acked.{Acked}
 use Rattle.acks.specs.declared.history.AckAnswer.the-variants.{Nothing, Worn, Ack}
@@ -25,9 +27,9 @@ numberAt a p = getD a (2 * p) 0 % 2 ^ 31
 abbrev pub departureAt : List ℕ → ℕ → ℕ → ℕ
 departureAt a p now = min (getD a (2 * p + 1) 0 % 2 ^ 60) now
 
--- the interval since a departure, clamped to the signed 32-bit range
+-- the interval since a departure
 abbrev pub since : ℕ → ℕ → ℕ
-since now departure = min (now - departure) (2 ^ 31 - 1)
+since now departure = sinceTime (pos now) (pos departure)
 
 -- an entry is written whole; words that no rule names stay
 unfoldable pub writeAck : List ℕ → ℕ → ℕ → ℕ → List ℕ

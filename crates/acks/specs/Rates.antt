@@ -19,7 +19,7 @@ use Rattle.acks.specs.declared.rates.Speed.the-variants as speeds
 use Rattle.acks.specs.declared.rates.Link.{Link}
 use Rattle.acks.specs.declared.rates.Link.the-variants as links
 
--- the interval since a probe or arrival time; one after `now` is read as `now`
+-- the interval since a departure, probe or arrival time; one after `now` is read as `now`
 unfoldable pub sinceTime : ℤ → ℤ → ℕ
 sinceTime now t = natAbs (intervalOf (cond (ltZ now t) now t) now)
 
