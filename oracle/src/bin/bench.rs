@@ -301,6 +301,8 @@ struct Row {
 const CAPACITY: usize = 8_192;
 /// A window little larger than what a stream's latency holds: a few packets over 1,000.
 const SMALLER: usize = 1_200;
+/// Enough where each packet is popped at once.
+const SMALLEST: usize = 32;
 const TS: u32 = 1_316;
 /// The payloads come from here, as from a reader's buffer: 64 KB, 64 places.
 const SOURCE: usize = 65_536 + 1_456;
@@ -372,10 +374,8 @@ fn rows(zero: Instant) -> Vec<Row> {
     let lap = CAPACITY as u32 + 2_008;
     let end = lap + 16_800;
     let backlog = Settings { latency: 10_000, first: 0, capacity: CAPACITY };
-    let streams: [(&str, &str, u32, u32, u32, u32, u32); 11] = [
+    let streams: [(&str, &str, u32, u32, u32, u32, u32); 16] = [
         ("a", "clean stream, single-packet messages, 1,316 bytes", 10_000, 1, TS, 0, 0),
-        ("w", "the same in a window of 1,200", 10_000, 1, TS, 0, 0),
-        ("w16", "the same in a window of 1,200, 16 bytes", 10_000, 1, 16, 0, 0),
         ("a188", "the same, 188 bytes", 10_000, 1, 188, 0, 0),
         ("a16", "the same, 16 bytes", 10_000, 1, 16, 0, 0),
         ("a0", "the same, 1,316 bytes, no latency: each popped at once", 0, 1, TS, 0, 0),
@@ -384,13 +384,24 @@ fn rows(zero: Instant) -> Vec<Row> {
         ("e", "messages of 7 packets, 1,316 bytes each", 10_000, 7, TS, 0, 0),
         ("e16", "the same, 16 bytes each", 10_000, 7, 16, 0, 0),
         ("f", "clean, an ACK and an ACK2 every 64 packets, 1,316 bytes", 10_000, 1, TS, 0, 64),
+        ("wa", "as a, in a window of 1,200", 10_000, 1, TS, 0, 0),
+        ("wa188", "as a188, in a window of 1,200", 10_000, 1, 188, 0, 0),
+        ("wa16", "as a16, in a window of 1,200", 10_000, 1, 16, 0, 0),
+        ("wa0", "as a0, in a window of 32", 0, 1, TS, 0, 0),
+        ("wb", "as b, in a window of 1,200", 10_000, 1, TS, 100, 0),
+        ("wb16", "as b16, in a window of 1,200", 10_000, 1, 16, 100, 0),
+        ("wf", "as f, in a window of 1,200", 10_000, 1, TS, 0, 64),
     ];
     for (name, what, latency, packets, length, loss, acks) in streams {
         stream(&mut m, 0, lap, packets, length, loss, acks);
         let before = m.take();
         stream(&mut m, lap, end, packets, length, loss, acks);
         let timed = m.take();
-        let capacity = if name.starts_with('w') { SMALLER } else { CAPACITY };
+        let capacity = match name {
+            "wa0" => SMALLEST,
+            _ if name.starts_with('w') => SMALLER,
+            _ => CAPACITY,
+        };
         let settings = Settings { latency, capacity, ..backlog };
         let units = (end - lap) as usize;
         rows.push(Row { name, what, unit: "packet", units, settings, before, timed, repeats: 31 });
