@@ -1,7 +1,7 @@
 -- Where all tests are clear at once, none refuses. Assumes nothing.
 use mathlib.Core.Path.{_≡_, refl, sym, _∙_}
 use mathlib.Core.Bool.{Bool, true, false, not, _&&_}
-use mathlib.Core.List.{List}
+use mathlib.Core.List.{List, [], _∷_}
 use Prim.Native.Nat.{ℕ, _*_, _%_, _^_}
 use native.Mathlib.Nat.{mod-eq-of-lt}
 use native.Mathlib.Omega.{arith}
@@ -11,67 +11,53 @@ use lib.Dec.{ltb, leb}
 use lib.IntN.{ℤ}
 use lib.Signed.{ltZ}
 use Rattle.numbers.specs.Instants.{isReading}
-use Rattle.numbers.proofs.Flags.{impossible}
 use Rattle.window.specs.declared.push.Packet.{Packet}
 use Rattle.head.specs.Rules as rules
 use Rattle.head.specs.Rules.{firstRefusal, pushRules, popRules}
 use Rattle.head.specs.Head.{headOk}
 use Rattle.packing.specs.Words.{wholeOf}
 use Rattle.packing.specs.Packed.{at, unpackOf}
+use Rattle.inplace.proofs.Quick.{parts}
 use Rattle.inplace.proofs.Messages.{refusal-by as pop-by}
 use Rattle.inplace.proofs.Datas.{refusal-by as push-by}
 use Rattle.inplace.specs.Clear.{areasClear, packetClear}
 use Rattle.inplace.specs.Pops.{popRefusal}
 use Rattle.inplace.specs.Pushes.{pushRefusal}
 
-four : (a b c d : Bool) → (a && b && c && d) ≡ true → (a ≡ true) × (b ≡ true) × (c ≡ true) × (d ≡ true)
-four false b c d h = impossible (sym h)
-four true false c d h = impossible (sym h)
-four true true false d h = impossible (sym h)
-four true true true d h = (refl, refl, refl, h)
-
-six : (a b c d e f : Bool) → (a && b && c && d && e && f) ≡ true → (a ≡ true) × (b ≡ true) × (c ≡ true) × (d ≡ true) × (e ≡ true) × (f ≡ true)
-six false b c d e f h = impossible (sym h)
-six true false c d e f h = impossible (sym h)
-six true true false d e f h = impossible (sym h)
-six true true true false e f h = impossible (sym h)
-six true true true true false f h = impossible (sym h)
-six true true true true true f h = (refl, refl, refl, refl, refl, h)
-
 module _ (ok : Bool) (capacity slots bytes : ℕ) (now latest : ℤ) (c : areasClear ok capacity slots bytes now latest ≡ true) where
   abbrev early : Bool
   early = ltZ now latest
 
-  parts : (ok ≡ true) × (leb capacity 8192 ≡ true) × (leb (capacity % 16384 * 3) slots ≡ true) × (leb (capacity % 16384 * 1456) bytes ≡ true) × (isReading now ≡ true) × (not early ≡ true)
-  parts = six ok (leb capacity 8192) (leb (capacity % 16384 * 3) slots) (leb (capacity % 16384 * 1456) bytes) (isReading now) (not early) c
+  clear : (ok ≡ true) × ((leb capacity 8192 ≡ true) × ((leb (capacity % 16384 * 3) slots ≡ true) × ((leb (capacity % 16384 * 1456) bytes ≡ true) × ((isReading now ≡ true) × ((not early ≡ true) × Unit {0})))))
+  clear = parts ok (leb capacity 8192 ∷ leb (capacity % 16384 * 3) slots ∷ leb (capacity % 16384 * 1456) bytes ∷ isReading now ∷ not early ∷ []) c
 
   itself : capacity % 16384 ≡ capacity
-  itself = let h = leb-true capacity 8192 (parts .1) in mod-eq-of-lt (omega arith)
+  itself = let h = leb-true capacity 8192 (clear .1 .0) in mod-eq-of-lt (omega arith)
 
   slots-long : ltb slots (3 * capacity) ≡ false
-  slots-long = let h = leb-true (capacity % 16384 * 3) slots (parts .2) in le-ltb slots (3 * capacity) (omega (arith, itself))
+  slots-long = let h = leb-true (capacity % 16384 * 3) slots (clear .1 .1 .0) in le-ltb slots (3 * capacity) (omega (arith, itself))
 
   bytes-long : ltb bytes (1456 * capacity) ≡ false
-  bytes-long = let h = leb-true (capacity % 16384 * 1456) bytes (parts .3) in le-ltb bytes (1456 * capacity) (omega (arith, itself))
+  bytes-long = let h = leb-true (capacity % 16384 * 1456) bytes (clear .1 .1 .1 .0) in le-ltb bytes (1456 * capacity) (omega (arith, itself))
 
   pop-clear : firstRefusal (popRules ok capacity slots bytes now latest) ≡ 0
   unfolding rules.thenOf
-  pop-clear = rw (parts .0, slots-long, bytes-long, parts .4, not-true early (parts .5))
+  pop-clear = rw (clear .0, slots-long, bytes-long, clear .1 .1 .1 .1 .0, not-true early (clear .1 .1 .1 .1 .1 .0))
 
   push-clear : (p : Packet) (size : ℕ) → packetClear p size ≡ true → firstRefusal (pushRules ok capacity slots bytes now latest p size) ≡ 0
   unfolding rules.thenOf
   push-clear p size d =
-      let q = four (ltb (p .number) (2 ^ 31)) (ltb (p .message) (2 ^ 26)) (ltb (p .location) 4) (leb size 1456) d in
+      let q = parts (ltb (p .number) (2 ^ 31)) (ltb (p .message) (2 ^ 26) ∷ ltb (p .location) 4 ∷ leb size 1456 ∷ []) d in
       rw (
-        parts .0,
+        clear .0,
         slots-long,
         bytes-long,
-        parts .4,
-        not-true early (parts .5),
+        clear .1 .1 .1 .1 .0,
+        not-true early (clear .1 .1 .1 .1 .1 .0),
         lt-leb (2 ^ 31) (p .number) (ltb-true (p .number) (2 ^ 31) (q .0)),
-        lt-leb (2 ^ 26) (p .message) (ltb-true (p .message) (2 ^ 26) (q .1)),
-        lt-leb 4 (p .location) (ltb-true (p .location) 4 (q .2)),
-        le-ltb 1456 size (leb-true size 1456 (q .3)),
+        lt-leb (2 ^ 26) (p .message) (ltb-true (p .message) (2 ^ 26) (q .1 .0)),
+        lt-leb 4 (p .location) (ltb-true (p .location) 4 (q .1 .1 .0)),
+        le-ltb 1456 size (leb-true size 1456 (q .1 .1 .1 .0)),
       )
 
 -- areas_clear: the machine's whole numbers are the definition's

@@ -1,7 +1,7 @@
 -- What the quick test of sound.rt finds in range is in range. Assumes nothing.
 use mathlib.Core.Path.{_≡_, refl, sym, _∙_}
 use mathlib.Core.Bool.{Bool, true, false, _&&_}
-use mathlib.Core.List.{List}
+use mathlib.Core.List.{List, [], _∷_}
 use Prim.Native.Nat.{ℕ, zero, suc, _+_, _-_, _*_, _%_, _^_, _<_, _≤_}
 use native.Mathlib.Nat.{mod-eq-of-lt}
 use native.Mathlib.Omega.{arith}
@@ -10,7 +10,7 @@ use borrow.Author.Tests.{ltb-true, leb-true, lt-ltb, le-leb}
 use lib.Bits.{bitOr}
 use lib.Dec.{ltb, leb}
 use lib.IntN.{pos}
-use Rattle.numbers.proofs.Flags.{impossible}
+use Rattle.numbers.proofs.Flags.{and-left, and-right}
 use Rattle.numbers.proofs.Signs.{signed-low}
 use Rattle.numbers.specs.Instants.{isReading}
 use Rattle.clock.specs.Base.{inReference}
@@ -26,28 +26,18 @@ use Rattle.packing.proofs.Floats.{nan-low}
 use Rattle.inplace.proofs.Sounds.{or-left, or-right, placesOk, partsOk, sound-quick, sound-slow}
 use Rattle.inplace.specs.Sound.{allSmall, fewBits, beside, besideAll, finite, windowSmall, countsSmall, quickly}
 
--- the parts of a test
-five : (a b c d e : Bool) → (a && b && c && d && e) ≡ true → (a ≡ true) × (b ≡ true) × (c ≡ true) × (d ≡ true) × (e ≡ true)
-five false b c d e h = impossible (sym h)
-five true false c d e h = impossible (sym h)
-five true true false d e h = impossible (sym h)
-five true true true false e h = impossible (sym h)
-five true true true true e h = (refl, refl, refl, refl, h)
+-- the parts of a test, however many
+abbrev conj : Bool → List Bool → Bool
+conj b [] = b
+conj b (x ∷ xs) = conj (b && x) xs
 
-three : (a b c : Bool) → (a && b && c) ≡ true → (a ≡ true) × (b ≡ true) × (c ≡ true)
-three false b c h = impossible (sym h)
-three true false c h = impossible (sym h)
-three true true c h = (refl, refl, h)
+abbrev AllTrue : List Bool → Type 0
+AllTrue [] = Unit
+AllTrue (x ∷ xs) = (x ≡ true) × AllTrue xs
 
-seven : (a b c d e f g : Bool) → (a && b && c && d && e && f && g) ≡ true
-    → (a ≡ true) × (b ≡ true) × (c ≡ true) × (d ≡ true) × (e ≡ true) × (f ≡ true) × (g ≡ true)
-seven false b c d e f g h = impossible (sym h)
-seven true false c d e f g h = impossible (sym h)
-seven true true false d e f g h = impossible (sym h)
-seven true true true false e f g h = impossible (sym h)
-seven true true true true false f g h = impossible (sym h)
-seven true true true true true false g h = impossible (sym h)
-seven true true true true true true g h = (refl, refl, refl, refl, refl, refl, h)
+pub parts : (b : Bool) (bs : List Bool) → conj b bs ≡ true → (b ≡ true) × AllTrue bs
+parts b [] h = (h, tt)
+parts b (x ∷ xs) h = let r = parts (b && x) xs h in (and-left b x (r .0), (and-right b x (r .0), r .1))
 
 -- two values under a bound, by their bits
 left-under : (a b n : ℕ) → bitOr a b < n → a < n
@@ -131,7 +121,7 @@ record Found (ws : List ℕ) : Type 0 where
 
 found : (ws : List ℕ) → quickly ws ≡ true → Found ws
 found ws e =
-    let all = five (fewBits ws) (besideAll ws) (finite ws) (windowSmall ws) (countsSmall ws) e in
+    let all = parts (fewBits ws) (besideAll ws ∷ finite ws ∷ windowSmall ws ∷ countsSmall ws ∷ []) e in
     let x1 = bitOr (at ws 4) (at ws 5) in
     let x2 = bitOr x1 (at ws 16) in
     let x3 = bitOr x2 (at ws 17) in
@@ -139,32 +129,32 @@ found ws e =
     let y1 = bitOr (at ws 7) (at ws 10) in
     let y2 = bitOr y1 (at ws 12) in
     let y3 = bitOr y2 (at ws 52) in
-    let bits = five (ltb (bitOr x4 (at ws 78)) (2 ^ 31)) (ltb (bitOr y3 (at ws 72)) 2) (ltb (bitOr (at ws 9) (at ws 76)) (2 ^ 32)) (ltb (bitOr (at ws 50) (at ws 70)) 16) (ltb (bitOr (at ws 0) (at ws 8)) (2 ^ 60)) (all .0) in
-    let times = three (beside (at ws 10) (at ws 11)) (beside (at ws 52) (at ws 53)) (beside (at ws 72) (at ws 73)) (all .1) in
-    let f = ltb-true _ _ (all .2) in
-    let w = five (leb 1 (at ws 1)) (leb (at ws 1) 8192) (ltb (at ws 2) (at ws 1)) (leb (at ws 3) (at ws 1)) (leb (at ws 6) 65535000) (all .3) in
-    let c = seven (leb (at ws 15) 999) (leb (at ws 51) 16) (leb (at ws 71) 16) (ltb (at ws 74) 1024) (leb (at ws 75) 1024) (leb 1 (at ws 76)) (leb (at ws 76 % 2 ^ 32 + at ws 75 % 2048) (2 ^ 32)) (all .4) in
+    let bits = parts (ltb (bitOr x4 (at ws 78)) (2 ^ 31)) (ltb (bitOr y3 (at ws 72)) 2 ∷ ltb (bitOr (at ws 9) (at ws 76)) (2 ^ 32) ∷ ltb (bitOr (at ws 50) (at ws 70)) 16 ∷ ltb (bitOr (at ws 0) (at ws 8)) (2 ^ 60) ∷ []) (all .0) in
+    let times = parts (beside (at ws 10) (at ws 11)) (beside (at ws 52) (at ws 53) ∷ beside (at ws 72) (at ws 73) ∷ []) (all .1 .0) in
+    let f = ltb-true _ _ (all .1 .1 .0) in
+    let w = parts (leb 1 (at ws 1)) (leb (at ws 1) 8192 ∷ ltb (at ws 2) (at ws 1) ∷ leb (at ws 3) (at ws 1) ∷ leb (at ws 6) 65535000 ∷ []) (all .1 .1 .1 .0) in
+    let c = parts (leb (at ws 15) 999) (leb (at ws 51) 16 ∷ leb (at ws 71) 16 ∷ ltb (at ws 74) 1024 ∷ leb (at ws 75) 1024 ∷ leb 1 (at ws 76) ∷ leb (at ws 76 % 2 ^ 32 + at ws 75 % 2048) (2 ^ 32) ∷ []) (all .1 .1 .1 .1 .0) in
     let l5 = ltb-true (bitOr x4 (at ws 78)) (2 ^ 31) (bits .0) in
     let l4 = left-under x4 (at ws 78) (2 ^ 31) l5 in
     let l3 = left-under x3 (at ws 77) (2 ^ 31) l4 in
     let l2 = left-under x2 (at ws 17) (2 ^ 31) l3 in
     let l1 = left-under x1 (at ws 16) (2 ^ 31) l2 in
-    let g4 = ltb-true (bitOr y3 (at ws 72)) 2 (bits .1) in
+    let g4 = ltb-true (bitOr y3 (at ws 72)) 2 (bits .1 .0) in
     let g3 = left-under y3 (at ws 72) 2 g4 in
     let g2 = left-under y2 (at ws 52) 2 g3 in
     let g1 = left-under y1 (at ws 12) 2 g2 in
-    let n = ltb-true (bitOr (at ws 9) (at ws 76)) (2 ^ 32) (bits .2) in
-    let p = ltb-true (bitOr (at ws 50) (at ws 70)) 16 (bits .3) in
-    let t = ltb-true (bitOr (at ws 0) (at ws 8)) (2 ^ 60) (bits .4) in
+    let n = ltb-true (bitOr (at ws 9) (at ws 76)) (2 ^ 32) (bits .1 .1 .0) in
+    let p = ltb-true (bitOr (at ws 50) (at ws 70)) 16 (bits .1 .1 .1 .0) in
+    let t = ltb-true (bitOr (at ws 0) (at ws 8)) (2 ^ 60) (bits .1 .1 .1 .1 .0) in
     record {
       latest = left-under (at ws 0) (at ws 8) (2 ^ 60) t;
       some = leb-true 1 (at ws 1) (w .0);
-      most = leb-true (at ws 1) 8192 (w .1);
-      starts = ltb-true (at ws 2) (at ws 1) (w .2);
-      holds = leb-true (at ws 3) (at ws 1) (w .3);
+      most = leb-true (at ws 1) 8192 (w .1 .0);
+      starts = ltb-true (at ws 2) (at ws 1) (w .1 .1 .0);
+      holds = leb-true (at ws 3) (at ws 1) (w .1 .1 .1 .0);
       seqno0 = left-under (at ws 4) (at ws 5) (2 ^ 31) l1;
       lrsn = right-under (at ws 4) (at ws 5) (2 ^ 31) l1;
-      latency = leb-true (at ws 6) 65535000 (w .4);
+      latency = leb-true (at ws 6) 65535000 (w .1 .1 .1 .1 .0);
       dropping = left-under (at ws 7) (at ws 10) 2 g1;
       base = right-under (at ws 0) (at ws 8) (2 ^ 60) t;
       stamp = left-under (at ws 9) (at ws 76) (2 ^ 32) n;
@@ -177,18 +167,18 @@ found ws e =
       rtt = right-under x1 (at ws 16) (2 ^ 31) l2;
       variance = right-under x2 (at ws 17) (2 ^ 31) l3;
       place = left-under (at ws 50) (at ws 70) 16 p;
-      count = leb-true (at ws 51) 16 (c .1);
+      count = leb-true (at ws 51) 16 (c .1 .0);
       arrived = right-under y2 (at ws 52) 2 g3;
-      arrival = leb-true _ _ (times .1);
+      arrival = leb-true _ _ (times .1 .0);
       pair = right-under (at ws 50) (at ws 70) 16 p;
-      pairs = leb-true (at ws 71) 16 (c .2);
+      pairs = leb-true (at ws 71) 16 (c .1 .1 .0);
       probed = right-under y3 (at ws 72) 2 g4;
-      probe = leb-true _ _ (times .2);
-      start = ltb-true (at ws 74) 1024 (c .3);
-      acks = leb-true (at ws 75) 1024 (c .4);
-      first = leb-true 1 (at ws 76) (c .5);
+      probe = leb-true _ _ (times .1 .1 .0);
+      start = ltb-true (at ws 74) 1024 (c .1 .1 .1 .0);
+      acks = leb-true (at ws 75) 1024 (c .1 .1 .1 .1 .0);
+      first = leb-true 1 (at ws 76) (c .1 .1 .1 .1 .1 .0);
       number = right-under (at ws 9) (at ws 76) (2 ^ 32) n;
-      newest = leb-true _ _ (c .6);
+      newest = leb-true _ _ (c .1 .1 .1 .1 .1 .1 .0);
       largest = right-under x3 (at ws 77) (2 ^ 31) l4;
       lastack = right-under x4 (at ws 78) (2 ^ 31) l5;
     }

@@ -72,6 +72,7 @@ unfoldable pub putSingle : List ℕ → Window → ℤ → ℤ → List ℕ
 putSingle ws w released now =
     set (set (set (set (set (set ws 2 (w .start)) 3 (w .held)) 4 (w .seqno0)) 10 1) 11 (wordOf released)) 0 (wordOf now)
 
+-- what its release counts on
 pub record Single (w : Window) (base : TimeBase) (slots bs out : List ℕ) : Type 0 where
   pub good : Good w slots
   pub payloads : Bytes w bs
@@ -95,6 +96,7 @@ pub record Fronted (ws slots : List ℕ) : Type 0 where
 unfoldable pub isUsual : List ℕ → List ℕ → ℕ → ℤ → Bool
 isUsual ws slots room now = isSingle (windowOf ws) (baseOf ws) (numberOf (at ws 6)) slots room now
 
+-- `Single` by the words alone, as search finds it
 pub record Usual (ws slots bs out : List ℕ) : Type 0 where
   pub single : Single (windowOf ws) (baseOf ws) slots bs out
 

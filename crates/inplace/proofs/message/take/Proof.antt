@@ -1,6 +1,5 @@
 use borrow.Author.Needs.{needs}
-use Rattle.inplace.proofs.Singles.{take-usual}
-use Rattle.inplace.proofs.Singles.{takes-single}
+use Rattle.inplace.proofs.Singles.{take-usual, takes-single}
 use Rattle.inplace.proofs.message.take.Statement.{statement}
 use Rattle.inplace.proofs.message.take.Tie as tie
 
