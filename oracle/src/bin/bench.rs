@@ -286,9 +286,10 @@ fn prepared<S: Side>(side: &mut S, calls: &[Call], source: &[u8]) -> u64 {
     all
 }
 
+#[derive(Clone)]
 struct Row {
-    name: &'static str,
-    what: &'static str,
+    name: String,
+    what: String,
     /// What the time is divided by.
     unit: &'static str,
     units: usize,
@@ -374,7 +375,7 @@ fn rows(zero: Instant) -> Vec<Row> {
     let lap = CAPACITY as u32 + 2_008;
     let end = lap + 16_800;
     let backlog = Settings { latency: 10_000, first: 0, capacity: CAPACITY };
-    let streams: [(&str, &str, u32, u32, u32, u32, u32); 16] = [
+    let streams: [(&str, &str, u32, u32, u32, u32, u32); 9] = [
         ("a", "clean stream, single-packet messages, 1,316 bytes", 10_000, 1, TS, 0, 0),
         ("a188", "the same, 188 bytes", 10_000, 1, 188, 0, 0),
         ("a16", "the same, 16 bytes", 10_000, 1, 16, 0, 0),
@@ -384,27 +385,23 @@ fn rows(zero: Instant) -> Vec<Row> {
         ("e", "messages of 7 packets, 1,316 bytes each", 10_000, 7, TS, 0, 0),
         ("e16", "the same, 16 bytes each", 10_000, 7, 16, 0, 0),
         ("f", "clean, an ACK and an ACK2 every 64 packets, 1,316 bytes", 10_000, 1, TS, 0, 64),
-        ("wa", "as a, in a window of 1,200", 10_000, 1, TS, 0, 0),
-        ("wa188", "as a188, in a window of 1,200", 10_000, 1, 188, 0, 0),
-        ("wa16", "as a16, in a window of 1,200", 10_000, 1, 16, 0, 0),
-        ("wa0", "as a0, in a window of 32", 0, 1, TS, 0, 0),
-        ("wb", "as b, in a window of 1,200", 10_000, 1, TS, 100, 0),
-        ("wb16", "as b16, in a window of 1,200", 10_000, 1, 16, 100, 0),
-        ("wf", "as f, in a window of 1,200", 10_000, 1, TS, 0, 64),
     ];
     for (name, what, latency, packets, length, loss, acks) in streams {
         stream(&mut m, 0, lap, packets, length, loss, acks);
         let before = m.take();
         stream(&mut m, lap, end, packets, length, loss, acks);
         let timed = m.take();
-        let capacity = match name {
-            "wa0" => SMALLEST,
-            _ if name.starts_with('w') => SMALLER,
-            _ => CAPACITY,
-        };
-        let settings = Settings { latency, capacity, ..backlog };
+        let settings = Settings { latency, ..backlog };
         let units = (end - lap) as usize;
-        rows.push(Row { name, what, unit: "packet", units, settings, before, timed, repeats: 31 });
+        rows.push(Row { name: name.into(), what: what.into(), unit: "packet", units, settings, before, timed, repeats: 31 });
+    }
+
+    // The streams of single packets once more, each in a window of the size that it needs.
+    for row in rows.clone().into_iter().filter(|r| !r.name.starts_with('e')) {
+        let (capacity, said) = if row.settings.latency == 0 { (SMALLEST, "32") } else { (SMALLER, "1,200") };
+        let what = format!("as {}, in a window of {said}", row.name);
+        let settings = Settings { capacity, ..row.settings };
+        rows.push(Row { name: format!("w{}", row.name), what, settings, ..row });
     }
 
     // The front alone is lost: its recovery looks through the whole window for the next number to acknowledge.
@@ -416,7 +413,7 @@ fn rows(zero: Instant) -> Vec<Row> {
         let before = m.take();
         m.data(0, 1_000, 1, length);
         let timed = m.take();
-        rows.push(Row { name, what, unit: "recovery", units: 1, settings: never, before, timed, repeats: 101 });
+        rows.push(Row { name: name.into(), what: what.into(), unit: "recovery", units: 1, settings: never, before, timed, repeats: 101 });
     }
     // All but the last are lost, and come in order: each moves the number to acknowledge on by one.
     for (name, what, length) in
@@ -429,7 +426,7 @@ fn rows(zero: Instant) -> Vec<Row> {
         }
         let timed = m.take();
         let units = CAPACITY - 1;
-        rows.push(Row { name, what, unit: "recovery", units, settings: never, before, timed, repeats: 31 });
+        rows.push(Row { name: name.into(), what: what.into(), unit: "recovery", units, settings: never, before, timed, repeats: 31 });
     }
 
     // Every second number is lost; each report is at a time at which all are due again.
@@ -445,8 +442,8 @@ fn rows(zero: Instant) -> Vec<Row> {
     }
     let timed = m.take();
     rows.push(Row {
-        name: "d",
-        what: "loss reports, full window half lost, all due: 4,096 words",
+        name: "d".into(),
+        what: "loss reports, full window half lost, all due: 4,096 words".into(),
         unit: "report",
         units: 20,
         settings: never,
@@ -460,8 +457,8 @@ fn rows(zero: Instant) -> Vec<Row> {
     }
     let timed = m.take();
     rows.push(Row {
-        name: "dn",
-        what: "the same, none due",
+        name: "dn".into(),
+        what: "the same, none due".into(),
         unit: "report",
         units: 20,
         settings: never,
@@ -479,7 +476,7 @@ fn rows(zero: Instant) -> Vec<Row> {
             m.data(i * 37 % CAPACITY as u32, 1_000, 1, length);
         }
         let timed = m.take();
-        rows.push(Row { name, what, unit: "packet", units: 16_384, settings: never, before, timed, repeats: 31 });
+        rows.push(Row { name: name.into(), what: what.into(), unit: "packet", units: 16_384, settings: never, before, timed, repeats: 31 });
     }
     rows
 }
@@ -488,10 +485,10 @@ fn rows(zero: Instant) -> Vec<Row> {
 fn rows_of(chosen: &[String], zero: Instant) -> Vec<Row> {
     let mut rows = rows(zero);
     if let Some(unknown) = chosen.iter().find(|c| rows.iter().all(|r| r.name != c.as_str())) {
-        eprintln!("no row {unknown}: there are {}", rows.iter().map(|r| r.name).collect::<Vec<_>>().join(" "));
+        eprintln!("no row {unknown}: there are {}", rows.iter().map(|r| r.name.as_str()).collect::<Vec<_>>().join(" "));
         exit(2)
     }
-    rows.retain(|r| chosen.is_empty() || chosen.iter().any(|c| c == r.name));
+    rows.retain(|r| chosen.is_empty() || chosen.contains(&r.name));
     rows
 }
 
