@@ -20,7 +20,7 @@ use Rattle.acks.specs.declared.history.Ack2Answer.{Ack2Answer}
 use Rattle.acks.specs.declared.history.Ack2Answer.the-variants.{NotHeld, Held}
 use Rattle.acks.specs.declared.history.LightAcked.{LightAcked}
 use Rattle.acks.proofs.HistorySteps.{leaving-le, leaving-room}
-use Rattle.acks.proofs.RateKept.{since-under}
+use Rattle.numbers.proofs.Signs.{since-under}
 
 -- the tests of a history, taken apart and put together
 pub record Ranges (h : History) : Type 0 where

@@ -13,12 +13,11 @@ use lib.Signed.{ltZ}
 use mir.Syntax.{w64}
 use mir.Val.{Fits}
 use Rattle.numbers.specs.Circular.{before, sum}
-use Rattle.numbers.specs.Instants.{intervalOf}
+use Rattle.numbers.specs.Instants.{intervalOf, sinceTime}
 use Rattle.numbers.proofs.Flags.{and-false, by-test, by-order}
 use Rattle.numbers.proofs.Halves.{size, above--, below--, halves-not-lt}
 use Rattle.numbers.proofs.Signs.{clamp-in, clamp-high}
 use Rattle.acks.specs.History.{ackSlot, numberAt, departureAt, since, writeAck, freshHistory, isRecent, noneDue, isWorn, isExpired, firstKept, leaving, nextAck, firstAfter, AckOutcome, ackEnded, appendOf, fullAckOf, withLast, ack2Of, lightAckOf, clearedOf, historyOk}
-use Rattle.acks.specs.Rates.{sinceTime}
 use Rattle.acks.specs.declared.history.History.{History}
 use Rattle.acks.specs.declared.history.AckAnswer.the-variants.{Nothing, Worn, Ack}
 use Rattle.acks.specs.declared.history.Answered.{Answered}

@@ -7,7 +7,7 @@ use lib.IntN.{pos}
 use lib.ListN.{getD, set}
 use Rattle.numbers.specs.Circular.{before, sum}
 use Rattle.numbers.specs.Ring.{placeIn}
-use Rattle.acks.specs.Rates.{sinceTime}
+use Rattle.numbers.specs.Instants.{sinceTime}
 use Rattle.acks.specs.declared.history.History.{History}
 use Rattle.acks.specs.declared.history.Acked.{Acked}
 use Rattle.acks.specs.declared.history.AckAnswer.the-variants.{Nothing, Worn, Ack}

@@ -1,5 +1,3 @@
-// ACKs, round trip and rates: 01, "ACKs, RTT, rates". history.rs, rtt.rs, and the two windows of arq.rs.
+// ACKs and round trip: 01, "ACKs, RTT, rates". history.rs and rtt.rs.
 pub mod history;
-pub mod median;
-pub mod rates;
 pub mod rtt;

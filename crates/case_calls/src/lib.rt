@@ -1,6 +1,4 @@
 // One call of the receiver each, with a line: the call's name, then its answer in the words of 01's trace lines ("Trace, mark DLT"). For the case programs.
-use acks::rates::Link;
-use acks::rates::Speed;
 use case_print::put;
 use case_print::put_bytes;
 use case_print::put_count;
@@ -13,17 +11,19 @@ use case_print::put_refused;
 use case_print::put_small;
 use case_print::put_word;
 use case_print::put_words;
+use feedback::acking::FullAckAnswer;
+use feedback::acking::RttAnswer;
+use feedback::loss::LossAnswer;
+use feedback::sync::ClockAnswer;
 use head::state::Head;
-use receiver::acking::FullAckAnswer;
-use receiver::acking::RttAnswer;
+use intervals::rates::Link;
+use intervals::rates::Speed;
 use receiver::data::DataAnswer;
-use receiver::loss::LossAnswer;
 use receiver::message::MessageAnswer;
-use receiver::request::ClearAnswer;
-use receiver::request::DropAnswer;
-use receiver::request::RoomAnswer;
-use receiver::show::ShowAnswer;
-use receiver::sync::ClockAnswer;
+use upkeep::request::ClearAnswer;
+use upkeep::request::DropAnswer;
+use upkeep::request::RoomAnswer;
+use upkeep::show::ShowAnswer;
 
 // The answers.
 
@@ -278,7 +278,7 @@ pub fn pop_short(h: Head, words: &[u64; 12], bytes: &[u8; 5824], time: i64) -> H
 }
 
 fn nak_into(h: Head, words: &mut [u64], list: &mut [u32], time: i64) -> Head {
-    let reported = receiver::loss::on_nak_event(h, words, list, time);
+    let reported = feedback::loss::on_nak_event(h, words, list, time);
     let answer = reported.answer;
     put(b"nak ");
     put_loss(answer, list);
@@ -297,7 +297,7 @@ pub fn nak_short(h: Head, words: &mut [u64; 12], time: i64) -> Head {
 }
 
 pub fn drop_request(h: Head, words: &mut [u64; 12], first: u32, last: u32) {
-    let answer = receiver::request::handle_drop_request(h, words, first, last);
+    let answer = upkeep::request::handle_drop_request(h, words, first, last);
     put(b"drop ");
     match answer {
         DropAnswer::Gone(n) => {
@@ -312,7 +312,7 @@ pub fn drop_request(h: Head, words: &mut [u64; 12], first: u32, last: u32) {
 }
 
 pub fn clock(h: Head, time: i64, stamp: u32) -> Head {
-    let clocked = receiver::sync::synchronize_clock(h, time, stamp);
+    let clocked = feedback::sync::synchronize_clock(h, time, stamp);
     let answer = clocked.answer;
     put(b"clock ");
     put_clock(answer);
@@ -320,7 +320,7 @@ pub fn clock(h: Head, time: i64, stamp: u32) -> Head {
 }
 
 fn full_in(h: Head, area: &mut [u64], time: i64) -> Head {
-    let acked = receiver::acking::on_full_ack_event(h, area, time);
+    let acked = feedback::acking::on_full_ack_event(h, area, time);
     let answer = acked.answer;
     put(b"full ");
     put_full(answer);
@@ -336,7 +336,7 @@ pub fn full_short(h: Head, area: &mut [u64; 12], time: i64) -> Head {
 }
 
 fn ack2_in(h: Head, area: &[u64], time: i64, number: u32) -> Head {
-    let acked = receiver::acking::handle_ack2_packet(h, area, time, number);
+    let acked = feedback::acking::handle_ack2_packet(h, area, time, number);
     let answer = acked.answer;
     put(b"ack2 ");
     put_rtt(answer);
@@ -352,7 +352,7 @@ pub fn ack2_short(h: Head, area: &[u64; 12], time: i64, number: u32) -> Head {
 }
 
 pub fn clear(h: Head) -> Head {
-    let cleared = receiver::request::clear(h);
+    let cleared = upkeep::request::clear(h);
     let answer = cleared.answer;
     put(b"clear ");
     match answer {
@@ -367,7 +367,7 @@ pub fn clear(h: Head) -> Head {
 }
 
 pub fn room(h: Head) {
-    let answer = receiver::request::buffer_available(h);
+    let answer = upkeep::request::buffer_available(h);
     put(b"room");
     match answer {
         RoomAnswer::Room(n) => {
@@ -384,8 +384,8 @@ pub fn room(h: Head) {
 // The part that is shown, then the second question.
 pub fn show(h: Head, words: &[u64; 12], bytes: &[u8; 5824], number: u32) {
     put(b"show ");
-    put_bytes(receiver::show::show(h, words, bytes, number));
-    let answer = receiver::show::shown(h, words, bytes, number);
+    put_bytes(upkeep::show::show(h, words, bytes, number));
+    let answer = upkeep::show::shown(h, words, bytes, number);
     put(b"shown ");
     match answer {
         ShowAnswer::Received => {

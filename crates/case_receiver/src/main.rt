@@ -1,6 +1,4 @@
 // Runs every public call of the receiver and writes a line for each: its name, then its answer in the words of 01's trace lines. Carries 01, "Window", "ACKs, RTT, rates" and "Clock", by example.
-use acks::rates::Arrivals;
-use acks::rates::Links;
 use case_calls::ack2;
 use case_calls::clear;
 use case_calls::clock;
@@ -18,6 +16,8 @@ use case_calls::show;
 use case_calls::slot_area;
 use case_print::put;
 use head::state::Head;
+use intervals::rates::Arrivals;
+use intervals::rates::Links;
 use numbers::instant::Moment;
 
 // Heads that no few calls lead to.

@@ -7,17 +7,19 @@ use borrow.Author.Tests.{ne-eqb}
 use lib.IntN.{ℤ, pos}
 use Rattle.receiver.specs.declared.data.DataAnswer.{DataAnswer}
 use Rattle.receiver.specs.declared.message.MessageAnswer.{MessageAnswer}
-use Rattle.receiver.specs.declared.loss.LossAnswer.{LossAnswer}
-use Rattle.receiver.specs.declared.loss.LossAnswer.the-variants as losses
-use Rattle.receiver.specs.declared.request.DropAnswer.{DropAnswer}
-use Rattle.receiver.specs.declared.request.ClearAnswer.{ClearAnswer}
-use Rattle.receiver.specs.declared.request.RoomAnswer.{RoomAnswer}
-use Rattle.receiver.specs.declared.show.ShowAnswer.{ShowAnswer}
-use Rattle.receiver.specs.declared.show.ShowAnswer.the-variants as shows
-use Rattle.receiver.specs.declared.sync.ClockAnswer.{ClockAnswer}
-use Rattle.receiver.specs.declared.acking.FullAckAnswer.{FullAckAnswer}
-use Rattle.receiver.specs.declared.acking.RttAnswer.{RttAnswer}
-use Rattle.receiver.specs.Paper.{dataLine, messageLine, lossLine, shownLine, fullAckLine, rttLine, dropLine, clockLine, clearLine, roomLine}
+use Rattle.feedback.specs.declared.loss.LossAnswer.{LossAnswer}
+use Rattle.feedback.specs.declared.loss.LossAnswer.the-variants as losses
+use Rattle.upkeep.specs.declared.request.DropAnswer.{DropAnswer}
+use Rattle.upkeep.specs.declared.request.ClearAnswer.{ClearAnswer}
+use Rattle.upkeep.specs.declared.request.RoomAnswer.{RoomAnswer}
+use Rattle.upkeep.specs.declared.show.ShowAnswer.{ShowAnswer}
+use Rattle.upkeep.specs.declared.show.ShowAnswer.the-variants as shows
+use Rattle.feedback.specs.declared.sync.ClockAnswer.{ClockAnswer}
+use Rattle.feedback.specs.declared.acking.FullAckAnswer.{FullAckAnswer}
+use Rattle.feedback.specs.declared.acking.RttAnswer.{RttAnswer}
+use Rattle.receiver.specs.Paper.{dataLine, messageLine}
+use Rattle.feedback.specs.Paper.{lossLine, fullAckLine, rttLine, clockLine}
+use Rattle.upkeep.specs.Paper.{shownLine, dropLine, clearLine, roomLine}
 use Rattle.cells.specs.Cells.{cellsOf, countLine, placeLine, lossCells, shownCells, madeCells}
 use Rattle.cells.proofs.Numbers.{read-back}
 

@@ -6,15 +6,16 @@ use Prim.Native.Nat.{_^_, _-_}
 use lib.IntN.{pos, negsuc}
 use lib.Ieee as ieee
 use Rattle.numbers.specs.Circular.{signed, wrap}
-use Rattle.acks.specs.declared.rates.Speed.the-variants as speeds
-use Rattle.acks.specs.declared.rates.Link.the-variants as links
-use Rattle.receiver.specs.Paper.{dataLine, messageLine, fullAckLine, clockLine}
+use Rattle.intervals.specs.declared.rates.Speed.the-variants as speeds
+use Rattle.intervals.specs.declared.rates.Link.the-variants as links
+use Rattle.receiver.specs.Paper.{dataLine, messageLine}
+use Rattle.feedback.specs.Paper.{fullAckLine, clockLine}
 use Rattle.receiver.specs.declared.data.DataAnswer.the-variants as datas
 use Rattle.receiver.specs.declared.message.MessageAnswer.the-variants as messages
-use Rattle.receiver.specs.declared.loss.LossAnswer.the-variants as losses
-use Rattle.receiver.specs.declared.show.ShowAnswer.the-variants as shows
-use Rattle.receiver.specs.declared.sync.ClockAnswer.the-variants as clocks
-use Rattle.receiver.specs.declared.acking.FullAckAnswer.the-variants as acks
+use Rattle.feedback.specs.declared.loss.LossAnswer.the-variants as losses
+use Rattle.upkeep.specs.declared.show.ShowAnswer.the-variants as shows
+use Rattle.feedback.specs.declared.sync.ClockAnswer.the-variants as clocks
+use Rattle.feedback.specs.declared.acking.FullAckAnswer.the-variants as acks
 use Rattle.cells.specs.Cells.{cell, cellsOf, lossCells, shownCells, madeCells}
 
 -- got 2147483647 1

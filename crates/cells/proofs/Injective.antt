@@ -14,31 +14,33 @@ use mir.Syntax.{w64}
 use mir.Val.{SFits}
 use Rattle.numbers.specs.Circular.{wrap}
 use Rattle.numbers.proofs.Signs.{signed-congruent}
-use Rattle.acks.specs.declared.rates.Speed.{Speed}
-use Rattle.acks.specs.declared.rates.Speed.the-variants as speeds
-use Rattle.acks.specs.declared.rates.Link.{Link}
-use Rattle.acks.specs.declared.rates.Link.the-variants as links
+use Rattle.intervals.specs.declared.rates.Speed.{Speed}
+use Rattle.intervals.specs.declared.rates.Speed.the-variants as speeds
+use Rattle.intervals.specs.declared.rates.Link.{Link}
+use Rattle.intervals.specs.declared.rates.Link.the-variants as links
 use Rattle.receiver.specs.declared.data.DataAnswer.{DataAnswer}
 use Rattle.receiver.specs.declared.data.DataAnswer.the-variants as datas
 use Rattle.receiver.specs.declared.message.MessageAnswer.{MessageAnswer}
 use Rattle.receiver.specs.declared.message.MessageAnswer.the-variants as messages
-use Rattle.receiver.specs.declared.loss.LossAnswer.{LossAnswer}
-use Rattle.receiver.specs.declared.loss.LossAnswer.the-variants as losses
-use Rattle.receiver.specs.declared.request.DropAnswer.{DropAnswer}
-use Rattle.receiver.specs.declared.request.DropAnswer.the-variants as drops
-use Rattle.receiver.specs.declared.request.ClearAnswer.{ClearAnswer}
-use Rattle.receiver.specs.declared.request.ClearAnswer.the-variants as clears
-use Rattle.receiver.specs.declared.request.RoomAnswer.{RoomAnswer}
-use Rattle.receiver.specs.declared.request.RoomAnswer.the-variants as rooms
-use Rattle.receiver.specs.declared.show.ShowAnswer.{ShowAnswer}
-use Rattle.receiver.specs.declared.show.ShowAnswer.the-variants as shows
-use Rattle.receiver.specs.declared.sync.ClockAnswer.{ClockAnswer}
-use Rattle.receiver.specs.declared.sync.ClockAnswer.the-variants as clocks
-use Rattle.receiver.specs.declared.acking.FullAckAnswer.{FullAckAnswer}
-use Rattle.receiver.specs.declared.acking.FullAckAnswer.the-variants as acks
-use Rattle.receiver.specs.declared.acking.RttAnswer.{RttAnswer}
-use Rattle.receiver.specs.declared.acking.RttAnswer.the-variants as rtts
-use Rattle.receiver.specs.Paper.{packetsValue, bytesValue, linkValue, dataLine, messageLine, fullAckLine, rttLine, dropLine, clockLine, clearLine, roomLine, shownLine}
+use Rattle.feedback.specs.declared.loss.LossAnswer.{LossAnswer}
+use Rattle.feedback.specs.declared.loss.LossAnswer.the-variants as losses
+use Rattle.upkeep.specs.declared.request.DropAnswer.{DropAnswer}
+use Rattle.upkeep.specs.declared.request.DropAnswer.the-variants as drops
+use Rattle.upkeep.specs.declared.request.ClearAnswer.{ClearAnswer}
+use Rattle.upkeep.specs.declared.request.ClearAnswer.the-variants as clears
+use Rattle.upkeep.specs.declared.request.RoomAnswer.{RoomAnswer}
+use Rattle.upkeep.specs.declared.request.RoomAnswer.the-variants as rooms
+use Rattle.upkeep.specs.declared.show.ShowAnswer.{ShowAnswer}
+use Rattle.upkeep.specs.declared.show.ShowAnswer.the-variants as shows
+use Rattle.feedback.specs.declared.sync.ClockAnswer.{ClockAnswer}
+use Rattle.feedback.specs.declared.sync.ClockAnswer.the-variants as clocks
+use Rattle.feedback.specs.declared.acking.FullAckAnswer.{FullAckAnswer}
+use Rattle.feedback.specs.declared.acking.FullAckAnswer.the-variants as acks
+use Rattle.feedback.specs.declared.acking.RttAnswer.{RttAnswer}
+use Rattle.feedback.specs.declared.acking.RttAnswer.the-variants as rtts
+use Rattle.receiver.specs.Paper.{dataLine, messageLine}
+use Rattle.feedback.specs.Paper.{packetsValue, bytesValue, linkValue, fullAckLine, rttLine, clockLine}
+use Rattle.upkeep.specs.Paper.{dropLine, clearLine, roomLine, shownLine}
 use Rattle.cells.specs.Cells.{cell, valueCell, cellsOf, countLine, lossCells, shownCells}
 use Rattle.cells.proofs.Numbers.{cell-same, cell-wraps, cell-low}
 

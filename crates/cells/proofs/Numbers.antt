@@ -16,9 +16,10 @@ use Rattle.numbers.specs.Circular.{signed, wrap}
 use Rattle.numbers.proofs.Flags.{impossible}
 use Rattle.numbers.proofs.Halves.{same, in-range, above--, below--}
 use Rattle.numbers.proofs.Signs.{signed-low, signed-only, widens}
-use Rattle.acks.specs.declared.rates.Speed.{Speed}
-use Rattle.acks.specs.declared.rates.Link.{Link}
-use Rattle.receiver.specs.Paper.{flag, packetsValue, bytesValue, linkValue}
+use Rattle.intervals.specs.declared.rates.Speed.{Speed}
+use Rattle.intervals.specs.declared.rates.Link.{Link}
+use Rattle.head.specs.Paper.{flag}
+use Rattle.feedback.specs.Paper.{packetsValue, bytesValue, linkValue}
 use Rattle.cells.specs.Cells.{cell, valueCell}
 
 -- a number that fits an i64 is its own cell

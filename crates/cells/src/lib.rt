@@ -4,20 +4,23 @@ ghost use mathlib.Core.Path.{_≡_};
 ghost use mathlib.Core.List.{[], _∷_};
 ghost use lib.IntN.{pos};
 ghost use lib.Ieee.{binary64, toBits};
-ghost use Rattle.receiver.specs.Paper.{flag, packetsValue, bytesValue, linkValue, dataLine, messageLine, fullAckLine, rttLine, dropLine, clearLine, roomLine, shownLine, clockLine};
+ghost use Rattle.head.specs.Paper.{flag};
+ghost use Rattle.receiver.specs.Paper.{dataLine, messageLine};
+ghost use Rattle.feedback.specs.Paper.{packetsValue, bytesValue, linkValue, fullAckLine, rttLine, clockLine};
+ghost use Rattle.upkeep.specs.Paper.{dropLine, clearLine, roomLine, shownLine};
 ghost use Rattle.cells.specs.Cells.{cell, valueCell, cellsOf, countLine, lossCells, shownCells, madeCells};
-use acks::rates::Link;
-use acks::rates::Speed;
-use receiver::acking::FullAckAnswer;
-use receiver::acking::RttAnswer;
+use feedback::acking::FullAckAnswer;
+use feedback::acking::RttAnswer;
+use feedback::loss::LossAnswer;
+use feedback::sync::ClockAnswer;
+use intervals::rates::Link;
+use intervals::rates::Speed;
 use receiver::data::DataAnswer;
-use receiver::loss::LossAnswer;
 use receiver::message::MessageAnswer;
-use receiver::request::ClearAnswer;
-use receiver::request::DropAnswer;
-use receiver::request::RoomAnswer;
-use receiver::show::ShowAnswer;
-use receiver::sync::ClockAnswer;
+use upkeep::request::ClearAnswer;
+use upkeep::request::DropAnswer;
+use upkeep::request::RoomAnswer;
+use upkeep::show::ShowAnswer;
 
 // A u64 as an i64: two's complement, so what lies over an i64's end is below 0.
 fn big(n: u64) -> i64

@@ -6,16 +6,16 @@ use Prim.Native.Nat.{ℕ}
 use lib.IntN.{ℤ}
 use Rattle.window.specs.declared.push.Packet.{Packet}
 use Rattle.head.specs.declared.state.Head.{Head}
-use Rattle.receiver.specs.Acking.{FullAckOutcome, fullAckEnded, Ack2Outcome, ack2Ended}
+use Rattle.feedback.specs.Acking.{FullAckOutcome, fullAckEnded, Ack2Outcome, ack2Ended}
 use Rattle.receiver.specs.Data.{DataOutcome, dataEnded}
-use Rattle.receiver.specs.Loss.{LossOutcome, lossEnded}
+use Rattle.feedback.specs.Loss.{LossOutcome, lossEnded}
 use Rattle.receiver.specs.Message.{MessageOutcome, messageEnded}
-use Rattle.receiver.specs.Request.{DropOutcome, dropEnded, ClearOutcome, clearEnded}
-use Rattle.receiver.specs.Sync.{ClockOutcome, clockEnded}
+use Rattle.upkeep.specs.Request.{DropOutcome, dropEnded, ClearOutcome, clearEnded}
+use Rattle.feedback.specs.Sync.{ClockOutcome, clockEnded}
 use Rattle.receiver.specs.declared.data.DataAnswer.{DataAnswer}
-use Rattle.receiver.specs.declared.acking.RttAnswer.{RttAnswer}
-use Rattle.receiver.specs.declared.request.DropAnswer.{DropAnswer}
-use Rattle.receiver.specs.declared.sync.ClockAnswer.{ClockAnswer}
+use Rattle.feedback.specs.declared.acking.RttAnswer.{RttAnswer}
+use Rattle.upkeep.specs.declared.request.DropAnswer.{DropAnswer}
+use Rattle.feedback.specs.declared.sync.ClockAnswer.{ClockAnswer}
 use Rattle.counts.specs.Counts.{dataCounts, ack2Counts, dropCounts, clockCounts}
 use Rattle.counters.specs.Calls.{Counted, counted, dataCounted, ack2Counted, dropCounted, clockCounted, messageCounted, lossCounted, fullAckCounted, clearCounted}
 use Rattle.counts.specs.declared.Counters.{Counters}

@@ -5,12 +5,12 @@ use lib.IntN.{ℤ}
 use lib.ListN.{length}
 use Rattle.window.specs.declared.push.Packet.{Packet}
 use Rattle.head.specs.declared.state.Head.{Head}
-use Rattle.receiver.specs.Acking.{FullAckOutcome, Ack2Outcome, ack2CallOf, fullAckCallOf}
+use Rattle.feedback.specs.Acking.{FullAckOutcome, Ack2Outcome, ack2CallOf, fullAckCallOf}
 use Rattle.receiver.specs.Data.{DataOutcome, dataCallOf}
-use Rattle.receiver.specs.Loss.{LossOutcome, reportCallOf}
+use Rattle.feedback.specs.Loss.{LossOutcome, reportCallOf}
 use Rattle.receiver.specs.Message.{MessageOutcome, popCallOf}
-use Rattle.receiver.specs.Request.{DropOutcome, ClearOutcome, dropCallOf, clearCallOf}
-use Rattle.receiver.specs.Sync.{ClockOutcome, clockCallOf}
+use Rattle.upkeep.specs.Request.{DropOutcome, ClearOutcome, dropCallOf, clearCallOf}
+use Rattle.feedback.specs.Sync.{ClockOutcome, clockCallOf}
 use Rattle.counts.specs.Counts.{dataCounts, ack2Counts, dropCounts, clockCounts}
 use Rattle.counts.specs.declared.Counters.{Counters}
 

@@ -1,10 +1,10 @@
 // The loss report beside the counters, receiver/mod.rs `on_nak_event`: it counts nothing. 01, "Counters follow 003".
 ghost use mathlib.Core.Path.{_≡_};
-ghost use Rattle.receiver.specs.Loss.{lossEnded};
+ghost use Rattle.feedback.specs.Loss.{lossEnded};
 ghost use Rattle.counters.specs.Calls.{counted, lossCounted};
 use counts::Counters;
+use feedback::loss::Reported;
 use head::state::Head;
-use receiver::loss::Reported;
 
 pub struct LossCounted {
     pub counters: Counters,
@@ -20,7 +20,7 @@ pub fn on_nak_event(
 ) -> LossCounted
     ensures { λ r. ⌜ counted (lossEnded (r .reported) (now (words .exit)) (now (list .exit))) (r .counters) ≡ lossCounted c h (now (words .entry)) (now (list .entry)) time ⌝ }
 {
-    let reported = receiver::loss::on_nak_event(h, words, list, time);
+    let reported = feedback::loss::on_nak_event(h, words, list, time);
     LossCounted {
         counters: c,
         reported,

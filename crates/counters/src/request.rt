@@ -1,12 +1,12 @@
 // The drop request with its counters, receiver/mod.rs `handle_drop_request`, and clear and room, which count nothing: 01, "Counters follow 003".
 ghost use mathlib.Core.Path.{_≡_};
-ghost use Rattle.receiver.specs.Request.{dropEnded, clearEnded, roomEnded, roomCallOf};
+ghost use Rattle.upkeep.specs.Request.{dropEnded, clearEnded, roomEnded, roomCallOf};
 ghost use Rattle.counters.specs.Calls.{counted, dropCounted, clearCounted};
 use counts::Counters;
 use head::state::Head;
-use receiver::request::Cleared;
-use receiver::request::DropAnswer;
-use receiver::request::RoomAnswer;
+use upkeep::request::Cleared;
+use upkeep::request::DropAnswer;
+use upkeep::request::RoomAnswer;
 
 pub struct DropCounted {
     pub counters: Counters,
@@ -27,7 +27,7 @@ pub fn handle_drop_request(
 ) -> DropCounted
     ensures { λ r. ⌜ counted (dropEnded (r .answer) (now (words .exit))) (r .counters) ≡ dropCounted c h (now (words .entry)) first last ⌝ }
 {
-    let answer = receiver::request::handle_drop_request(h, words, first, last);
+    let answer = upkeep::request::handle_drop_request(h, words, first, last);
     let counters = counts::after::after_drop(c, answer);
     DropCounted { counters, answer }
 }
@@ -35,7 +35,7 @@ pub fn handle_drop_request(
 pub fn clear(c: Counters, h: Head) -> ClearCounted
     ensures { λ r. ⌜ counted (clearEnded (r .cleared)) (r .counters) ≡ clearCounted c h ⌝ }
 {
-    let cleared = receiver::request::clear(h);
+    let cleared = upkeep::request::clear(h);
     ClearCounted {
         counters: c,
         cleared,
@@ -46,5 +46,5 @@ pub fn clear(c: Counters, h: Head) -> ClearCounted
 pub fn buffer_available(h: Head) -> RoomAnswer
     ensures { λ r. ⌜ roomEnded r ≡ roomCallOf h ⌝ }
 {
-    receiver::request::buffer_available(h)
+    upkeep::request::buffer_available(h)
 }

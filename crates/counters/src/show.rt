@@ -2,18 +2,18 @@
 ghost use mathlib.Core.Path.{_≡_};
 ghost use lib.ListN.{length};
 ghost use Rattle.window.specs.Show.{ShownAt};
-ghost use Rattle.receiver.specs.Show.{placeCallOf, shownEnded, shownCallOf};
+ghost use Rattle.upkeep.specs.Show.{placeCallOf, shownEnded, shownCallOf};
 use head::state::Head;
-use receiver::show::ShowAnswer;
+use upkeep::show::ShowAnswer;
 
 pub fn show<'a>(h: Head, words: &[u64], bytes: &'a [u8], number: u32) -> &'a [u8]
     ensures { λ r. ⌜ ShownAt (placeCallOf h (now (words .entry)) (length (now (bytes .entry))) number) (bytes .entry) r ⌝ }
 {
-    receiver::show::show(h, words, bytes, number)
+    upkeep::show::show(h, words, bytes, number)
 }
 
 pub fn shown(h: Head, words: &[u64], bytes: &[u8], number: u32) -> ShowAnswer
     ensures { λ r. ⌜ shownEnded r ≡ shownCallOf h (now (words .entry)) (length (now (bytes .entry))) number ⌝ }
 {
-    receiver::show::shown(h, words, bytes, number)
+    upkeep::show::shown(h, words, bytes, number)
 }

@@ -9,9 +9,9 @@ use lib.IntN.{pos}
 use Rattle.numbers.proofs.Flags.{and-false}
 use Rattle.numbers.specs.Circular.{sum}
 use Rattle.receiver.specs.declared.data.DataAnswer.the-variants as datas
-use Rattle.receiver.specs.declared.acking.RttAnswer.the-variants as rtts
-use Rattle.receiver.specs.declared.request.DropAnswer.the-variants as drops
-use Rattle.receiver.specs.declared.sync.ClockAnswer.the-variants as clocks
+use Rattle.feedback.specs.declared.acking.RttAnswer.the-variants as rtts
+use Rattle.upkeep.specs.declared.request.DropAnswer.the-variants as drops
+use Rattle.feedback.specs.declared.sync.ClockAnswer.the-variants as clocks
 use Rattle.counts.specs.Counts.{counts, fresh, raised, dataCounts, ack2Counts, dropCounts, clockCounts}
 use Rattle.counts.specs.declared.Counters.{Counters}
 

@@ -12,13 +12,13 @@ use types.Run.{OneOf, miss}
 use Rattle.numbers.specs.Circular.{sum}
 use Rattle.receiver.specs.declared.data.DataAnswer.{DataAnswer}
 use Rattle.receiver.specs.declared.data.DataAnswer.the-variants as datas
-use Rattle.receiver.specs.declared.acking.RttAnswer.{RttAnswer}
-use Rattle.receiver.specs.declared.acking.RttAnswer.the-variants as rtts
-use Rattle.receiver.specs.declared.request.DropAnswer.{DropAnswer}
-use Rattle.receiver.specs.declared.request.DropAnswer.the-variants as drops
-use Rattle.receiver.specs.declared.sync.ClockAnswer.{ClockAnswer}
-use Rattle.receiver.specs.declared.sync.ClockAnswer.the-variants as clocks
-use Rattle.receiver.proofs.sync.ClockAnswer.{the-type}
+use Rattle.feedback.specs.declared.acking.RttAnswer.{RttAnswer}
+use Rattle.feedback.specs.declared.acking.RttAnswer.the-variants as rtts
+use Rattle.upkeep.specs.declared.request.DropAnswer.{DropAnswer}
+use Rattle.upkeep.specs.declared.request.DropAnswer.the-variants as drops
+use Rattle.feedback.specs.declared.sync.ClockAnswer.{ClockAnswer}
+use Rattle.feedback.specs.declared.sync.ClockAnswer.the-variants as clocks
+use Rattle.feedback.proofs.sync.ClockAnswer.{the-type}
 use Rattle.counts.specs.Counts.{counts, fresh, unique, again, dropped, duplicate, gone, unknown, found, adjusted, raised, wire, gotCounts, refusedCounts, dataCounts, ack2Counts, dropCounts, clockCounts}
 use Rattle.counts.specs.declared.Counters.{Counters}
 

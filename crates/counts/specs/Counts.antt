@@ -6,12 +6,12 @@ use lib.Dec.{eqb, leb}
 use Rattle.numbers.specs.Circular.{sum}
 use Rattle.receiver.specs.declared.data.DataAnswer.{DataAnswer}
 use Rattle.receiver.specs.declared.data.DataAnswer.the-variants as datas
-use Rattle.receiver.specs.declared.acking.RttAnswer.{RttAnswer}
-use Rattle.receiver.specs.declared.acking.RttAnswer.the-variants as rtts
-use Rattle.receiver.specs.declared.request.DropAnswer.{DropAnswer}
-use Rattle.receiver.specs.declared.request.DropAnswer.the-variants as drops
-use Rattle.receiver.specs.declared.sync.ClockAnswer.{ClockAnswer}
-use Rattle.receiver.specs.declared.sync.ClockAnswer.the-variants as clocks
+use Rattle.feedback.specs.declared.acking.RttAnswer.{RttAnswer}
+use Rattle.feedback.specs.declared.acking.RttAnswer.the-variants as rtts
+use Rattle.upkeep.specs.declared.request.DropAnswer.{DropAnswer}
+use Rattle.upkeep.specs.declared.request.DropAnswer.the-variants as drops
+use Rattle.feedback.specs.declared.sync.ClockAnswer.{ClockAnswer}
+use Rattle.feedback.specs.declared.sync.ClockAnswer.the-variants as clocks
 use Rattle.counts.specs.declared.Counters.{Counters}
 
 -- ten counts in the order of 003: data and bytes, unique data and bytes, retransmitted, dropped data and bytes, ACK2s, ACK2 errors, clock adjustments

@@ -2,10 +2,10 @@
 ghost use mathlib.Core.Path.{_≡_};
 ghost use Rattle.counts.specs.Counts.{unique, again, dropped, duplicate, wire, gotCounts, refusedCounts, dataCounts, found, unknown, ack2Counts, gone, dropCounts, adjusted, clockCounts};
 use crate::Counters;
-use receiver::acking::RttAnswer;
+use feedback::acking::RttAnswer;
+use feedback::sync::ClockAnswer;
 use receiver::data::DataAnswer;
-use receiver::request::DropAnswer;
-use receiver::sync::ClockAnswer;
+use upkeep::request::DropAnswer;
 
 // What a packet raises by what became of it. Each starts from `duplicate`, since a packet that counts at all came.
 

@@ -17,8 +17,8 @@ use Rattle.clock.specs.Root as clockRoot
 use Rattle.clock.specs.Samples as clockSamples
 use Rattle.clock.specs.Sync as clockSync
 use Rattle.acks.specs.History as acksHistory
-use Rattle.acks.specs.Median as acksMedian
-use Rattle.acks.specs.Rates as acksRates
+use Rattle.intervals.specs.Median as intervalsMedian
+use Rattle.intervals.specs.Rates as intervalsRates
 use Rattle.acks.specs.Rtt as acksRtt
 use Rattle.slots.specs.Ring as slotsRing
 use Rattle.slots.specs.Words as slotsWords
@@ -30,13 +30,13 @@ use Rattle.window_report.specs.Drop as windowreportDrop
 use Rattle.window_report.specs.Report as windowreportReport
 use Rattle.head.specs.Head as headHead
 use Rattle.head.specs.Rules as headRules
-use Rattle.receiver.specs.Acking as receiverAcking
+use Rattle.feedback.specs.Acking as feedbackAcking
 use Rattle.receiver.specs.Data as receiverData
-use Rattle.receiver.specs.Loss as receiverLoss
+use Rattle.feedback.specs.Loss as feedbackLoss
 use Rattle.receiver.specs.Message as receiverMessage
-use Rattle.receiver.specs.Request as receiverRequest
-use Rattle.receiver.specs.Show as receiverShow
-use Rattle.receiver.specs.Sync as receiverSync
+use Rattle.upkeep.specs.Request as upkeepRequest
+use Rattle.upkeep.specs.Show as upkeepShow
+use Rattle.feedback.specs.Sync as feedbackSync
 use Rattle.shapes.specs.Shapes as shapesShapes
 use Rattle.lines.specs.Lines as linesLines
 use Rattle.trace.specs.Trace as traceTrace
@@ -45,5 +45,5 @@ use Rattle.trace.specs.Trace.{outputOf}
 use Rattle.edges.specs.Table.{Row, areasFor, table, be}
 
 pub edges : map (λ (r : Row). outputOf false (areasFor (r .capacity)) (r .file)) table ≡ map (λ (r : Row). r .gives) table
-unfolding tallyTally.tallied tallyTally.tallyBytes numbersCircular.distance numbersCircular.equal numbersCircular.after numbersCircular.before numbersCircular.saturating numbersCircular.sum numbersCircular.successor numbersCircular.wrap numbersCircular.signed numbersCircular.difference numbersOrder.order numbersInstants.clamp numbersInstants.intervalOf dltBytes.bigFrom dltBytes.big dltBytes.field dltBytes.timeAt dltHeader.isHeader dltHeader.headerOf dltRecord.leastSize dltRecord.dataOf dltRecord.fieldsOf dltRecord.recordOf textDecimal.digits textDecimal.decimal textDecimal.signedDecimal textPut.put textPut.putOf clockBase.freshBase clockBase.instantOf clockBase.stampOf clockBase.driftOf clockBase.shifted clockBase.moved clockBase.adjusted clockRanges.clockOk clockRelease.released clockRelease.releaseOf clockRoot.root clockSamples.noSamples clockSamples.distanceOf clockSamples.meanWith clockSamples.squaresWith clockSamples.sampled clockSamples.varianceOf clockSamples.deviationOf clockSamples.truncatedOf clockSync.freshClock clockSync.adjustedBy clockSync.judged clockSync.sampleTaken clockSync.synchronized acksHistory.writeAck acksHistory.freshHistory acksHistory.noneDue acksHistory.isWorn acksHistory.firstKept acksHistory.leaving acksHistory.nextAck acksHistory.firstAfter acksHistory.appendOf acksHistory.fullAckOf acksHistory.ack2Of acksHistory.lightAckOf acksHistory.clearedOf acksHistory.historyOk acksMedian.insert acksMedian.sort acksMedian.medianOf acksRates.sinceTime acksRates.windowOf acksRates.freshArrivals acksRates.freshLinks acksRates.arrivalOf acksRates.takeIn acksRates.keptOf acksRates.rateOf acksRates.speedKept acksRates.speedOf acksRates.pairOf acksRates.linkOf acksRates.linkRate acksRates.capacityOf acksRates.allUnder acksRates.arrivalsOk acksRates.linksOk acksRtt.freshRtt acksRtt.updated acksRtt.rttOk slotsRing.slotOf slotsWords.entryOf slotsWords.entryAt slotsWords.writeAt slotsWords.writeReport windowPush.withLost windowPush.appendNextOf windowPush.appendWithLossOf windowPush.recoveredOf windowPush.recoverOf windowPush.pushOf windowShow.shownOf windowWindow.firstGap windowpopPop.runFrom windowpopPop.messageOf windowpopPop.filled windowpopPop.isLate windowpopPop.walkFrom windowpopPop.dueOf windowpopPop.limitOf windowpopPop.discardFront windowpopPop.discarded windowpopPop.releasedOf windowpopPop.lateOf windowpopPop.frontOf windowpopPop.popOf windowreportDrop.giveUp windowreportDrop.sweep windowreportDrop.endIn windowreportDrop.dropOf windowreportReport.runPut windowreportReport.slotsTo windowreportReport.runsTo windowreportReport.listTo windowreportReport.reportOf headHead.headOk headHead.freshHead headHead.madeOf headRules.thenOf receiverAcking.roomyAck receiverAcking.dueAck receiverAcking.fullAckCallOf receiverAcking.heldAck2 receiverAcking.ack2CallOf receiverData.ackedOf receiverData.ratedOf receiverData.gotOf receiverData.takenOf receiverData.dataCallOf receiverLoss.reportedOf receiverLoss.reportCallOf receiverMessage.takenOf receiverMessage.popCallOf receiverRequest.dropCallOf receiverRequest.clearedOf receiverRequest.clearCallOf receiverRequest.roomCallOf receiverShow.placeCallOf receiverShow.shownCallOf receiverSync.syncOf receiverSync.clockCallOf shapesShapes.spaced shapesShapes.closed shapesShapes.lineOf linesLines.endBytes linesLines.badBytes traceTrace.linesOf traceTrace.outputOf be
+unfolding tallyTally.tallied tallyTally.tallyBytes numbersCircular.distance numbersCircular.equal numbersCircular.after numbersCircular.before numbersCircular.saturating numbersCircular.sum numbersCircular.successor numbersCircular.wrap numbersCircular.signed numbersCircular.difference numbersOrder.order numbersInstants.clamp numbersInstants.intervalOf dltBytes.bigFrom dltBytes.big dltBytes.field dltBytes.timeAt dltHeader.isHeader dltHeader.headerOf dltRecord.leastSize dltRecord.dataOf dltRecord.fieldsOf dltRecord.recordOf textDecimal.digits textDecimal.decimal textDecimal.signedDecimal textPut.put textPut.putOf clockBase.freshBase clockBase.instantOf clockBase.stampOf clockBase.driftOf clockBase.shifted clockBase.moved clockBase.adjusted clockRanges.clockOk clockRelease.released clockRelease.releaseOf clockRoot.root clockSamples.noSamples clockSamples.distanceOf clockSamples.meanWith clockSamples.squaresWith clockSamples.sampled clockSamples.varianceOf clockSamples.deviationOf clockSamples.truncatedOf clockSync.freshClock clockSync.adjustedBy clockSync.judged clockSync.sampleTaken clockSync.synchronized acksHistory.writeAck acksHistory.freshHistory acksHistory.noneDue acksHistory.isWorn acksHistory.firstKept acksHistory.leaving acksHistory.nextAck acksHistory.firstAfter acksHistory.appendOf acksHistory.fullAckOf acksHistory.ack2Of acksHistory.lightAckOf acksHistory.clearedOf acksHistory.historyOk intervalsMedian.insert intervalsMedian.sort intervalsMedian.medianOf numbersInstants.sinceTime intervalsRates.windowOf intervalsRates.freshArrivals intervalsRates.freshLinks intervalsRates.arrivalOf intervalsRates.takeIn intervalsRates.keptOf intervalsRates.rateOf intervalsRates.speedKept intervalsRates.speedOf intervalsRates.pairOf intervalsRates.linkOf intervalsRates.linkRate intervalsRates.capacityOf intervalsRates.allUnder intervalsRates.arrivalsOk intervalsRates.linksOk acksRtt.freshRtt acksRtt.updated acksRtt.rttOk slotsRing.slotOf slotsWords.entryOf slotsWords.entryAt slotsWords.writeAt slotsWords.writeReport windowPush.withLost windowPush.appendNextOf windowPush.appendWithLossOf windowPush.recoveredOf windowPush.recoverOf windowPush.pushOf windowShow.shownOf windowWindow.firstGap windowpopPop.runFrom windowpopPop.messageOf windowpopPop.filled windowpopPop.isLate windowpopPop.walkFrom windowpopPop.dueOf windowpopPop.limitOf windowpopPop.discardFront windowpopPop.discarded windowpopPop.releasedOf windowpopPop.lateOf windowpopPop.frontOf windowpopPop.popOf windowreportDrop.giveUp windowreportDrop.sweep windowreportDrop.endIn windowreportDrop.dropOf windowreportReport.runPut windowreportReport.slotsTo windowreportReport.runsTo windowreportReport.listTo windowreportReport.reportOf headHead.headOk headHead.freshHead headHead.madeOf headRules.thenOf feedbackAcking.roomyAck feedbackAcking.dueAck feedbackAcking.fullAckCallOf feedbackAcking.heldAck2 feedbackAcking.ack2CallOf receiverData.ackedOf receiverData.ratedOf receiverData.gotOf receiverData.takenOf receiverData.dataCallOf feedbackLoss.reportedOf feedbackLoss.reportCallOf receiverMessage.takenOf receiverMessage.popCallOf upkeepRequest.dropCallOf upkeepRequest.clearedOf upkeepRequest.clearCallOf upkeepRequest.roomCallOf upkeepShow.placeCallOf upkeepShow.shownCallOf feedbackSync.syncOf feedbackSync.clockCallOf shapesShapes.spaced shapesShapes.closed shapesShapes.lineOf linesLines.endBytes linesLines.badBytes traceTrace.linesOf traceTrace.outputOf be
 edges = refl

@@ -15,24 +15,26 @@ use Rattle.window.specs.declared.show.Part.{Part}
 use Rattle.head.specs.Head.{madeOf}
 use Rattle.head.specs.declared.state.Head.{Head}
 use Rattle.head.specs.declared.state.Made.{Made}
-use Rattle.receiver.specs.Paper.{dataLine, messageLine, fullAckLine, rttLine, dropLine, clearLine, roomLine, shownLine, clockLine}
-use Rattle.receiver.specs.Acking.{fullAckEnded, fullAckCallOf, ack2Ended, ack2CallOf}
+use Rattle.receiver.specs.Paper.{dataLine, messageLine}
+use Rattle.feedback.specs.Paper.{fullAckLine, rttLine, clockLine}
+use Rattle.upkeep.specs.Paper.{dropLine, clearLine, roomLine, shownLine}
+use Rattle.feedback.specs.Acking.{fullAckEnded, fullAckCallOf, ack2Ended, ack2CallOf}
 use Rattle.receiver.specs.Data.{DataOutcome, dataCallOf}
-use Rattle.receiver.specs.Loss.{lossEnded, reportCallOf}
+use Rattle.feedback.specs.Loss.{lossEnded, reportCallOf}
 use Rattle.receiver.specs.Message.{popCallOf}
-use Rattle.receiver.specs.Request.{dropEnded, dropCallOf, clearEnded, clearCallOf, roomEnded, roomCallOf}
-use Rattle.receiver.specs.Show.{shownEnded, shownCallOf, placeCallOf}
-use Rattle.receiver.specs.Sync.{clockEnded, clockCallOf}
-use Rattle.receiver.specs.declared.acking.FullAcked.{FullAcked}
-use Rattle.receiver.specs.declared.acking.Ack2ed.{Ack2ed}
+use Rattle.upkeep.specs.Request.{dropEnded, dropCallOf, clearEnded, clearCallOf, roomEnded, roomCallOf}
+use Rattle.upkeep.specs.Show.{shownEnded, shownCallOf, placeCallOf}
+use Rattle.feedback.specs.Sync.{clockEnded, clockCallOf}
+use Rattle.feedback.specs.declared.acking.FullAcked.{FullAcked}
+use Rattle.feedback.specs.declared.acking.Ack2ed.{Ack2ed}
 use Rattle.receiver.specs.declared.data.DataAnswer.{DataAnswer}
-use Rattle.receiver.specs.declared.loss.Reported.{Reported}
+use Rattle.feedback.specs.declared.loss.Reported.{Reported}
 use Rattle.receiver.specs.declared.message.MessageAnswer.{MessageAnswer}
-use Rattle.receiver.specs.declared.request.DropAnswer.{DropAnswer}
-use Rattle.receiver.specs.declared.request.RoomAnswer.{RoomAnswer}
-use Rattle.receiver.specs.declared.request.Cleared.{Cleared}
-use Rattle.receiver.specs.declared.show.ShowAnswer.{ShowAnswer}
-use Rattle.receiver.specs.declared.sync.Clocked.{Clocked}
+use Rattle.upkeep.specs.declared.request.DropAnswer.{DropAnswer}
+use Rattle.upkeep.specs.declared.request.RoomAnswer.{RoomAnswer}
+use Rattle.upkeep.specs.declared.request.Cleared.{Cleared}
+use Rattle.upkeep.specs.declared.show.ShowAnswer.{ShowAnswer}
+use Rattle.feedback.specs.declared.sync.Clocked.{Clocked}
 use Rattle.counts.specs.declared.Counters.{Counters}
 use Rattle.counters.specs.Calls.{counted, ack2Counted, dropCounted, clockCounted}
 use Rattle.packing.specs.Packed.{packOf, unpackOf}

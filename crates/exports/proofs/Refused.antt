@@ -10,17 +10,17 @@ use Rattle.window.specs.declared.push.Packet.{Packet}
 use Rattle.head.specs.Head.{freshHead, headOk}
 use Rattle.head.specs.Rules.{thenOf}
 use Rattle.head.specs.declared.state.Head.{Head}
-use Rattle.receiver.specs.Acking.{fullAckCallOf, ack2CallOf}
+use Rattle.feedback.specs.Acking.{fullAckCallOf, ack2CallOf}
 use Rattle.receiver.specs.Data.{dataCallOf}
-use Rattle.receiver.specs.Loss.{reportCallOf}
+use Rattle.feedback.specs.Loss.{reportCallOf}
 use Rattle.receiver.specs.Message.{popCallOf}
-use Rattle.receiver.specs.Request.{dropCallOf, clearCallOf, roomCallOf}
-use Rattle.receiver.specs.Show.{shownCallOf, placeCallOf}
-use Rattle.receiver.specs.Sync.{clockCallOf}
+use Rattle.upkeep.specs.Request.{dropCallOf, clearCallOf, roomCallOf}
+use Rattle.upkeep.specs.Show.{shownCallOf, placeCallOf}
+use Rattle.feedback.specs.Sync.{clockCallOf}
 use Rattle.packing.specs.Packed.{formed, unpackOf}
 use Rattle.packing.specs.Tally.{countersWords, countersOf}
 use Rattle.cells.specs.Cells.{cellsOf}
-use Rattle.receiver.specs.Paper.{refusedBy}
+use Rattle.head.specs.Paper.{refusedBy}
 use Rattle.exports.specs.Calls.{left, kept, newOf, dataExportOf, messageExportOf, lossExportOf, fullAckExportOf, ack2ExportOf, dropExportOf, clockExportOf, clearExportOf, roomExportOf, showExportOf, dataCountedOf, ack2CountedOf, dropCountedOf, clockCountedOf}
 
 -- on a refusal the head's words stay

@@ -10,13 +10,13 @@ use Rattle.window.specs.declared.show.Part.{Part}
 use Rattle.head.specs.Head.{madeOf}
 use Rattle.head.specs.declared.state.Head.{Head}
 use Rattle.head.specs.declared.state.Made.{Made}
-use Rattle.receiver.specs.Acking.{FullAckOutcome, fullAckCallOf, Ack2Outcome, ack2CallOf}
+use Rattle.feedback.specs.Acking.{FullAckOutcome, fullAckCallOf, Ack2Outcome, ack2CallOf}
 use Rattle.receiver.specs.Data.{DataOutcome, dataCallOf}
-use Rattle.receiver.specs.Loss.{LossOutcome, reportCallOf}
+use Rattle.feedback.specs.Loss.{LossOutcome, reportCallOf}
 use Rattle.receiver.specs.Message.{MessageOutcome, popCallOf}
-use Rattle.receiver.specs.Request.{DropOutcome, dropCallOf, ClearOutcome, clearCallOf, RoomOutcome, roomCallOf}
-use Rattle.receiver.specs.Show.{ShownOutcome, shownCallOf, placeCallOf}
-use Rattle.receiver.specs.Sync.{ClockOutcome, clockCallOf}
+use Rattle.upkeep.specs.Request.{DropOutcome, dropCallOf, ClearOutcome, clearCallOf, RoomOutcome, roomCallOf}
+use Rattle.upkeep.specs.Show.{ShownOutcome, shownCallOf, placeCallOf}
+use Rattle.feedback.specs.Sync.{ClockOutcome, clockCallOf}
 use Rattle.counters.specs.Calls.{Counted, dataCounted, ack2Counted, dropCounted, clockCounted}
 use Rattle.packing.specs.Packed.{packOf, unpackOf}
 use Rattle.packing.specs.Tally.{countersWords, countersOf}

@@ -13,7 +13,7 @@ pub extern "C" fn pt_on_full_ack_event(
     ensures { λ r. ⌜ left r (now (words .exit)) (now (answer .exit)) (now (history .exit) ∷ []) ≡ fullAckExportOf (now (words .entry)) (now (history .entry)) time ⌝ }
 {
     let h = packing::unpack::unpack(words);
-    let r = receiver::acking::on_full_ack_event(h, history, time);
+    let r = feedback::acking::on_full_ack_event(h, history, time);
     let next = r.head;
     let a = r.answer;
     let n = cells::full_ack_refusal(a);
@@ -33,7 +33,7 @@ pub extern "C" fn pt_handle_ack2_packet(
     ensures { λ r. ⌜ left r (now (words .exit)) (now (answer .exit)) [] ≡ ack2ExportOf (now (words .entry)) (now (history .entry)) time number ⌝ }
 {
     let h = packing::unpack::unpack(words);
-    let r = receiver::acking::handle_ack2_packet(h, history, time, number);
+    let r = feedback::acking::handle_ack2_packet(h, history, time, number);
     let next = r.head;
     let a = r.answer;
     let n = cells::rtt_refusal(a);

@@ -14,7 +14,7 @@ pub extern "C" fn pt_on_nak_event(
     ensures { λ r. ⌜ left r (now (words .exit)) (now (answer .exit)) (now (slots .exit) ∷ now (list .exit) ∷ []) ≡ lossExportOf (now (words .entry)) (now (slots .entry)) (now (list .entry)) time ⌝ }
 {
     let h = packing::unpack::unpack(words);
-    let r = receiver::loss::on_nak_event(h, slots, list, time);
+    let r = feedback::loss::on_nak_event(h, slots, list, time);
     let next = r.head;
     let a = r.answer;
     let n = cells::loss_refusal(a);

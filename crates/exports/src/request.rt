@@ -14,7 +14,7 @@ pub extern "C" fn pt_handle_drop_request(
     ensures { λ r. ⌜ left r (now (words .entry)) (now (answer .exit)) (now (slots .exit) ∷ []) ≡ dropExportOf (now (words .entry)) (now (slots .entry)) first last ⌝ }
 {
     let h = packing::unpack::unpack(words);
-    let a = receiver::request::handle_drop_request(h, slots, first, last);
+    let a = upkeep::request::handle_drop_request(h, slots, first, last);
     *answer = cells::drop_cells(a);
     cells::drop_refusal(a)
 }
@@ -24,7 +24,7 @@ pub extern "C" fn pt_clear(words: &mut [u64; 79], answer: &mut [i64; 10]) -> u32
     ensures { λ r. ⌜ left r (now (words .exit)) (now (answer .exit)) [] ≡ clearExportOf (now (words .entry)) ⌝ }
 {
     let h = packing::unpack::unpack(words);
-    let r = receiver::request::clear(h);
+    let r = upkeep::request::clear(h);
     let next = r.head;
     let a = r.answer;
     let n = cells::clear_refusal(a);
@@ -38,7 +38,7 @@ pub extern "C" fn pt_buffer_available(words: &[u64; 79], answer: &mut [i64; 10])
     ensures { λ r. ⌜ left r (now (words .entry)) (now (answer .exit)) [] ≡ roomExportOf (now (words .entry)) ⌝ }
 {
     let h = packing::unpack::unpack(words);
-    let a = receiver::request::buffer_available(h);
+    let a = upkeep::request::buffer_available(h);
     *answer = cells::room_cells(a);
     cells::room_refusal(a)
 }

@@ -14,8 +14,8 @@ pub extern "C" fn pt_show(
     ensures { λ r. ⌜ left r (now (words .entry)) (now (answer .exit)) [] ≡ showExportOf (now (words .entry)) (now (slots .entry)) (now (payloads .entry)) number ⌝ }
 {
     let h = packing::unpack::unpack(words);
-    let a = receiver::show::shown(h, slots, payloads, number);
-    let p = receiver::show::place_in(h, slots, payloads.len(), number);
+    let a = upkeep::show::shown(h, slots, payloads, number);
+    let p = upkeep::show::place_in(h, slots, payloads.len(), number);
     *answer = cells::shown_cells(a, p.at, p.len);
     cells::shown_refusal(a)
 }

@@ -13,7 +13,7 @@ pub extern "C" fn pt_synchronize_clock(
     ensures { λ r. ⌜ left r (now (words .exit)) (now (answer .exit)) [] ≡ clockExportOf (now (words .entry)) time stamp ⌝ }
 {
     let h = packing::unpack::unpack(words);
-    let r = receiver::sync::synchronize_clock(h, time, stamp);
+    let r = feedback::sync::synchronize_clock(h, time, stamp);
     let next = r.head;
     let a = r.answer;
     let n = cells::clock_refusal(a);

@@ -10,11 +10,11 @@ use Rattle.clock.specs.Sync.{freshClock}
 use Rattle.clock.specs.Ranges.{clockOk}
 use Rattle.clock.specs.declared.time.SynchronizedRemoteClock.{SynchronizedRemoteClock}
 use Rattle.acks.specs.Rtt.{freshRtt, rttOk}
-use Rattle.acks.specs.Rates.{freshArrivals, freshLinks, arrivalsOk, linksOk}
+use Rattle.intervals.specs.Rates.{freshArrivals, freshLinks, arrivalsOk, linksOk}
 use Rattle.acks.specs.History.{freshHistory, historyOk}
 use Rattle.acks.specs.declared.rtt.Rtt.{Rtt}
-use Rattle.acks.specs.declared.rates.Arrivals.{Arrivals}
-use Rattle.acks.specs.declared.rates.Links.{Links}
+use Rattle.intervals.specs.declared.rates.Arrivals.{Arrivals}
+use Rattle.intervals.specs.declared.rates.Links.{Links}
 use Rattle.acks.specs.declared.history.History.{History}
 use Rattle.head.specs.Rules.{firstRefusal, makeRules}
 use Rattle.head.specs.Head.{headOk, freshHead, madeOf}

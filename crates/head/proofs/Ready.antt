@@ -12,7 +12,7 @@ use Rattle.numbers.proofs.Flags.{and-left, and-right}
 use Rattle.clock.specs.Ranges.{clockOk}
 use Rattle.clock.proofs.Ranges.{ready, ranges}
 use Rattle.acks.specs.Rtt.{rttOk}
-use Rattle.acks.specs.Rates.{arrivalsOk, linksOk}
+use Rattle.intervals.specs.Rates.{arrivalsOk, linksOk}
 use Rattle.acks.specs.History.{historyOk}
 use Rattle.window.specs.Ready.{Good}
 use Rattle.window.specs.Window.{windowOk}

@@ -7,7 +7,7 @@ use Rattle.numbers.specs.Instants.{isReading}
 use Rattle.clock.specs.Sync.{freshClock}
 use Rattle.clock.specs.Ranges.{clockOk}
 use Rattle.acks.specs.Rtt.{freshRtt, rttOk}
-use Rattle.acks.specs.Rates.{freshArrivals, freshLinks, arrivalsOk, linksOk}
+use Rattle.intervals.specs.Rates.{freshArrivals, freshLinks, arrivalsOk, linksOk}
 use Rattle.acks.specs.History.{freshHistory, historyOk}
 use Rattle.window.specs.Window.{windowOk}
 use Rattle.head.specs.Rules.{firstRefusal, judged, makeRules}

@@ -1,8 +1,8 @@
 -- The head with another part, all else as it was: 01, "Head and lent areas".
 use lib.IntN.{ℤ}
 use Rattle.acks.specs.declared.history.History.{History}
-use Rattle.acks.specs.declared.rates.Arrivals.{Arrivals}
-use Rattle.acks.specs.declared.rates.Links.{Links}
+use Rattle.intervals.specs.declared.rates.Arrivals.{Arrivals}
+use Rattle.intervals.specs.declared.rates.Links.{Links}
 use Rattle.acks.specs.declared.rtt.Rtt.{Rtt}
 use Rattle.clock.specs.declared.time.SynchronizedRemoteClock.{SynchronizedRemoteClock}
 use Rattle.window.specs.declared.Window.{Window}

@@ -8,7 +8,7 @@ use lib.Signed.{ltZ}
 use Rattle.numbers.specs.Instants.{isReading}
 use Rattle.clock.specs.Ranges.{clockOk}
 use Rattle.acks.specs.Rtt.{rttOk}
-use Rattle.acks.specs.Rates.{arrivalsOk, linksOk}
+use Rattle.intervals.specs.Rates.{arrivalsOk, linksOk}
 use Rattle.acks.specs.History.{historyOk}
 use Rattle.window.specs.Ready.{Good, Bytes, PacketRight}
 use Rattle.window.specs.declared.push.Packet.{Packet}

@@ -5,10 +5,10 @@ ghost use Rattle.window.specs.Window.{windowOk};
 ghost use Rattle.head.specs.Parts.{withWindow, withClock, withRtt, withRates, withHistory, withLatest};
 ghost use Rattle.head.specs.Rules.{firstRefusal, makeRules};
 use acks::history::History;
-use acks::rates::Arrivals;
-use acks::rates::Links;
 use acks::rtt::Rtt;
 use clock::time::SynchronizedRemoteClock;
+use intervals::rates::Arrivals;
+use intervals::rates::Links;
 use window::Window;
 
 pub struct Head {

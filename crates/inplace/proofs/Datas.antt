@@ -14,13 +14,14 @@ use lib.ListN.{length, set}
 use Rattle.numbers.proofs.Flags.{by-bool}
 use Rattle.numbers.specs.declared.instant.Moment.{Moment}
 use Rattle.numbers.specs.declared.instant.Moment.the-variants.{Unset, At}
-use Rattle.acks.specs.Rates as rates
-use Rattle.acks.specs.Rates.{sinceTime, nextPlace, countAfter, arrivedFirst, arrivalOf, withProbe, pairedSince, pairOf, linkOf}
+use Rattle.intervals.specs.Rates as rates
+use Rattle.numbers.specs.Instants.{sinceTime}
+use Rattle.intervals.specs.Rates.{nextPlace, countAfter, arrivedFirst, arrivalOf, withProbe, pairedSince, pairOf, linkOf}
 use Rattle.acks.specs.History.{lightAckOf}
 use Rattle.acks.specs.declared.history.History.{History}
 use Rattle.acks.specs.declared.history.LightAcked.{LightAcked}
-use Rattle.acks.specs.declared.rates.Arrivals.{Arrivals}
-use Rattle.acks.specs.declared.rates.Links.{Links}
+use Rattle.intervals.specs.declared.rates.Arrivals.{Arrivals}
+use Rattle.intervals.specs.declared.rates.Links.{Links}
 use Rattle.window.specs.Push.{PushOutcome, pushEnded, pushOf}
 use Rattle.window.specs.declared.Window.{Window}
 use Rattle.window.proofs.push.PushAnswer.{the-type}

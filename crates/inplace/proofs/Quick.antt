@@ -16,7 +16,7 @@ use Rattle.numbers.specs.Instants.{isReading}
 use Rattle.clock.specs.Base.{inReference}
 use Rattle.clock.specs.Ranges.{lastOk, clockOk}
 use Rattle.acks.specs.Rtt.{rttOk}
-use Rattle.acks.specs.Rates.{timeOk}
+use Rattle.intervals.specs.Rates.{timeOk}
 use Rattle.acks.specs.History.{historyOk}
 use Rattle.window.specs.Window.{windowOk}
 use Rattle.head.specs.Head.{headOk}

@@ -16,23 +16,23 @@ use lib.Seq.{getD-set-same, getD-set-other}
 use Rattle.numbers.specs.declared.instant.Moment.{Moment}
 use Rattle.numbers.specs.declared.instant.Moment.the-variants.{Unset, At}
 use Rattle.numbers.proofs.Flags.{and-left, and-right, by-bool, by-test, by-order}
-use Rattle.numbers.proofs.Signs.{reading-size}
+use Rattle.numbers.proofs.Signs.{reading-size, since-under}
 use Rattle.clock.specs.Ranges.{lastOk}
 use Rattle.clock.specs.Release.{releaseOf}
 use Rattle.clock.specs.declared.time.SynchronizedRemoteClock.{SynchronizedRemoteClock}
 use Rattle.clock.proofs.Ranges.{ranges, reference-size}
 use Rattle.acks.specs.Rtt.{rttOk}
-use Rattle.acks.specs.Rates as rates
-use Rattle.acks.specs.Rates.{timeOk, arrivalsOk, linksOk, allUnder, arrivalGaps, arrivalSizes, linkGaps}
+use Rattle.intervals.specs.Rates as rates
+use Rattle.intervals.specs.Rates.{timeOk, arrivalsOk, linksOk, allUnder, arrivalGaps, arrivalSizes, linkGaps}
 use Rattle.acks.specs.History.{historyOk}
 use Rattle.numbers.specs.Circular.{before, sum}
+use Rattle.numbers.specs.Instants.{sinceTime}
 use Rattle.acks.specs.declared.history.History.{History}
 use Rattle.acks.specs.declared.history.LightAcked.{LightAcked}
-use Rattle.acks.specs.declared.rates.Arrivals.{Arrivals}
-use Rattle.acks.specs.declared.rates.Links.{Links}
+use Rattle.intervals.specs.declared.rates.Arrivals.{Arrivals}
+use Rattle.intervals.specs.declared.rates.Links.{Links}
 use Rattle.acks.specs.declared.rtt.Rtt.{Rtt}
 use Rattle.acks.proofs.HistoryKept.{history-ranges}
-use Rattle.acks.proofs.RateKept.{since-under}
 use Rattle.window.specs.Push.{pushOf}
 use Rattle.window.specs.declared.Window.{Window}
 use Rattle.window.specs.declared.push.Packet.{Packet}
@@ -236,16 +236,16 @@ rest-rated h now number size l r =
     let a = arrived (h .arrivals .last) in
     record { stamp = r .stamp; mean = r .mean; squares = r .squares; gaps = a .0; sizes = a .1; probes = linked; first = r .first }
   where
-    under : (t : ℤ) → rates.sinceTime now t < 2 ^ 32
+    under : (t : ℤ) → sinceTime now t < 2 ^ 32
     under t = let k = since-under now t in omega arith
 
     arrived : (m : Moment) → Numbers (rates.arrivedSince m (h .arrivals) now size .gaps) × Numbers (rates.arrivedSince m (h .arrivals) now size .sizes)
     arrived Unset = (r .gaps, r .sizes)
-    arrived (At t) = (numbers-set (h .arrivals .gaps) (h .arrivals .at) (rates.sinceTime now t) (r .gaps) (under t), numbers-set (h .arrivals .sizes) (h .arrivals .at) size (r .sizes) l)
+    arrived (At t) = (numbers-set (h .arrivals .gaps) (h .arrivals .at) (sinceTime now t) (r .gaps) (under t), numbers-set (h .arrivals .sizes) (h .arrivals .at) size (r .sizes) l)
 
     paired : (m : Moment) → Numbers (rates.pairedSince m (h .links) now .gaps)
     paired Unset = r .probes
-    paired (At t) = numbers-set (h .links .gaps) (h .links .at) (rates.sinceTime now t) (r .probes) (under t)
+    paired (At t) = numbers-set (h .links .gaps) (h .links .at) (sinceTime now t) (r .probes) (under t)
 
     linked : Numbers (cond (eqb (number % 16) 0) (rates.withProbe (h .links) (At now)) (cond (eqb (number % 16) 1) (rates.pairedSince (h .links .probe) (h .links) now) (h .links)) .gaps)
     linked =

@@ -14,7 +14,7 @@ use lib.ListN.{getD}
 use Rattle.numbers.proofs.Flags.{by-order, and-left, and-right}
 use Rattle.clock.specs.Ranges.{clockOk}
 use Rattle.acks.specs.Rtt.{rttOk}
-use Rattle.acks.specs.Rates.{placeBefore, windowOf as windowFrom, allUnder, arrivalsOk, linksOk, timeOk}
+use Rattle.intervals.specs.Rates.{placeBefore, windowOf as windowFrom, allUnder, arrivalsOk, linksOk, timeOk}
 use Rattle.acks.specs.History.{historyOk}
 use Rattle.head.specs.declared.state.Head.{Head}
 use Rattle.head.specs.Head.{headOk, freshHead}

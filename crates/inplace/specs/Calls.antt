@@ -9,7 +9,8 @@ use Rattle.window.specs.declared.push.Packet.{Packet}
 use Rattle.receiver.specs.Data.{DataOutcome, dataCallOf}
 use Rattle.receiver.specs.declared.data.DataAnswer.{DataAnswer}
 use Rattle.receiver.specs.Message.{MessageOutcome, popCallOf}
-use Rattle.receiver.specs.Paper.{Line, dataLine, messageLine}
+use Rattle.head.specs.Paper.{Line}
+use Rattle.receiver.specs.Paper.{dataLine, messageLine}
 use Rattle.receiver.specs.declared.message.MessageAnswer.{MessageAnswer}
 use Rattle.packing.specs.Packed.{packOf, unpackOf}
 

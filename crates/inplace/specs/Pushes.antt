@@ -6,10 +6,10 @@ use Prim.Native.Nat.{ℕ, _+_, _%_, _<_, _≤_}
 use lib.Dec.{eqb}
 use lib.IntN.{ℤ, natAbs}
 use lib.ListN.{length, set}
-use Rattle.numbers.specs.Instants.{isReading}
+use Rattle.numbers.specs.Instants.{isReading, sinceTime}
 use Rattle.numbers.specs.declared.instant.Moment.{Moment}
 use Rattle.numbers.specs.declared.instant.Moment.the-variants.{Unset, At}
-use Rattle.acks.specs.Rates.{sinceTime, nextPlace, countAfter}
+use Rattle.intervals.specs.Rates.{nextPlace, countAfter}
 use Rattle.acks.specs.History.{lightAckOf}
 use Rattle.acks.specs.declared.history.History.{History}
 use Rattle.window.specs.Ready.{Good, Bytes, PacketRight}

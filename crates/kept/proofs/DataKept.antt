@@ -12,7 +12,7 @@ use Rattle.numbers.specs.Instants.{isReading}
 use Rattle.numbers.proofs.Flags.{by-test}
 use Rattle.clock.proofs.Kept.{fresh-ok}
 use Rattle.acks.proofs.RttKept.{fresh-rtt-ok}
-use Rattle.acks.proofs.RateKept.{fresh-arrivals-ok, fresh-links-ok, arrival-kept, link-kept}
+use Rattle.intervals.proofs.RateKept.{fresh-arrivals-ok, fresh-links-ok, arrival-kept, link-kept}
 use Rattle.acks.proofs.HistoryKept as history
 use Rattle.window.specs.Push.{pushOf}
 use Rattle.window.specs.declared.Window.{Window}
@@ -34,8 +34,8 @@ use Rattle.head.specs.Ready.{InRange, PushReady}
 use Rattle.head.proofs.Ready.{in-parts, timed-ready, push-ready}
 use Rattle.window.proofs.Ranges.{in-window, from-window}
 use Rattle.receiver.specs.Data.{DataOutcome, placedOf, ackedOf, ratedOf, gotOf, afterPush, takenOf, dataCallOf}
-use Rattle.receiver.specs.Loss.{LossOutcome, headAfter, reportedOf, reportCallOf}
-use Rattle.receiver.specs.Request.{ClearOutcome, clearedOf, clearCallOf}
+use Rattle.feedback.specs.Loss.{LossOutcome, headAfter, reportedOf, reportCallOf}
+use Rattle.upkeep.specs.Request.{ClearOutcome, clearedOf, clearCallOf}
 use Rattle.kept.proofs.Parts.{from-parts}
 use Rattle.kept.proofs.Says.{Says, push-says}
 

@@ -39,9 +39,9 @@ use Rattle.head.proofs.Gates.{clear}
 use Rattle.head.specs.Ready.{InRange}
 use Rattle.head.proofs.Ready.{in-parts, timed-ready, clock-ready, pop-ready}
 use Rattle.window.proofs.Ranges.{in-window, from-window}
-use Rattle.receiver.specs.Acking.{afterAck, FullAckOutcome, roomyAck, dueAck, fullAckCallOf, afterAck2, heldAck2, Ack2Outcome, ack2CallOf}
+use Rattle.feedback.specs.Acking.{afterAck, FullAckOutcome, roomyAck, dueAck, fullAckCallOf, afterAck2, heldAck2, Ack2Outcome, ack2CallOf}
 use Rattle.receiver.specs.Message.{MessageOutcome, poppedOf, headAfter, takenOf, popCallOf}
-use Rattle.receiver.specs.Sync.{afterSync, syncOf, ClockOutcome, clockCallOf}
+use Rattle.feedback.specs.Sync.{afterSync, syncOf, ClockOutcome, clockCallOf}
 use Rattle.kept.proofs.Parts.{from-parts}
 
 -- the head with other parts in range, and a reading as its latest

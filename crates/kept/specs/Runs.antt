@@ -6,12 +6,12 @@ use lib.IntN.{ℤ}
 use Rattle.window.specs.declared.push.Packet.{Packet}
 use Rattle.head.specs.Head.{madeOf}
 use Rattle.head.specs.declared.state.Head.{Head}
-use Rattle.receiver.specs.Acking.{ack2CallOf, fullAckCallOf}
+use Rattle.feedback.specs.Acking.{ack2CallOf, fullAckCallOf}
 use Rattle.receiver.specs.Data.{dataCallOf}
-use Rattle.receiver.specs.Loss.{reportCallOf}
+use Rattle.feedback.specs.Loss.{reportCallOf}
 use Rattle.receiver.specs.Message.{popCallOf}
-use Rattle.receiver.specs.Request.{clearCallOf}
-use Rattle.receiver.specs.Sync.{clockCallOf}
+use Rattle.upkeep.specs.Request.{clearCallOf}
+use Rattle.feedback.specs.Sync.{clockCallOf}
 
 -- a drop request, room and show return no head
 pub data Reached : Head → Type 0 where

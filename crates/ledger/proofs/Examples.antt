@@ -7,7 +7,7 @@ use lib.IntN.{pos}
 use Rattle.numbers.specs.Circular.{distance, equal, after, before, saturating, sum}
 use Rattle.receiver.specs.declared.data.DataAnswer.the-variants as datas
 use Rattle.receiver.specs.declared.message.MessageAnswer.the-variants as messages
-use Rattle.receiver.specs.declared.request.DropAnswer.the-variants as drops
+use Rattle.upkeep.specs.declared.request.DropAnswer.the-variants as drops
 use Rattle.step.specs.declared.Call.{Call}
 use Rattle.step.specs.declared.Call.the-variants as calls
 use Rattle.step.specs.declared.Answer.the-variants as answers

@@ -30,10 +30,10 @@ use Rattle.head.specs.Rules.{firstRefusal, timedRules, dropRules, clockRules}
 use Rattle.head.specs.Head.{headOk}
 use Rattle.head.specs.declared.state.Head.{Head}
 use Rattle.head.proofs.Ready.{good, timed-ready, drop-ready}
-use Rattle.receiver.specs.Acking.{FullAckOutcome, Ack2Outcome, afterAck, afterAck2, roomyAck, dueAck, fullAckCallOf, heldAck2, ack2CallOf}
-use Rattle.receiver.specs.Loss.{LossOutcome, headAfter, reportedOf, reportCallOf}
-use Rattle.receiver.specs.Request.{DropOutcome, dropCallOf}
-use Rattle.receiver.specs.Sync.{ClockOutcome, afterSync, syncOf, clockCallOf}
+use Rattle.feedback.specs.Acking.{FullAckOutcome, Ack2Outcome, afterAck, afterAck2, roomyAck, dueAck, fullAckCallOf, heldAck2, ack2CallOf}
+use Rattle.feedback.specs.Loss.{LossOutcome, headAfter, reportedOf, reportCallOf}
+use Rattle.upkeep.specs.Request.{DropOutcome, dropCallOf}
+use Rattle.feedback.specs.Sync.{ClockOutcome, afterSync, syncOf, clockCallOf}
 use Rattle.views.specs.View as views
 use Rattle.views.specs.View.{Seen, entries}
 use Rattle.views.proofs.Marks.{report-seen, report-right, drop-seen, drop-right}

@@ -16,7 +16,7 @@ use Rattle.receiver.specs.Paper.{dataLine}
 use Rattle.receiver.specs.declared.data.DataAnswer.{DataAnswer}
 use Rattle.receiver.specs.declared.data.DataAnswer.the-variants as datas
 use Rattle.receiver.specs.declared.message.MessageAnswer.the-variants as messages
-use Rattle.receiver.specs.declared.request.DropAnswer.the-variants as drops
+use Rattle.upkeep.specs.declared.request.DropAnswer.the-variants as drops
 use Rattle.kept.proofs.DataKept.{made-kept}
 use Rattle.step.specs.Step.{State, Lent, Ended}
 use Rattle.step.specs.declared.Call.{Call}

@@ -24,8 +24,8 @@ use Rattle.receiver.specs.declared.data.DataAnswer.{DataAnswer}
 use Rattle.receiver.specs.declared.data.DataAnswer.the-variants as datas
 use Rattle.receiver.specs.declared.message.MessageAnswer.{MessageAnswer}
 use Rattle.receiver.specs.declared.message.MessageAnswer.the-variants as messages
-use Rattle.receiver.specs.declared.request.DropAnswer.{DropAnswer}
-use Rattle.receiver.specs.declared.request.DropAnswer.the-variants as drops
+use Rattle.upkeep.specs.declared.request.DropAnswer.{DropAnswer}
+use Rattle.upkeep.specs.declared.request.DropAnswer.the-variants as drops
 use Rattle.kept.proofs.DataKept.{made-kept, data-kept, loss-kept}
 use Rattle.kept.proofs.TimedKept.{ack2-kept, full-ack-kept, clock-kept, message-kept}
 use Rattle.step.specs.Step.{State, Lent, Ended, stepOf}

@@ -15,19 +15,22 @@ use Rattle.numbers.proofs.Signs.{widens}
 use Rattle.text.specs.Bytes.{bytes}
 use Rattle.text.specs.Put.{Put, putEnded, putOf}
 use Rattle.text.proofs.Puts.{put-then}
-use Rattle.receiver.specs.Paper.{got, light, message, late, report, refused, adjusted, whole, plain, refusedBy, dataLine, messageLine, lossLine, fullAckLine, rttLine, dropLine, clockLine, clearLine}
+use Rattle.head.specs.Paper.{got, light, message, late, report, refused, adjusted, whole, plain, refusedBy}
+use Rattle.receiver.specs.Paper.{dataLine, messageLine}
+use Rattle.feedback.specs.Paper.{lossLine, fullAckLine, rttLine, clockLine}
+use Rattle.upkeep.specs.Paper.{dropLine, clearLine}
 use Rattle.receiver.specs.declared.data.DataAnswer.{DataAnswer}
 use Rattle.receiver.specs.declared.data.DataAnswer.the-variants as datas
 use Rattle.receiver.specs.declared.message.MessageAnswer.{MessageAnswer}
 use Rattle.receiver.specs.declared.message.MessageAnswer.the-variants as messages
-use Rattle.receiver.specs.declared.loss.LossAnswer.{LossAnswer}
-use Rattle.receiver.specs.declared.loss.LossAnswer.the-variants as losses
-use Rattle.receiver.specs.declared.request.DropAnswer.{DropAnswer}
-use Rattle.receiver.specs.declared.request.ClearAnswer.{ClearAnswer}
-use Rattle.receiver.specs.declared.sync.ClockAnswer.{ClockAnswer}
-use Rattle.receiver.specs.declared.sync.ClockAnswer.the-variants as clocks
-use Rattle.receiver.specs.declared.acking.FullAckAnswer.{FullAckAnswer}
-use Rattle.receiver.specs.declared.acking.RttAnswer.{RttAnswer}
+use Rattle.feedback.specs.declared.loss.LossAnswer.{LossAnswer}
+use Rattle.feedback.specs.declared.loss.LossAnswer.the-variants as losses
+use Rattle.upkeep.specs.declared.request.DropAnswer.{DropAnswer}
+use Rattle.upkeep.specs.declared.request.ClearAnswer.{ClearAnswer}
+use Rattle.feedback.specs.declared.sync.ClockAnswer.{ClockAnswer}
+use Rattle.feedback.specs.declared.sync.ClockAnswer.the-variants as clocks
+use Rattle.feedback.specs.declared.acking.FullAckAnswer.{FullAckAnswer}
+use Rattle.feedback.specs.declared.acking.RttAnswer.{RttAnswer}
 use Rattle.shapes.specs.Shapes.{closed, lineOf}
 use Rattle.shapes.specs.Inner.{oneIf}
 use Rattle.lines.specs.Lines.{letters, lineBytes, endBytes, badBytes}

@@ -5,13 +5,14 @@ use mathlib.Core.List.{[], _∷_}
 use lib.IntN.{pos, negsuc}
 use Rattle.text.specs.Bytes.{bytes}
 use Rattle.text.specs.Decimal as decimals
-use Rattle.acks.specs.declared.rates.Speed.the-variants as speeds
-use Rattle.acks.specs.declared.rates.Link.the-variants as links
-use Rattle.receiver.specs.Paper.{dataLine, messageLine, lossLine, fullAckLine}
+use Rattle.intervals.specs.declared.rates.Speed.the-variants as speeds
+use Rattle.intervals.specs.declared.rates.Link.the-variants as links
+use Rattle.receiver.specs.Paper.{dataLine, messageLine}
+use Rattle.feedback.specs.Paper.{lossLine, fullAckLine}
 use Rattle.receiver.specs.declared.data.DataAnswer.the-variants as datas
 use Rattle.receiver.specs.declared.message.MessageAnswer.the-variants as messages
-use Rattle.receiver.specs.declared.loss.LossAnswer.the-variants as losses
-use Rattle.receiver.specs.declared.acking.FullAckAnswer.the-variants as acks
+use Rattle.feedback.specs.declared.loss.LossAnswer.the-variants as losses
+use Rattle.feedback.specs.declared.acking.FullAckAnswer.the-variants as acks
 use Rattle.shapes.specs.Shapes as shapes
 use Rattle.lines.specs.Lines.{lineBytes, endBytes, badBytes}
 

@@ -4,21 +4,24 @@ ghost use mathlib.Core.Path.{_≡_};
 ghost use mathlib.Core.List.{[]};
 ghost use Prim.Native.Nat.{_+_, _*_, _≤_, min};
 ghost use lib.ListN.{length};
-ghost use Rattle.receiver.specs.Paper.{dataLine, messageLine, lossLine, fullAckLine, rttLine, dropLine, clockLine, clearLine, refusedBy};
+ghost use Rattle.head.specs.Paper.{refusedBy};
+ghost use Rattle.receiver.specs.Paper.{dataLine, messageLine};
+ghost use Rattle.feedback.specs.Paper.{lossLine, fullAckLine, rttLine, clockLine};
+ghost use Rattle.upkeep.specs.Paper.{dropLine, clearLine};
 ghost use Rattle.shapes.specs.Ready.{Wrote};
 ghost use Rattle.lines.specs.Lines.{lineBytes, endBytes, badBytes};
-use receiver::acking::FullAckAnswer;
-use receiver::acking::RttAnswer;
+use feedback::acking::FullAckAnswer;
+use feedback::acking::RttAnswer;
+use feedback::loss::LossAnswer;
+use feedback::sync::ClockAnswer;
 use receiver::data::DataAnswer;
-use receiver::loss::LossAnswer;
 use receiver::message::MessageAnswer;
-use receiver::request::ClearAnswer;
-use receiver::request::DropAnswer;
-use receiver::sync::ClockAnswer;
 use shapes::line;
 use shapes::part;
 use shapes::part::flag;
 use shapes::tail;
+use upkeep::request::ClearAnswer;
+use upkeep::request::DropAnswer;
 
 // A refusal without values; 0 is none, and has no number.
 fn refused(out: &mut [u8], at: usize, nth: u64, n: u32) -> usize

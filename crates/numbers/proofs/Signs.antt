@@ -1,19 +1,19 @@
 -- Signed differences, remainders of signed numbers, and clamping. Assumes nothing.
 use mathlib.Core.Path.{_≡_, refl, sym, _∙_}
-use mathlib.Core.Bool.{true}
+use mathlib.Core.Bool.{true, false}
 use Prim.Native.Nat.{ℕ, _+_, _-_, _^_, _<_, _≤_}
 use native.Mathlib.Nat.{mod-eq-of-lt}
 use native.Mathlib.Omega.{arith}
 use borrow.Author.Tests.{ltb-true, lt-ltb, le-ltb, le-leb}
-use lib.Signed.{mag}
+use lib.Signed.{mag, ltZ}
 use lib.IntN.{ℤ, pos, negsuc, natAbs, _-ℤ_}
 use mir.Syntax.{w32, w64}
 use mir.Val.{SFits}
 use mir.Facts.{sfits-widen}
-use Rattle.numbers.specs.Instants.{least, most, clamp, isReading}
+use Rattle.numbers.specs.Instants.{least, most, clamp, intervalOf, sinceTime, isReading}
 use Rattle.numbers.specs.Circular.{distance, signed, difference, wrap}
-use Rattle.numbers.proofs.Halves.{above, below, apart, same, above--, below--, halves-lt, halves-not-lt}
-use Rattle.numbers.proofs.Flags.{by-order}
+use Rattle.numbers.proofs.Halves.{above, below, apart, same, size, above--, below--, lt-false, halves-lt, halves-not-lt}
+use Rattle.numbers.proofs.Flags.{by-order, by-bool}
 use Rattle.numbers.proofs.Circle.{half, distance-below}
 
 -- the signed number of a distance: the distance itself, or a turn less
@@ -90,3 +90,30 @@ reading-size (negsuc n) e = absurd (let z : _≡_ {A = ℕ} 0 1 = cc in omega ar
 -- a number that fits 32 bits fits 64; z₁ is z as the machine reads it back
 pub widens : {z z₁ : ℤ} → z₁ ≡ z → SFits w32 z → SFits w64 z₁
 widens p f = rw p (sfits-widen tt f)
+
+-- an interval up to a reading that is not earlier
+clamp-above : (z : ℤ) → below z ≡ 0 → (below (clamp z) ≡ 0) × (natAbs (clamp z) < 2 ^ 31)
+clamp-above z h =
+    by-order (above z) 2147483647
+    (λ k. rw (clamp-in z (omega arith) (omega arith)) (h, omega (arith, size z)))
+    (λ k. rw (clamp-high z k) (refl, omega arith))
+
+pub interval-above : (t now : ℤ) → ltZ now t ≡ false → (below (intervalOf t now) ≡ 0) × (natAbs (intervalOf t now) < 2 ^ 31)
+unfolding intervalOf
+interval-above t now e = clamp-above (now -ℤ t) (omega (arith, below-- now t, lt-false now t e))
+
+-- since a time that is not after `now`, it is the interval of 01, "Numbers"
+pub since-interval : (now t : ℤ) → ltZ now t ≡ false → pos (sinceTime now t) ≡ intervalOf t now
+unfolding sinceTime
+since-interval now t e =
+    let z = intervalOf t now in
+    let b = interval-above t now e .0 in
+    rw e (same (omega (arith, size z)) (omega arith))
+
+-- an interval since a time is under 2^31
+pub since-under : (now t : ℤ) → sinceTime now t < 2 ^ 31
+unfolding sinceTime
+since-under now t =
+    by-bool (ltZ now t)
+    (λ e. rw e (interval-above now now (halves-not-lt now now (omega arith)) .1))
+    (λ e. rw e (interval-above t now e .1))

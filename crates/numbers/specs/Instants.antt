@@ -1,7 +1,7 @@
 -- Instants and intervals, whole numbers of µs with a sign: 01, "Numbers".
 use mathlib.Core.Bool.{Bool, _&&_, cond}
-use Prim.Native.Nat.{_^_}
-use lib.IntN.{ℤ, pos, negsuc, _-ℤ_}
+use Prim.Native.Nat.{ℕ, _^_}
+use lib.IntN.{ℤ, pos, negsuc, natAbs, _-ℤ_}
 use lib.Signed.{ltZ, leZ}
 
 -- a reading lies in 0..2^60-1
@@ -22,3 +22,7 @@ clamp z = cond (ltZ z least) least (cond (ltZ most z) most z)
 -- an interval is the difference of two instants, clamped
 unfoldable pub intervalOf : ℤ → ℤ → ℤ
 intervalOf begin end = clamp (end -ℤ begin)
+
+-- the interval since a departure, probe or arrival time; one after `now` is read as `now`
+unfoldable pub sinceTime : ℤ → ℤ → ℕ
+sinceTime now t = natAbs (intervalOf (cond (ltZ now t) now t) now)

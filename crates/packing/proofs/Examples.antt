@@ -10,7 +10,7 @@ use Rattle.clock.specs.Base.{freshBase}
 use Rattle.clock.specs.Samples.{noSamples}
 use Rattle.clock.specs.Sync.{freshClock}
 use Rattle.acks.specs.History.{freshHistory}
-use Rattle.acks.specs.Rates.{freshArrivals, freshLinks}
+use Rattle.intervals.specs.Rates.{freshArrivals, freshLinks}
 use Rattle.acks.specs.Rtt.{freshRtt}
 use Rattle.head.specs.Head.{freshHead}
 use Rattle.packing.specs.Words.{wordOf, bitsOf, floatFormed, momentFormed}

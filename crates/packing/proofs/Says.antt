@@ -15,8 +15,8 @@ use Rattle.clock.specs.declared.base.TimeBase.{TimeBase}
 use Rattle.clock.specs.declared.stats.OnlineStats.{OnlineStats}
 use Rattle.clock.specs.declared.time.SynchronizedRemoteClock.{SynchronizedRemoteClock}
 use Rattle.acks.specs.declared.history.History.{History}
-use Rattle.acks.specs.declared.rates.Arrivals.{Arrivals}
-use Rattle.acks.specs.declared.rates.Links.{Links}
+use Rattle.intervals.specs.declared.rates.Arrivals.{Arrivals}
+use Rattle.intervals.specs.declared.rates.Links.{Links}
 use Rattle.acks.specs.declared.rtt.Rtt.{Rtt}
 use Rattle.window.specs.declared.Window.{Window}
 use Rattle.head.specs.Rules.{thenOf}

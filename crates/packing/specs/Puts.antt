@@ -6,8 +6,8 @@ use lib.IntN.{ℤ}
 use lib.ListN.{getD, set, replicate}
 use Rattle.clock.specs.declared.time.SynchronizedRemoteClock.{SynchronizedRemoteClock}
 use Rattle.acks.specs.declared.history.History.{History}
-use Rattle.acks.specs.declared.rates.Arrivals.{Arrivals}
-use Rattle.acks.specs.declared.rates.Links.{Links}
+use Rattle.intervals.specs.declared.rates.Arrivals.{Arrivals}
+use Rattle.intervals.specs.declared.rates.Links.{Links}
 use Rattle.acks.specs.declared.rtt.Rtt.{Rtt}
 use Rattle.window.specs.declared.Window.{Window}
 use Rattle.head.specs.declared.state.Head.{Head}

@@ -6,11 +6,11 @@ ghost use Rattle.packing.specs.Holds.{Numbers, Whole, Number, ArrivalsHo
 ghost use Rattle.packing.specs.Puts.{putNumbers, putSettings, putWindow, putBase, putStats, putRtt, putArrivals, putLinks, putHistory};
 use crate::words;
 use acks::history::History;
-use acks::rates::Arrivals;
-use acks::rates::Links;
 use acks::rtt::Rtt;
 use clock::time::SynchronizedRemoteClock;
 use head::state::Head;
+use intervals::rates::Arrivals;
+use intervals::rates::Links;
 use window::Window;
 
 // Sixteen numbers, from word `at` on.

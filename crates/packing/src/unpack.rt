@@ -4,13 +4,13 @@ ghost use Prim.Native.Nat.{_≤_};
 ghost use Rattle.packing.specs.Packed.{sixteenOf, numbersFormed, windowOf, baseOf, statsOf, clockOf, rttOf, arrivalsOf, linksOf, historyOf, headOf, firstFormed, ratesFormed, lastFormed, formed, nowhere, unpackOf};
 use crate::words;
 use acks::history::History;
-use acks::rates::Arrivals;
-use acks::rates::Links;
 use acks::rtt::Rtt;
 use clock::base::TimeBase;
 use clock::stats::OnlineStats;
 use clock::time::SynchronizedRemoteClock;
 use head::state::Head;
+use intervals::rates::Arrivals;
+use intervals::rates::Links;
 use numbers::instant::Moment;
 use window::Window;
 

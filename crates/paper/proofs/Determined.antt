@@ -11,23 +11,23 @@ use Rattle.window.specs.declared.push.Packet.{Packet}
 use Rattle.head.specs.Head.{madeOf}
 use Rattle.head.specs.declared.state.Head.{Head}
 use Rattle.head.specs.declared.state.Made.{Made}
-use Rattle.receiver.specs.Acking.{fullAckEnded, fullAckCallOf, ack2Ended, ack2CallOf}
+use Rattle.feedback.specs.Acking.{fullAckEnded, fullAckCallOf, ack2Ended, ack2CallOf}
 use Rattle.receiver.specs.Data.{dataEnded, dataCallOf}
-use Rattle.receiver.specs.Loss.{lossEnded, reportCallOf}
+use Rattle.feedback.specs.Loss.{lossEnded, reportCallOf}
 use Rattle.receiver.specs.Message.{messageEnded, popCallOf}
-use Rattle.receiver.specs.Request.{dropEnded, dropCallOf, clearEnded, clearCallOf, roomEnded, roomCallOf}
-use Rattle.receiver.specs.Show.{placeCallOf, shownEnded, shownCallOf}
-use Rattle.receiver.specs.Sync.{clockEnded, clockCallOf}
-use Rattle.receiver.specs.declared.acking.FullAcked.{FullAcked}
-use Rattle.receiver.specs.declared.acking.Ack2ed.{Ack2ed}
+use Rattle.upkeep.specs.Request.{dropEnded, dropCallOf, clearEnded, clearCallOf, roomEnded, roomCallOf}
+use Rattle.upkeep.specs.Show.{placeCallOf, shownEnded, shownCallOf}
+use Rattle.feedback.specs.Sync.{clockEnded, clockCallOf}
+use Rattle.feedback.specs.declared.acking.FullAcked.{FullAcked}
+use Rattle.feedback.specs.declared.acking.Ack2ed.{Ack2ed}
 use Rattle.receiver.specs.declared.data.Handled.{Handled}
-use Rattle.receiver.specs.declared.loss.Reported.{Reported}
+use Rattle.feedback.specs.declared.loss.Reported.{Reported}
 use Rattle.receiver.specs.declared.message.Given.{Given}
-use Rattle.receiver.specs.declared.request.DropAnswer.{DropAnswer}
-use Rattle.receiver.specs.declared.request.Cleared.{Cleared}
-use Rattle.receiver.specs.declared.request.RoomAnswer.{RoomAnswer}
-use Rattle.receiver.specs.declared.show.ShowAnswer.{ShowAnswer}
-use Rattle.receiver.specs.declared.sync.Clocked.{Clocked}
+use Rattle.upkeep.specs.declared.request.DropAnswer.{DropAnswer}
+use Rattle.upkeep.specs.declared.request.Cleared.{Cleared}
+use Rattle.upkeep.specs.declared.request.RoomAnswer.{RoomAnswer}
+use Rattle.upkeep.specs.declared.show.ShowAnswer.{ShowAnswer}
+use Rattle.feedback.specs.declared.sync.Clocked.{Clocked}
 
 pub made-determined : (start : ℤ) (latency : ℕ) (dropping : Bool) (first capacity : ℕ) (r s : Made)
     → r ≡ madeOf start latency dropping first capacity → s ≡ madeOf start latency dropping first capacity → r ≡ s

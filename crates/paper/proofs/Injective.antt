@@ -10,10 +10,10 @@ use lib.Ieee.{Float, nan}
 use lib.ListN.{length, take, length-map}
 use lib.Seq.{length-take-le}
 use Rattle.numbers.proofs.Flags.{by-test}
-use Rattle.acks.specs.declared.rates.Speed.{Speed}
-use Rattle.acks.specs.declared.rates.Speed.the-variants as speeds
-use Rattle.acks.specs.declared.rates.Link.{Link}
-use Rattle.acks.specs.declared.rates.Link.the-variants as links
+use Rattle.intervals.specs.declared.rates.Speed.{Speed}
+use Rattle.intervals.specs.declared.rates.Speed.the-variants as speeds
+use Rattle.intervals.specs.declared.rates.Link.{Link}
+use Rattle.intervals.specs.declared.rates.Link.the-variants as links
 use Rattle.window.specs.declared.Window.{Window}
 use Rattle.window_report.specs.Report.{ReportOutcome, needed, reportOf}
 use Rattle.window_report.proofs.ReportLaws.{list-keeps}
@@ -21,28 +21,31 @@ use Rattle.head.specs.Rules.{firstRefusal, timedRules}
 use Rattle.head.specs.Head.{headOk}
 use Rattle.head.specs.declared.state.Head.{Head}
 use Rattle.head.specs.declared.state.Made.{Made}
-use Rattle.receiver.specs.Loss.{LossOutcome, answerOf, reportedOf, reportCallOf}
+use Rattle.feedback.specs.Loss.{LossOutcome, answerOf, reportedOf, reportCallOf}
 use Rattle.receiver.specs.declared.data.DataAnswer.{DataAnswer}
 use Rattle.receiver.specs.declared.data.DataAnswer.the-variants as datas
 use Rattle.receiver.specs.declared.message.MessageAnswer.{MessageAnswer}
 use Rattle.receiver.specs.declared.message.MessageAnswer.the-variants as messages
-use Rattle.receiver.specs.declared.loss.LossAnswer.{LossAnswer}
-use Rattle.receiver.specs.declared.loss.LossAnswer.the-variants as losses
-use Rattle.receiver.specs.declared.request.DropAnswer.{DropAnswer}
-use Rattle.receiver.specs.declared.request.DropAnswer.the-variants as drops
-use Rattle.receiver.specs.declared.request.ClearAnswer.{ClearAnswer}
-use Rattle.receiver.specs.declared.request.ClearAnswer.the-variants as clears
-use Rattle.receiver.specs.declared.request.RoomAnswer.{RoomAnswer}
-use Rattle.receiver.specs.declared.request.RoomAnswer.the-variants as rooms
-use Rattle.receiver.specs.declared.show.ShowAnswer.{ShowAnswer}
-use Rattle.receiver.specs.declared.show.ShowAnswer.the-variants as shows
-use Rattle.receiver.specs.declared.sync.ClockAnswer.{ClockAnswer}
-use Rattle.receiver.specs.declared.sync.ClockAnswer.the-variants as clocks
-use Rattle.receiver.specs.declared.acking.FullAckAnswer.{FullAckAnswer}
-use Rattle.receiver.specs.declared.acking.FullAckAnswer.the-variants as acks
-use Rattle.receiver.specs.declared.acking.RttAnswer.{RttAnswer}
-use Rattle.receiver.specs.declared.acking.RttAnswer.the-variants as rtts
-use Rattle.receiver.specs.Paper.{Word, got, light, loss, refused, message, late, report, ack, rtt, gone, adjusted, unsteady, clear, none, made, room, received, other, Value, whole, dash, plain, Line, dataLine, messageLine, lossLine, dropLine, clearLine, roomLine, shownLine, clockLine, fullAckLine, rttLine}
+use Rattle.feedback.specs.declared.loss.LossAnswer.{LossAnswer}
+use Rattle.feedback.specs.declared.loss.LossAnswer.the-variants as losses
+use Rattle.upkeep.specs.declared.request.DropAnswer.{DropAnswer}
+use Rattle.upkeep.specs.declared.request.DropAnswer.the-variants as drops
+use Rattle.upkeep.specs.declared.request.ClearAnswer.{ClearAnswer}
+use Rattle.upkeep.specs.declared.request.ClearAnswer.the-variants as clears
+use Rattle.upkeep.specs.declared.request.RoomAnswer.{RoomAnswer}
+use Rattle.upkeep.specs.declared.request.RoomAnswer.the-variants as rooms
+use Rattle.upkeep.specs.declared.show.ShowAnswer.{ShowAnswer}
+use Rattle.upkeep.specs.declared.show.ShowAnswer.the-variants as shows
+use Rattle.feedback.specs.declared.sync.ClockAnswer.{ClockAnswer}
+use Rattle.feedback.specs.declared.sync.ClockAnswer.the-variants as clocks
+use Rattle.feedback.specs.declared.acking.FullAckAnswer.{FullAckAnswer}
+use Rattle.feedback.specs.declared.acking.FullAckAnswer.the-variants as acks
+use Rattle.feedback.specs.declared.acking.RttAnswer.{RttAnswer}
+use Rattle.feedback.specs.declared.acking.RttAnswer.the-variants as rtts
+use Rattle.head.specs.Paper.{Word, got, light, loss, refused, message, late, report, ack, rtt, gone, adjusted, unsteady, clear, none, made, room, received, other, Value, whole, dash, plain, Line}
+use Rattle.receiver.specs.Paper.{dataLine, messageLine}
+use Rattle.feedback.specs.Paper.{lossLine, clockLine, fullAckLine, rttLine}
+use Rattle.upkeep.specs.Paper.{dropLine, clearLine, roomLine, shownLine}
 use Rattle.paper.specs.Reach.{madeLine}
 
 -- a word by its place among the words

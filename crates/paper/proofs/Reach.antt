@@ -39,15 +39,17 @@ use Rattle.head.specs.Rules.{Rule, thenOf, firstFrom, firstRefusal, pushRules, 
 use Rattle.head.specs.Head.{headOk}
 use Rattle.head.specs.declared.state.Head.{Head}
 use Rattle.head.proofs.Gates.{Clear, passed}
-use Rattle.receiver.specs.Acking as acking
+use Rattle.feedback.specs.Acking as acking
 use Rattle.receiver.specs.Data as calls
-use Rattle.receiver.specs.Loss as loss
+use Rattle.feedback.specs.Loss as loss
 use Rattle.receiver.specs.Message as message
-use Rattle.receiver.specs.Request as request
-use Rattle.receiver.specs.Show as show
-use Rattle.receiver.specs.Sync as sync
-use Rattle.receiver.specs.declared.show.ShowAnswer.the-variants as shows
-use Rattle.receiver.specs.Paper.{dataLine, messageLine, lossLine, shownLine, clockLine, fullAckLine, rttLine}
+use Rattle.upkeep.specs.Request as request
+use Rattle.upkeep.specs.Show as show
+use Rattle.feedback.specs.Sync as sync
+use Rattle.upkeep.specs.declared.show.ShowAnswer.the-variants as shows
+use Rattle.receiver.specs.Paper.{dataLine, messageLine}
+use Rattle.feedback.specs.Paper.{lossLine, clockLine, fullAckLine, rttLine}
+use Rattle.upkeep.specs.Paper.{shownLine}
 use Rattle.paper.specs.Reach.{OnlyLater}
 
 -- no test holds, so nothing refuses

@@ -6,7 +6,7 @@ use mathlib.Core.Logic.{_⊎_}
 use Prim.Native.Nat.{_≤_}
 use lib.Dec.{eqb}
 use Rattle.head.specs.declared.state.Made.{Made}
-use Rattle.receiver.specs.Paper.{Line, refused, made}
+use Rattle.head.specs.Paper.{Line, refused, made}
 
 -- making has no line in a trace; it answers a head, or refusal 15
 abbrev pub madeLine : Made → Line

@@ -11,12 +11,12 @@ use lib.ListN.{length}
 use types.Run.{OneOf, miss}
 use Rattle.numbers.specs.Instants.{isReading}
 use Rattle.numbers.proofs.Signs.{reading-size}
-use Rattle.acks.specs.Rates.{arrivalOf, linkOf, arrivalsOk, linksOk}
+use Rattle.intervals.specs.Rates.{arrivalOf, linkOf, arrivalsOk, linksOk}
 use Rattle.acks.specs.History.{lightAckOf}
-use Rattle.acks.specs.declared.rates.Arrivals.{Arrivals}
-use Rattle.acks.specs.declared.rates.Links.{Links}
+use Rattle.intervals.specs.declared.rates.Arrivals.{Arrivals}
+use Rattle.intervals.specs.declared.rates.Links.{Links}
 use Rattle.acks.specs.declared.history.LightAcked.{LightAcked}
-use Rattle.acks.proofs.Windows.{arrival-ranges, link-ranges}
+use Rattle.intervals.proofs.Windows.{arrival-ranges, link-ranges}
 use Rattle.window.specs.Push.{PushOutcome, pushEnded, pushOf}
 use Rattle.window.specs.declared.Window.{Window}
 use Rattle.window.specs.declared.push.Packet.{Packet}

@@ -1,9 +1,4 @@
--- The laws of the public calls.
-pub mod Ackings
+-- The laws of a packet's call and of a pop.
 pub mod Datas
-pub mod Losses
 pub mod Messages
-pub mod Requests
-pub mod Shows
 pub mod Stays
-pub mod Syncs

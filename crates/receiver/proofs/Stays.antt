@@ -1,10 +1,10 @@
--- A refused pop and a refused loss report leave head, areas and output: 01, "Each returns its number; head, areas and output stay". Assumes nothing.
+-- A refused pop leaves head, areas and output: 01, "Each returns its number; head, areas and output stay". Assumes nothing.
 use mathlib.Core.Path.{refl}
 use mathlib.Core.Bool.{Bool, true, false, _&&_, cond}
 use mathlib.Core.List.{List}
-use Prim.Native.Nat.{ℕ, _*_}
+use Prim.Native.Nat.{ℕ}
 use lib.Dec.{eqb, ltb}
-use lib.IntN.{ℤ, natAbs}
+use lib.IntN.{ℤ}
 use lib.ListN.{length}
 use lib.Signed.{ltZ}
 use Rattle.numbers.specs.Instants.{intervalOf}
@@ -18,44 +18,12 @@ use Rattle.window_pop.specs.declared.pop.Walk.{Walk}
 use Rattle.window_pop.specs.declared.pop.Popped.{Popped}
 use Rattle.window_pop.specs.declared.pop.Message.{Message}
 use Rattle.window_pop.specs.declared.pop.PopAnswer.the-variants as pops
-use Rattle.window_report.specs.Report as report
-use Rattle.window_report.specs.declared.report.ReportAnswer.the-variants as reports
-use Rattle.head.specs.Rules.{firstRefusal, popRules, timedRules}
+use Rattle.head.specs.Rules.{firstRefusal, popRules}
 use Rattle.head.specs.Head.{headOk}
 use Rattle.head.specs.declared.state.Head.{Head}
-use Rattle.receiver.specs.Stays.{LossStays, MessageStays}
-use Rattle.receiver.specs.Loss as loss
-use Rattle.receiver.specs.declared.loss.LossAnswer.the-variants as losses
+use Rattle.receiver.specs.Stays.{MessageStays}
 use Rattle.receiver.specs.Message as message
 use Rattle.receiver.specs.declared.message.MessageAnswer.the-variants as messages
-
-module _ (h : Head) (ws list : List ℕ) (now : ℤ) where
-  loss-by : (t : Bool) (x y : loss.LossOutcome) → LossStays h ws list x → LossStays h ws list y → LossStays h ws list (cond t x y)
-  loss-by true x y p q = p
-  loss-by false x y p q = q
-
-  report-by : (t : Bool) (x y : report.ReportOutcome) → LossStays h ws list (loss.ending h now x) → LossStays h ws list (loss.ending h now y) → LossStays h ws list (loss.ending h now (cond t x y))
-  report-by true x y p q = p
-  report-by false x y p q = q
-
-  reported-stays : LossStays h ws list (loss.reportedOf h ws list now)
-  unfolding loss.reportedOf report.reportOf
-  reported-stays =
-      let w = h .window in
-      let m = h .rtt .mean in
-      let n = report.needed w ws (natAbs now) m in
-      let none = report.reportEnded reports.Nothing ws list in
-      let short = report.reportEnded reports.ListShort ws list in
-      let done = report.reportEnded (reports.Report n) (report.slotsTo w ws (natAbs now) m (w .held)) (report.listAll w ws (natAbs now) m list) in
-      report-by (eqb n 0) none (cond (ltb (length list) n) short done)
-      (λ e. absurd (e refl))
-      (report-by (ltb (length list) n) short done (λ e. refl) (λ e. absurd (e refl)))
-
-  pub loss-stays : LossStays h ws list (loss.reportCallOf h ws list now)
-  unfolding loss.reportCallOf
-  loss-stays =
-      let n = firstRefusal (timedRules (headOk h) (length ws) (3 * h .window .capacity) now (h .latest)) in
-      loss-by (eqb n 0) (loss.reportedOf h ws list now) (loss.lossEnded (record { head = h; answer = losses.Refused n }) ws list) reported-stays (λ e. refl)
 
 module _ (h : Head) (ws bs out : List ℕ) (now : ℤ) where
   given-by : (t : Bool) (x y : message.MessageOutcome) → MessageStays h out x → MessageStays h out y → MessageStays h out (cond t x y)

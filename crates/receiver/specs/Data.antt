@@ -4,7 +4,7 @@ use mathlib.Core.List.{List}
 use Prim.Native.Nat.{ℕ}
 use lib.IntN.{ℤ, natAbs}
 use lib.ListN.{length}
-use Rattle.acks.specs.Rates.{arrivalOf, linkOf}
+use Rattle.intervals.specs.Rates.{arrivalOf, linkOf}
 use Rattle.acks.specs.History.{lightAckOf}
 use Rattle.window.specs.Push.{pushOf}
 use Rattle.window.specs.declared.Window.{Window}
@@ -15,7 +15,8 @@ use Rattle.head.specs.Rules.{firstRefusal, judged, pushRules}
 use Rattle.head.specs.Head.{headOk}
 use Rattle.head.specs.Parts.{withWindow, withRates, withHistory, withLatest}
 use Rattle.head.specs.declared.state.Head.{Head}
-use Rattle.receiver.specs.Paper.{Line, dataLine}
+use Rattle.head.specs.Paper.{Line}
+use Rattle.receiver.specs.Paper.{dataLine}
 use Rattle.receiver.specs.declared.data.Handled.{Handled}
 use Rattle.receiver.specs.declared.data.DataAnswer.{DataAnswer}
 use Rattle.receiver.specs.declared.data.DataAnswer.the-variants as answers

@@ -12,7 +12,8 @@ use Rattle.head.specs.Rules.{firstRefusal, judged, popRules}
 use Rattle.head.specs.Head.{headOk}
 use Rattle.head.specs.Parts.{withWindow, withClock, withLatest}
 use Rattle.head.specs.declared.state.Head.{Head}
-use Rattle.receiver.specs.Paper.{Line, messageLine}
+use Rattle.head.specs.Paper.{Line}
+use Rattle.receiver.specs.Paper.{messageLine}
 use Rattle.receiver.specs.declared.message.Given.{Given}
 use Rattle.receiver.specs.declared.message.MessageAnswer.{MessageAnswer}
 use Rattle.receiver.specs.declared.message.MessageAnswer.the-variants as answers

@@ -3,7 +3,7 @@ ghost use mathlib.Core.Path.{_≡_};
 ghost use mathlib.Core.Bool.{true};
 ghost use lib.IntN.{natAbs};
 ghost use Rattle.numbers.specs.Instants.{isReading};
-ghost use Rattle.acks.specs.Rates.{arrivalsOk, linksOk};
+ghost use Rattle.intervals.specs.Rates.{arrivalsOk, linksOk};
 ghost use Rattle.window.specs.Ready.{Good, Bytes, PacketRight};
 ghost use Rattle.window.specs.Push.{pushEnded, pushOf};
 ghost use Rattle.head.specs.Ready.{PushReady};

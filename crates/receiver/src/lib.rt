@@ -1,8 +1,3 @@
-// The receiver's public calls, arq.rs: each takes any arguments and any lent contents. 01, "Refused, in order of test" and what follows it.
-pub mod acking;
+// Packets in and messages out, arq.rs: each call takes any arguments and any lent contents. 01, "Refused, in order of test" and "Window".
 pub mod data;
-pub mod loss;
 pub mod message;
-pub mod request;
-pub mod show;
-pub mod sync;

@@ -13,7 +13,7 @@ use Rattle.text.specs.Decimal.{decimal, signedDecimal}
 use Rattle.text.specs.Put.{putEnded, putOf}
 use Rattle.text.proofs.Numerals.{decimal-short}
 use Rattle.text.proofs.Puts.{put-cursor, put-then, put-room}
-use Rattle.receiver.specs.Paper.{Value, whole, plain}
+use Rattle.head.specs.Paper.{Value, whole, plain}
 use Rattle.shapes.specs.Shapes.{valueBytes, spaced, closed}
 
 -- a value by itself

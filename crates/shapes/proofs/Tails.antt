@@ -11,11 +11,12 @@ use lib.ListN.{length, getD, take}
 use lib.Seq.{take-suc}
 use Rattle.text.specs.Put.{putEnded, putOf}
 use Rattle.text.proofs.Puts.{put-cursor, put-then, puts, put-none}
-use Rattle.acks.specs.declared.rates.Speed.{Speed}
-use Rattle.acks.specs.declared.rates.Speed.the-variants as speeds
-use Rattle.acks.specs.declared.rates.Link.{Link}
-use Rattle.acks.specs.declared.rates.Link.the-variants as links
-use Rattle.receiver.specs.Paper.{Value, whole, plain, packetsValue, bytesValue, linkValue}
+use Rattle.intervals.specs.declared.rates.Speed.{Speed}
+use Rattle.intervals.specs.declared.rates.Speed.the-variants as speeds
+use Rattle.intervals.specs.declared.rates.Link.{Link}
+use Rattle.intervals.specs.declared.rates.Link.the-variants as links
+use Rattle.head.specs.Paper.{Value, whole, plain}
+use Rattle.feedback.specs.Paper.{packetsValue, bytesValue, linkValue}
 use Rattle.shapes.specs.Shapes.{valueBytes, spaced, closed}
 
 spaced-join : (us vs : List Value) → spaced (us ++ vs) ≡ spaced us ++ spaced vs

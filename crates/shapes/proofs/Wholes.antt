@@ -9,7 +9,7 @@ use lib.ListN.{length, take}
 use Rattle.text.specs.Decimal.{decimal}
 use Rattle.text.specs.Put.{putEnded, putOf}
 use Rattle.text.proofs.Puts.{put-cursor, put-then}
-use Rattle.receiver.specs.Paper.{Value, whole, plain}
+use Rattle.head.specs.Paper.{Value, whole, plain}
 use Rattle.shapes.specs.Shapes.{closed, lineOf}
 
 module _ (out : List ℕ) (at n : ℕ) (w : List ℕ) {p : ℕ} {out₁ : List ℕ} (e : putEnded p out₁ ≡ putOf out at (decimal n ++ (32 ∷ w))) (b : p ≤ at + 32) where

@@ -4,7 +4,7 @@ use mathlib.Core.List.{List, [], _∷_, _++_}
 use Prim.Native.Nat.{ℕ}
 use Rattle.text.specs.Bytes.{bytes}
 use Rattle.text.specs.Decimal.{decimal, signedDecimal}
-use Rattle.receiver.specs.Paper.{Value, whole, dash}
+use Rattle.head.specs.Paper.{Value, whole, dash}
 
 -- a value: a number, or `-`
 abbrev pub valueBytes : Value → List ℕ

@@ -2,14 +2,15 @@
 ghost use mathlib.Core.List.{[], _∷_, map};
 ghost use Prim.Native.Nat.{_+_, _*_, _≤_};
 ghost use lib.ListN.{length, take};
-ghost use Rattle.receiver.specs.Paper.{whole, plain, packetsValue, bytesValue, linkValue};
+ghost use Rattle.head.specs.Paper.{whole, plain};
+ghost use Rattle.feedback.specs.Paper.{packetsValue, bytesValue, linkValue};
 ghost use Rattle.shapes.specs.Shapes.{lineOf};
 ghost use Rattle.shapes.specs.Ready.{LineRoom, Wrote};
 use crate::part::newline;
 use crate::part::open;
 use crate::tail;
-use acks::rates::Link;
-use acks::rates::Speed;
+use intervals::rates::Link;
+use intervals::rates::Speed;
 
 pub fn bare(out: &mut [u8], at: usize, nth: u64, word: &[u8]) -> usize
     requires { ⌜ LineRoom (now out) at (now word) ⌝ }

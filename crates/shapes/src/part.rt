@@ -5,7 +5,7 @@ ghost use Prim.Native.Nat.{_+_, _≤_};
 ghost use lib.ListN.{length};
 ghost use Rattle.text.specs.Decimal.{decimal};
 ghost use Rattle.text.specs.Put.{putEnded, putOf};
-ghost use Rattle.receiver.specs.Paper.{whole as Paper·whole, plain};
+ghost use Rattle.head.specs.Paper.{whole as Paper·whole, plain};
 ghost use Rattle.shapes.specs.Shapes.{spaced, closed};
 ghost use Rattle.shapes.specs.Inner.{oneIf};
 ghost use Rattle.shapes.specs.Ready.{Wrote};

@@ -3,14 +3,15 @@ ghost use mathlib.Core.Path.{_≡_};
 ghost use mathlib.Core.List.{[], _∷_, map};
 ghost use Prim.Native.Nat.{_+_, _*_, _≤_};
 ghost use lib.ListN.{length, take};
-ghost use Rattle.receiver.specs.Paper.{whole as Paper·whole, plain, packetsValue, bytesValue, linkValue};
+ghost use Rattle.head.specs.Paper.{whole as Paper·whole, plain};
+ghost use Rattle.feedback.specs.Paper.{packetsValue, bytesValue, linkValue};
 ghost use Rattle.shapes.specs.Shapes.{spaced, closed};
 ghost use Rattle.shapes.specs.Ready.{Wrote};
 use crate::part::newline;
 use crate::part::number;
 use crate::part::whole;
-use acks::rates::Link;
-use acks::rates::Speed;
+use intervals::rates::Link;
+use intervals::rates::Speed;
 
 // One number, two, three, and four.
 pub fn tail1(out: &mut [u8], at: usize, a: u64) -> usize

@@ -7,20 +7,20 @@ use borrow.Author.Needs.{needs}
 use lib.IntN.{ℤ}
 use Rattle.window.specs.declared.push.Packet.{Packet}
 use Rattle.head.specs.declared.state.Head.{Head}
-use Rattle.receiver.specs.Acking.{FullAckOutcome, fullAckEnded, Ack2Outcome, ack2Ended, ack2CallOf, fullAckCallOf}
+use Rattle.feedback.specs.Acking.{FullAckOutcome, fullAckEnded, Ack2Outcome, ack2Ended, ack2CallOf, fullAckCallOf}
 use Rattle.receiver.specs.Data.{DataOutcome, dataEnded, packet, dataCallOf}
-use Rattle.receiver.specs.Loss.{LossOutcome, lossEnded, reportCallOf}
+use Rattle.feedback.specs.Loss.{LossOutcome, lossEnded, reportCallOf}
 use Rattle.receiver.specs.Message.{MessageOutcome, messageEnded, popCallOf}
-use Rattle.receiver.specs.Request.{DropOutcome, dropEnded, dropCallOf, ClearOutcome, clearEnded, clearCallOf}
-use Rattle.receiver.specs.Sync.{ClockOutcome, clockEnded, clockCallOf}
-use Rattle.receiver.specs.declared.acking.FullAcked.{FullAcked}
-use Rattle.receiver.specs.declared.acking.Ack2ed.{Ack2ed}
+use Rattle.upkeep.specs.Request.{DropOutcome, dropEnded, dropCallOf, ClearOutcome, clearEnded, clearCallOf}
+use Rattle.feedback.specs.Sync.{ClockOutcome, clockEnded, clockCallOf}
+use Rattle.feedback.specs.declared.acking.FullAcked.{FullAcked}
+use Rattle.feedback.specs.declared.acking.Ack2ed.{Ack2ed}
 use Rattle.receiver.specs.declared.data.Handled.{Handled}
-use Rattle.receiver.specs.declared.loss.Reported.{Reported}
+use Rattle.feedback.specs.declared.loss.Reported.{Reported}
 use Rattle.receiver.specs.declared.message.Given.{Given}
-use Rattle.receiver.specs.declared.request.DropAnswer.{DropAnswer}
-use Rattle.receiver.specs.declared.request.Cleared.{Cleared}
-use Rattle.receiver.specs.declared.sync.Clocked.{Clocked}
+use Rattle.upkeep.specs.declared.request.DropAnswer.{DropAnswer}
+use Rattle.upkeep.specs.declared.request.Cleared.{Cleared}
+use Rattle.feedback.specs.declared.sync.Clocked.{Clocked}
 use Rattle.step.specs.Step.{CallLeft, callLeft, PopLeft, popCallLeft, stepped, ended, stateOf, lentFor, dataLeft, popLeft, reportLeft, fullAckLeft, ack2Left, dropLeft, clockLeft, clearLeft, stepOf}
 use Rattle.step.specs.declared.Call.{Call}
 use Rattle.step.specs.declared.Call.the-variants as calls

@@ -4,13 +4,16 @@ use Prim.Native.Nat.{ℕ}
 use lib.IntN.{ℤ}
 use Rattle.window.specs.declared.push.Packet.{Packet}
 use Rattle.head.specs.declared.state.Head.{Head}
-use Rattle.receiver.specs.Acking.{ack2CallOf, fullAckCallOf}
+use Rattle.feedback.specs.Acking.{ack2CallOf, fullAckCallOf}
 use Rattle.receiver.specs.Data.{packet, dataCallOf}
-use Rattle.receiver.specs.Loss.{reportCallOf}
+use Rattle.feedback.specs.Loss.{reportCallOf}
 use Rattle.receiver.specs.Message.{popCallOf}
-use Rattle.receiver.specs.Request.{dropCallOf, clearCallOf}
-use Rattle.receiver.specs.Paper.{Line, dataLine, messageLine, lossLine, dropLine, clearLine, clockLine, fullAckLine, rttLine}
-use Rattle.receiver.specs.Sync.{clockCallOf}
+use Rattle.upkeep.specs.Request.{dropCallOf, clearCallOf}
+use Rattle.head.specs.Paper.{Line}
+use Rattle.receiver.specs.Paper.{dataLine, messageLine}
+use Rattle.feedback.specs.Paper.{lossLine, clockLine, fullAckLine, rttLine}
+use Rattle.upkeep.specs.Paper.{dropLine, clearLine}
+use Rattle.feedback.specs.Sync.{clockCallOf}
 use Rattle.step.specs.declared.Call.{Call}
 use Rattle.step.specs.declared.Call.the-variants as calls
 use Rattle.step.specs.declared.Answer.{Answer}

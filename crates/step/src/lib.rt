@@ -3,15 +3,15 @@ ghost use mathlib.Core.Path.{_≡_};
 ghost use mathlib.Core.List.{[]};
 ghost use Rattle.receiver.specs.Data.{packet};
 ghost use Rattle.step.specs.Step.{callLeft, popCallLeft, dataLeft, popLeft, reportLeft, fullAckLeft, ack2Left, dropLeft, clockLeft, clearLeft, stateOf, lentFor, ended, stepOf};
+use feedback::acking::FullAckAnswer;
+use feedback::acking::RttAnswer;
+use feedback::loss::LossAnswer;
+use feedback::sync::ClockAnswer;
 use head::state::Head;
-use receiver::acking::FullAckAnswer;
-use receiver::acking::RttAnswer;
 use receiver::data::DataAnswer;
-use receiver::loss::LossAnswer;
 use receiver::message::MessageAnswer;
-use receiver::request::ClearAnswer;
-use receiver::request::DropAnswer;
-use receiver::sync::ClockAnswer;
+use upkeep::request::ClearAnswer;
+use upkeep::request::DropAnswer;
 
 // A call with its numbers, one case a record of the trace. A data packet's payload is lent beside it.
 pub enum Call {
@@ -111,7 +111,7 @@ fn pop(h: Head, words: &mut [u64], bytes: &mut [u8], out: &mut [u8], time: i64) 
 fn report(h: Head, words: &mut [u64], list: &mut [u32], time: i64) -> Stepped
     ensures { λ r. ⌜ callLeft r (now (words .exit)) (now (list .exit)) ≡ reportLeft h (now (words .entry)) (now (list .entry)) time ⌝ }
 {
-    let r = receiver::loss::on_nak_event(h, words, list, time);
+    let r = feedback::loss::on_nak_event(h, words, list, time);
     let head = r.head;
     let answer = r.answer;
     Stepped {
@@ -123,7 +123,7 @@ fn report(h: Head, words: &mut [u64], list: &mut [u32], time: i64) -> Stepped
 fn full_ack(h: Head, area: &mut [u64], time: i64) -> Stepped
     ensures { λ r. ⌜ callLeft r (now (area .exit)) [] ≡ fullAckLeft h (now (area .entry)) time ⌝ }
 {
-    let r = receiver::acking::on_full_ack_event(h, area, time);
+    let r = feedback::acking::on_full_ack_event(h, area, time);
     let head = r.head;
     let answer = r.answer;
     Stepped {
@@ -135,7 +135,7 @@ fn full_ack(h: Head, area: &mut [u64], time: i64) -> Stepped
 fn ack2(h: Head, area: &[u64], time: i64, number: u32) -> Stepped
     ensures { λ r. ⌜ callLeft r [] [] ≡ ack2Left h (now (area .entry)) time number ⌝ }
 {
-    let r = receiver::acking::handle_ack2_packet(h, area, time, number);
+    let r = feedback::acking::handle_ack2_packet(h, area, time, number);
     let head = r.head;
     let answer = r.answer;
     Stepped {
@@ -147,7 +147,7 @@ fn ack2(h: Head, area: &[u64], time: i64, number: u32) -> Stepped
 fn drop_request(h: Head, words: &mut [u64], first: u32, last: u32) -> Stepped
     ensures { λ r. ⌜ callLeft r (now (words .exit)) [] ≡ dropLeft h (now (words .entry)) first last ⌝ }
 {
-    let answer = receiver::request::handle_drop_request(h, words, first, last);
+    let answer = upkeep::request::handle_drop_request(h, words, first, last);
     Stepped {
         head: h,
         answer: Answer::Drop(answer),
@@ -157,7 +157,7 @@ fn drop_request(h: Head, words: &mut [u64], first: u32, last: u32) -> Stepped
 fn clock(h: Head, time: i64, stamp: u32) -> Stepped
     ensures { λ r. ⌜ callLeft r [] [] ≡ clockLeft h time stamp ⌝ }
 {
-    let r = receiver::sync::synchronize_clock(h, time, stamp);
+    let r = feedback::sync::synchronize_clock(h, time, stamp);
     let head = r.head;
     let answer = r.answer;
     Stepped {
@@ -169,7 +169,7 @@ fn clock(h: Head, time: i64, stamp: u32) -> Stepped
 fn clear(h: Head) -> Stepped
     ensures { λ r. ⌜ callLeft r [] [] ≡ clearLeft h ⌝ }
 {
-    let r = receiver::request::clear(h);
+    let r = upkeep::request::clear(h);
     let head = r.head;
     let answer = r.answer;
     Stepped {

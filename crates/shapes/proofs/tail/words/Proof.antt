@@ -3,7 +3,7 @@ use mathlib.Core.List.{map}
 use Prim.Native.Nat.{_+_, _-_, _*_, _≤_}
 use lib.ListN.{length, take}
 use Rattle.text.specs.Put.{putEnded, putOf}
-use Rattle.receiver.specs.Paper.{plain}
+use Rattle.head.specs.Paper.{plain}
 use Rattle.shapes.specs.Shapes.{spaced}
 use Rattle.shapes.proofs.Tails.{wording}
 use Rattle.shapes.proofs.tail.words.Statement.{statement}

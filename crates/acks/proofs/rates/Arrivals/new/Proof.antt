@@ -1,9 +1,0 @@
-use Rattle.acks.proofs.RateSteps.{rateSteps}
-use Rattle.acks.proofs.rates.Arrivals.new.Statement.{statement}
-use Rattle.acks.proofs.rates.Arrivals.new.Tie as tie
-
-pub new-spec : {M : Type 1} → statement M
-new-spec =
-    tie.close
-    (tie.spec
-    (λ c. search rateSteps))

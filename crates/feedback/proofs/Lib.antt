@@ -1,0 +1,5 @@
+-- The laws of loss report, ACKs and clock call.
+pub mod Ackings
+pub mod Losses
+pub mod Stays
+pub mod Syncs

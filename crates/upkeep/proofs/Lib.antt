@@ -1,0 +1,3 @@
+-- The laws of drop request, clear, room and show.
+pub mod Requests
+pub mod Shows
