@@ -24,7 +24,7 @@ use Rattle.packing.specs.Words.{wholeOf, numberOf, momentOf, floatFormed, momen
 use Rattle.packing.specs.Packed.{at, windowOf, clockOf, rttOf, historyOf, firstFormed, lastFormed, unpackOf}
 use Rattle.packing.proofs.Floats.{nan-low}
 use Rattle.inplace.proofs.Sounds.{or-left, or-right, placesOk, partsOk, sound-quick, sound-slow}
-use Rattle.inplace.specs.Sound.{allSmall, fewBits, beside, besideAll, finite, windowSmall, countsSmall, quickly}
+use Rattle.inplace.specs.Sound.{sizesSmall, intervalsSmall, fewBits, beside, besideAll, finite, windowSmall, countsSmall, quickly}
 
 -- the parts of a test, however many
 abbrev conj : Bool → List Bool → Bool
@@ -293,9 +293,9 @@ pub quickly-by : (ws : List ℕ) {a b c d e : Bool} → a ≡ fewBits ws → b �
 quickly-by ws e f g h k = rw (e, f, g, h, k)
 
 -- sound
-pub sound-quickly : (ws : List ℕ) {s b : Bool} → s ≡ allSmall ws → s ≡ true → b ≡ quickly ws → b ≡ true → true ≡ headOk (unpackOf ws)
-sound-quickly ws e f g h =
+pub sound-quickly : (ws : List ℕ) {i b s : Bool} → i ≡ intervalsSmall ws → i ≡ true → b ≡ quickly ws → b ≡ true → s ≡ sizesSmall ws → s ≡ true → true ≡ headOk (unpackOf ws)
+sound-quickly ws e f g h k l =
     let q = found ws (sym g ∙ h) in
-    sound-quick ws e f (sym (quick-first ws q)) (sym (quick-last ws q)) (sym (quick-places ws q)) (sym (quick-parts ws q))
+    sound-quick ws (sym e ∙ f) (sym k ∙ l) (sym (quick-first ws q)) (sym (quick-last ws q)) (sym (quick-places ws q)) (sym (quick-parts ws q))
 
 pub ruleset quick-sounds = (beside-by, quickly-by, sound-quickly, sound-slow, needs)

@@ -7,11 +7,11 @@ use native.Mathlib.Nat.{mod-lt, mod-le, mod-eq-of-lt}
 use native.Mathlib.Numerals.{add-one}
 use native.Mathlib.Omega.{arith}
 use borrow.Author.Needs.{needs}
-use borrow.Author.Tests.{lt-ltb, ltb-true}
+use borrow.Author.Tests.{lt-ltb, le-leb, lt-leb, ltb-true, leb-true}
 use lib.Bits.{bitOr, or-add-and, and-le-l, and-le-r}
 use lib.Dec.{ltb, leb}
 use lib.ListN.{getD}
-use Rattle.numbers.proofs.Flags.{by-order, and-left, and-right}
+use Rattle.numbers.proofs.Flags.{by-order, by-bool, and-left, and-right}
 use Rattle.clock.specs.Ranges.{clockOk}
 use Rattle.acks.specs.Rtt.{rttOk}
 use Rattle.intervals.specs.Rates.{placeBefore, windowOf as windowFrom, allUnder, arrivalsOk, linksOk, timeOk}
@@ -22,7 +22,7 @@ use Rattle.window.specs.Window.{windowOk}
 use Rattle.numbers.specs.Instants.{isReading}
 use Rattle.packing.specs.Words.{numberOf, wholeOf, momentOf}
 use Rattle.packing.specs.Packed.{at, sixteenOf, numbersFormed, firstFormed, ratesFormed, lastFormed, formed, windowOf, clockOf, rttOf, arrivalsOf, linksOf, historyOf, headOf, nowhere, unpackOf}
-use Rattle.inplace.specs.Sound.{bitsTo, raisedTo, allSmall}
+use Rattle.inplace.specs.Sound.{bitsTo, raisedTo, sizesSmall, intervalsSmall}
 
 -- bits, raised_bits
 pub or-left : (a b : ℕ) → a ≤ bitOr a b
@@ -127,36 +127,42 @@ partsOk ws =
     && historyOk (historyOf ws)
     && isReading (wholeOf (at ws 0))
 
-module _ (ws : List ℕ) (e : allSmall ws ≡ true) where
-  abbrev a1 : Bool
-  a1 = ltb (bitsTo ws 18 16) (2 ^ 31)
+-- sizes_small
+module _ (ws : List ℕ) {c : ℕ} (e : c ≡ bitsTo ws 34 16) where
+  pub sizes-alike : c ≤ 1456 → true ≡ sizesSmall ws
+  sizes-alike h = rw (sym e, le-leb c 1456 h)
 
-  abbrev a2 : Bool
-  a2 = ltb (bitsTo ws 54 16) (2 ^ 31)
+  pub sizes-raised : {d : ℕ} → 1456 < c → d ≡ raisedTo ws 16 → (ltb c 2048 && ltb d 2048) ≡ sizesSmall ws
+  sizes-raised h f = rw (sym e, lt-leb c 1456 h, f)
 
-  abbrev a3 : Bool
-  a3 = ltb (bitsTo ws 34 16) 2048
+module _ (ws : List ℕ) where
+  size-under : sizesSmall ws ≡ true → Under 1457 ws 34
+  size-under e k h =
+      let a = in-bits ws 34 16 k h in
+      let b3 = ltb (bitsTo ws 34 16) 2048 in
+      let b4 = ltb (raisedTo ws 16) 2048 in
+      by-bool (leb (bitsTo ws 34 16) 1456)
+      (λ t. let b = leb-true (bitsTo ws 34 16) 1456 t in omega arith)
+      (λ t.
+      let f : (b3 && b4) ≡ true = rw t at e in
+      let b = ltb-true (bitsTo ws 34 16) 2048 (and-left b3 b4 f) in
+      let c = in-raised ws 16 k h in
+      let d = ltb-true (raisedTo ws 16) 2048 (and-right b3 b4 f) in
+      let g : at ws (34 + k) % 2048 ≡ at ws (34 + k) = mod-eq-of-lt (omega arith) in
+      omega arith)
 
-  three : (a1 && a2 && a3) ≡ true
-  three = and-left (a1 && a2 && a3) (ltb (raisedTo ws 16) 2048) e
-
-  low : (a1 && a2) ≡ true
-  low = and-left (a1 && a2) a3 three
+module _ (ws : List ℕ) (e : intervalsSmall ws ≡ true) (f : sizesSmall ws ≡ true) where
+  together : bitOr (bitsTo ws 18 16) (bitsTo ws 54 16) < 2 ^ 31
+  together = ltb-true (bitOr (bitsTo ws 18 16) (bitsTo ws 54 16)) (2 ^ 31) e
 
   gaps-small : Under (2 ^ 31) ws 18
-  gaps-small k h = let a = in-bits ws 18 16 k h in let b = ltb-true (bitsTo ws 18 16) (2 ^ 31) (and-left a1 a2 low) in omega arith
+  gaps-small k h = let a = in-bits ws 18 16 k h in let b = or-left (bitsTo ws 18 16) (bitsTo ws 54 16) in let c = together in omega arith
 
   probes-small : Under (2 ^ 31) ws 54
-  probes-small k h = let a = in-bits ws 54 16 k h in let b = ltb-true (bitsTo ws 54 16) (2 ^ 31) (and-right a1 a2 low) in omega arith
+  probes-small k h = let a = in-bits ws 54 16 k h in let b = or-right (bitsTo ws 18 16) (bitsTo ws 54 16) in let c = together in omega arith
 
   sizes-small : Under 1457 ws 34
-  sizes-small k h =
-      let a = in-bits ws 34 16 k h in
-      let b = ltb-true (bitsTo ws 34 16) 2048 (and-right (a1 && a2) a3 three) in
-      let c = in-raised ws 16 k h in
-      let d = ltb-true (raisedTo ws 16) 2048 (and-right (a1 && a2 && a3) (ltb (raisedTo ws 16) 2048) e) in
-      let f : at ws (34 + k) % 2048 ≡ at ws (34 + k) = mod-eq-of-lt (omega arith) in
-      omega arith
+  sizes-small = size-under ws f
 
   all-formed : ratesFormed ws ≡ true
   all-formed =
@@ -168,8 +174,8 @@ module _ (ws : List ℕ) (e : allSmall ws ≡ true) where
 
   quick : {b : Bool} → b ≡ placesOk ws → b ≡ (ratesFormed ws && (arrivalsOk (arrivalsOf ws) && linksOk (linksOf ws)))
   unfolding arrivalsOk linksOk
-  quick f =
-      f
+  quick g =
+      g
       ∙ rw (
         all-formed,
         window-under (2 ^ 31) ws 18 (at ws 50) (at ws 51) gaps-small,
@@ -180,13 +186,9 @@ module _ (ws : List ℕ) (e : allSmall ws ≡ true) where
         and-true (leb (at ws 71) 16 && ltb (at ws 70) 16),
       )
 
-rates-quick : (ws : List ℕ) {s b : Bool} → s ≡ allSmall ws → s ≡ true → b ≡ placesOk ws → b ≡ (ratesFormed ws && (arrivalsOk (arrivalsOf ws) && linksOk (linksOf ws)))
-rates-quick ws e t f = quick ws (sym e ∙ t) f
-
--- all_small
-pub small-by : (ws : List ℕ) {a b c d : ℕ} → a ≡ bitsTo ws 18 16 → b ≡ bitsTo ws 54 16 → c ≡ bitsTo ws 34 16 → d ≡ raisedTo ws 16
-    → (ltb a 2147483648 && ltb b 2147483648 && ltb c 2048 && ltb d 2048) ≡ allSmall ws
-small-by ws e f g h = rw (e, f, g, h)
+-- intervals_small
+pub small-by : (ws : List ℕ) {a b : ℕ} → a ≡ bitsTo ws 18 16 → b ≡ bitsTo ws 54 16 → ltb (bitOr a b) 2147483648 ≡ intervalsSmall ws
+small-by ws e f = rw (e, f)
 
 -- sound
 and-any : (b : Bool) → (b && false) ≡ false
@@ -222,11 +224,11 @@ sound-by ws e g h k =
     (shuffle (firstFormed ws) (lastFormed ws) (ratesFormed ws) (arrivalsOk (arrivalsOf ws)) (linksOk (linksOf ws)) (windowOk (windowOf ws)) (leb (numberOf (at ws 6)) 65535000) (clockOk (clockOf ws)) (rttOk (rttOf ws)) (historyOk (historyOf ws)) (isReading (wholeOf (at ws 0)))
     ∙ gated (firstFormed ws && lastFormed ws && ratesFormed ws) ws)
 
-pub sound-quick : (ws : List ℕ) {s f l p q : Bool} → s ≡ allSmall ws → s ≡ true → f ≡ firstFormed ws → l ≡ lastFormed ws → p ≡ placesOk ws → q ≡ partsOk ws
+pub sound-quick : (ws : List ℕ) {f l p q : Bool} → intervalsSmall ws ≡ true → sizesSmall ws ≡ true → f ≡ firstFormed ws → l ≡ lastFormed ws → p ≡ placesOk ws → q ≡ partsOk ws
     → (f && l && p && q) ≡ headOk (unpackOf ws)
-sound-quick ws a b e g h k = sound-by ws e g (rates-quick ws a b h) k
+sound-quick ws a b e g h k = sound-by ws e g (quick ws a b h) k
 
 pub sound-slow : (ws : List ℕ) {h : Head} {b : Bool} → h ≡ unpackOf ws → b ≡ headOk h → b ≡ headOk (unpackOf ws)
 sound-slow ws e f = rw (f, e)
 
-pub ruleset sounds = (bits-start, bits-turn, bits-end, raised-start, raised-turn, raised-end, small-by, needs)
+pub ruleset sounds = (bits-start, bits-turn, bits-end, raised-start, raised-turn, raised-end, sizes-alike, sizes-raised, small-by, needs)

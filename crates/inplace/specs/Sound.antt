@@ -1,5 +1,5 @@
 -- How the words of a head are found in range without making the head. What is found is `headOk` of the head that the words say.
-use mathlib.Core.Bool.{Bool, _&&_}
+use mathlib.Core.Bool.{Bool, true, _&&_, cond}
 use mathlib.Core.List.{List}
 use mathlib.Core.Path.{_≡_}
 use Prim.Native.Nat.{ℕ, zero, suc, _+_, _*_, _%_, _^_, _<_}
@@ -22,9 +22,13 @@ unfoldable pub raisedTo : List ℕ → ℕ → ℕ
 raisedTo ws zero = 0
 raisedTo ws (suc n) = bitOr (raisedTo ws n) (at ws (34 + n) % 2048 + 591)
 
--- every interval and size is in range, in the window or not
-abbrev pub allSmall : List ℕ → Bool
-allSmall ws = ltb (bitsTo ws 18 16) (2 ^ 31) && ltb (bitsTo ws 54 16) (2 ^ 31) && ltb (bitsTo ws 34 16) 2048 && ltb (raisedTo ws 16) 2048
+-- sizes that have no more than 1,456 together have no more each: so it is of packets of one size
+abbrev pub sizesSmall : List ℕ → Bool
+sizesSmall ws = cond (leb (bitsTo ws 34 16) 1456) true (ltb (bitsTo ws 34 16) 2048 && ltb (raisedTo ws 16) 2048)
+
+-- every interval is in range, in a window or not
+abbrev pub intervalsSmall : List ℕ → Bool
+intervalsSmall ws = ltb (bitOr (bitsTo ws 18 16) (bitsTo ws 54 16)) (2 ^ 31)
 
 -- What every head but a rare one meets, tested with few comparisons: values with one bound by the bits that they have together. A head that does not may still be in range.
 abbrev pub fewBits : List ℕ → Bool

@@ -3,7 +3,7 @@ ghost use mathlib.Core.Path.{_≡_};
 ghost use Prim.Native.Nat.{_≤_};
 ghost use Rattle.head.specs.Head.{headOk};
 ghost use Rattle.packing.specs.Packed.{unpackOf};
-ghost use Rattle.inplace.specs.Sound.{Typed, bitsTo, raisedTo, allSmall, fewBits, beside, besideAll, finite, windowSmall, countsSmall, quickly};
+ghost use Rattle.inplace.specs.Sound.{Typed, bitsTo, raisedTo, sizesSmall, intervalsSmall, fewBits, beside, besideAll, finite, windowSmall, countsSmall, quickly};
 use packing::unpack;
 
 // What the type says of the words: 79 of 64 bits. A copy tells the proof so, and the compiler drops it.
@@ -45,14 +45,22 @@ fn raised_bits(ws: &[u64; 79]) -> u64
     all
 }
 
-// Whether every interval and size is in its range, in the window or not: so it is of every head that calls have left.
-fn all_small(ws: &[u64; 79]) -> bool
-    ensures { λ r. ⌜ r ≡ allSmall (now (ws .entry)) ⌝ }
+// Packets of one size, or of sizes with few bits, are found small by the bits that they have together.
+fn sizes_small(ws: &[u64; 79]) -> bool
+    ensures { λ r. ⌜ r ≡ sizesSmall (now (ws .entry)) ⌝ }
 {
-    (bits(ws, 18) < 0x8000_0000)
-        & (bits(ws, 54) < 0x8000_0000)
-        & (bits(ws, 34) < 2048)
-        & (raised_bits(ws) < 2048)
+    let together = bits(ws, 34);
+    if together <= 1456 {
+        return true;
+    }
+    (together < 2048) & (raised_bits(ws) < 2048)
+}
+
+// Whether every interval is in its range, in a window or not: so it is of every head that calls have left, and so are the sizes.
+fn intervals_small(ws: &[u64; 79]) -> bool
+    ensures { λ r. ⌜ r ≡ intervalsSmall (now (ws .entry)) ⌝ }
+{
+    (bits(ws, 18) | bits(ws, 54)) < 0x8000_0000
 }
 
 // Values with one bound, by the bits that they have together.
@@ -113,13 +121,16 @@ fn quickly(ws: &[u64; 79]) -> bool
     few_bits(ws) & beside_all(ws) & finite(ws) & window_small(ws) & counts_small(ws)
 }
 
-// Only the intervals in a window have to be in range, and a time may lie before 0: a head that is not found in range quickly is unpacked and asked.
+// Only the intervals in a window have to be in range, and a time may lie before 0: a head that is not found in range quickly is unpacked and asked. The sizes come last,
+// since their second pass would keep the registers of all that is read before it.
 pub fn sound(ws: &[u64; 79]) -> bool
     ensures { λ r. ⌜ r ≡ headOk (unpackOf (now (ws .entry))) ⌝ }
 {
-    if all_small(ws) {
+    if intervals_small(ws) {
         if quickly(ws) {
-            return true;
+            if sizes_small(ws) {
+                return true;
+            }
         }
     }
     let h = unpack::unpack(ws);

@@ -8,6 +8,7 @@ sound-spec =
     (tie.spec
     (λ c κs. search quick-sounds)
     (λ c κs. search quick-sounds)
+    (λ c κs. search quick-sounds)
     (λ c. search quick-sounds)
     (λ c κs. search quick-sounds)
     (λ c κs. search quick-sounds)
