@@ -2,7 +2,7 @@
 use mathlib.Core.Path.{_≡_, refl, sym, _∙_}
 use mathlib.Core.Bool.{Bool, true, false, cond}
 use mathlib.Core.List.{List}
-use Prim.Native.Nat.{ℕ, zero, suc, _+_, _*_, _^_, _<_, _≤_}
+use Prim.Native.Nat.{ℕ, zero, suc, _+_, _-_, _*_, _^_, _<_, _≤_}
 use native.Mathlib.Numerals.{add-one}
 use native.Mathlib.Omega.{arith}
 use borrow.Author.Tests.{eq-eqb, ne-eqb}
@@ -15,8 +15,9 @@ use Rattle.slots.specs.declared.entry.Entry.{Entry}
 use Rattle.slots.specs.declared.entry.Entry.the-variants.{Lost, Received, GivenUp}
 use Rattle.slots.proofs.Laws.{length-report, read-report, report-other, report-outside, slot-lt, slot-words, slot-apart}
 use Rattle.window.specs.Ready.{Good}
+use Rattle.window.proofs.Walks.{one-less}
 use Rattle.window_report.specs.Report.{isDue, kAfter, runWords, runsAfter, slotNo, dueAt, slotsTo, runsTo, runPut, listTo, needed, listAll, ReportOutcome, reportEnded, reportOf}
-use Rattle.window_report.specs.Inner.{Within, reporting, reportOne, reportedTo}
+use Rattle.window_report.specs.Inner.{Within, reporting, reportOne, reportedTo, anyFrom, anyDue}
 use Rattle.window.specs.declared.Window.{Window}
 use Rattle.window_report.specs.declared.report.Runs.{Runs}
 use Rattle.window_report.specs.declared.report.ReportAnswer.the-variants as answers
@@ -248,6 +249,36 @@ module _ (w : Window) (ws : List ℕ) (time mean : ℕ) where
   some-due j h t =
       let g : runsTo w ws time mean (suc j) .going ≡ true = rw t in
       omega (arith, words-rise (suc j) (w .held) (omega arith), run-some (runsTo w ws time mean (suc j)) (suc j) g)
+
+  -- the search for an entry that is due: its end, an entry that is due, and one that is not
+  module _ (i held : ℕ) where
+    pub any-end : held ≤ i → anyFrom w ws time mean i (held - i) ≡ false
+    unfolding anyFrom
+    any-end h = let e : held - i ≡ 0 = omega arith in rw e
+
+    module _ (h : i < held) where
+      pub any-here : dueAt w ws time mean i ≡ true → anyFrom w ws time mean i (held - i) ≡ true
+      unfolding anyFrom
+      any-here t = rw (one-less h) (rw t)
+
+      pub any-on : dueAt w ws time mean i ≡ false → anyFrom w ws time mean i (held - i) ≡ anyFrom w ws time mean (i + 1) (held - (i + 1))
+      unfolding anyFrom
+      any-on t = rw (one-less h) (rw t)
+
+  -- where it finds none, none is due, and nothing is needed
+  any-none : (n i j : ℕ) → anyFrom w ws time mean i n ≡ false → i ≤ j → j < i + n → dueAt w ws time mean j ≡ false
+  unfolding anyFrom
+  any-none zero i j e h k = absurd (omega arith)
+  any-none (suc n) i j e h k =
+      by-bool (dueAt w ws time mean i)
+      (λ t. impossible (rw t at e))
+      (λ t.
+      by-order i j
+      (λ l. any-none n (i + 1) j (rw t at e) (omega arith) (omega arith))
+      (λ l. let f : j ≡ i = omega arith in rw f t))
+
+  pub any-needs : anyDue w ws time mean ≡ false → needed w ws time mean ≡ 0
+  any-needs e = none-due (λ j h. any-none (w .held) 0 j e (omega arith) (omega arith))
 
   -- where nothing is needed, the walk leaves the areas as they are
   module _ (z : needed w ws time mean ≡ 0) where

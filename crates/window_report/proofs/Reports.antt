@@ -21,12 +21,12 @@ use Rattle.slots.specs.declared.entry.Entry.the-variants.{Lost}
 use Rattle.slots.proofs.Laws.{entry-fit, slot-words, slot-words-kept}
 use Rattle.window.specs.Window.{numberIn}
 use Rattle.window_report.specs.Report.{isDue, kAfter, runWords, closed, runsAfter, slotsTo, runsTo, runPut, listTo, needed, listAll, reportEnded, reportOf}
-use Rattle.window_report.specs.Inner.{Within, Reporting, reporting, reportOne, reportedTo}
+use Rattle.window_report.specs.Inner.{Within, Reporting, reporting, reportOne, reportedTo, anyFrom, anyDue}
 use Rattle.window.specs.declared.Window.{Window}
 use Rattle.window_report.specs.declared.report.Runs.{Runs}
 use Rattle.window_report.specs.declared.report.ReportAnswer.the-variants as answers
 use Rattle.window.proofs.Walks.{walk-start, walk-slot, walk-most, held-most, walk-on}
-use Rattle.window_report.proofs.ReportLaws.{words-most, runs-within, runs-more, words-rise, needed-held, slots-same, list-same, length-slots, length-list, report-more}
+use Rattle.window_report.proofs.ReportLaws.{words-most, runs-within, runs-more, words-rise, needed-held, slots-same, list-same, length-slots, length-list, report-more, any-end, any-here, any-on, any-needs}
 
 -- is_due: feedback and k round trips are under 2^60 + 2^47
 module _ {e : Entry} {k f : ℕ} (p : e ≡ Lost k f) where
@@ -226,7 +226,25 @@ module _ (w : Window) (ws : List ℕ) (time mean : ℕ) where
     pub report-fits : n ≤ length list → needed w ws time mean ≤ length list
     report-fits h = rw (← a) h
 
+  -- any_due: the start, a turn, its way out in the middle and its end
+  pub any-start : anyDue w ws time mean ≡ anyFrom w ws time mean 0 (w .held - 0)
+  any-start = let e : w .held - 0 ≡ w .held = omega arith in rw e
+
+  module _ (i : ℕ) {r : Bool} (a : r ≡ anyFrom w ws time mean i (w .held - i)) where
+    module _ {s : ℕ} {e : Entry} {d : Bool} (h : i < w .held) (b : s ≡ slotOf (w .capacity) (w .start) i) (c : e ≡ entryAt ws s) (f : d ≡ isDue time mean e) where
+      pub any-again : d ≡ false → r ≡ anyFrom w ws time mean (i + 1) (w .held - (i + 1))
+      any-again g = a ∙ any-on w ws time mean i (w .held) h (rw (← b, ← c, ← f) g)
+
+      pub any-found : d ≡ true → true ≡ r
+      any-found g = sym (a ∙ any-here w ws time mean i (w .held) h (rw (← b, ← c, ← f) g))
+
+    pub any-done : w .held ≤ i → false ≡ r
+    any-done h = sym (a ∙ any-end w ws time mean i (w .held) h)
+
   -- loss_report
+  pub lost-none : (list : List ℕ) {d : Bool} → d ≡ anyDue w ws time mean → d ≡ false → reportEnded answers.Nothing ws list ≡ reportOf w ws time mean list
+  lost-none list e f = report-none list (sym (any-needs w ws time mean (sym e ∙ f))) refl
+
   pub held-fits : (list : List ℕ) → w .held ≤ length list → needed w ws time mean ≤ length list
   held-fits list h = omega (arith, needed-held w ws time mean)
 
@@ -294,6 +312,11 @@ pub ruleset reports = (
   report-none,
   report-short,
   report-fits,
+  any-start,
+  any-again,
+  any-found,
+  any-done,
+  lost-none,
   held-fits,
   walk-start,
   slot-words,

@@ -5,7 +5,7 @@ ghost use lib.ListN.{length};
 ghost use Rattle.slots.specs.Ready.{Fit};
 ghost use Rattle.window.specs.Ready.{Good};
 ghost use Rattle.window_report.specs.Report.{isDue, kAfter, reportEnded, runWords, closed, runsAfter, runsTo, runPut, needed, reportOf};
-ghost use Rattle.window_report.specs.Inner.{Within, reporting, reportOne, reportedTo};
+ghost use Rattle.window_report.specs.Inner.{Within, reporting, reportOne, reportedTo, anyDue};
 use slots::entry::Entry;
 
 // Words so far, and whether a run of reported entries is going on, with its first entry.
@@ -247,6 +247,23 @@ fn report_counted(
     report_in(w, words, list, time, mean)
 }
 
+// Whether some entry is due. Where none is, the report ends with this walk, which minds no runs.
+fn any_due(w: window::Window, words: &[u64], time: u64, mean: u32) -> bool
+    requires { ⌜ Good w (now words) × (mean < 2 ^ 31) ⌝ }
+    ensures { λ r. ⌜ r ≡ anyDue w (now (words .entry)) time mean ⌝ }
+{
+    let mut i = 0;
+    let mut s = w.start;
+    while i < w.held {
+        if is_due(slots::entry::read_at(words, s), time, mean) {
+            return true;
+        }
+        s = slots::ring::next_slot(w.capacity, s);
+        i += 1;
+    }
+    false
+}
+
 // The loss report. On ListShort, and where nothing is due, the areas stay. It never needs more words than there are entries.
 pub fn loss_report(
     w: window::Window,
@@ -258,6 +275,9 @@ pub fn loss_report(
     requires { ⌜ Good w (now words) × (mean < 2 ^ 31) ⌝ }
     ensures { λ r. ⌜ reportEnded r (now (words .exit)) (now (list .exit)) ≡ reportOf w (now (words .entry)) time mean (now (list .entry)) ⌝ }
 {
+    if any_due(w, words, time, mean) {} else {
+        return ReportAnswer::Nothing;
+    }
     if w.held <= list.len() {
         return report_in(w, words, list, time, mean);
     }
