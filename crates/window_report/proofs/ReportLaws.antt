@@ -2,8 +2,9 @@
 use mathlib.Core.Path.{_≡_, refl, sym, _∙_}
 use mathlib.Core.Bool.{Bool, true, false, cond}
 use mathlib.Core.List.{List}
-use Prim.Native.Nat.{ℕ, zero, suc, _+_, _-_, _*_, _^_, _<_, _≤_}
+use Prim.Native.Nat.{ℕ, zero, suc, _+_, _-_, _*_, _^_, _<_, _≤_, min}
 use native.Mathlib.Numerals.{add-one}
+use native.Mathlib.Nat.{mod-eq-of-lt, mod-eq-sub-mod}
 use native.Mathlib.Omega.{arith}
 use borrow.Author.Tests.{eq-eqb, ne-eqb}
 use lib.Dec.{ltb, eqb}
@@ -11,13 +12,14 @@ use lib.ListN.{length, drop, length-set}
 use lib.Seq.{drop-set-lt}
 use Rattle.numbers.proofs.Flags.{by-test, by-bool, by-order, impossible}
 use Rattle.slots.specs.Words.{isLost, entryAt, writeReport}
+use Rattle.slots.specs.Ring.{slotOf}
 use Rattle.slots.specs.declared.entry.Entry.{Entry}
 use Rattle.slots.specs.declared.entry.Entry.the-variants.{Lost, Received, GivenUp}
 use Rattle.slots.proofs.Laws.{length-report, read-report, report-other, report-outside, slot-lt, slot-words, slot-apart}
 use Rattle.window.specs.Ready.{Good}
 use Rattle.window.proofs.Walks.{one-less}
 use Rattle.window_report.specs.Report.{isDue, kAfter, runWords, runsAfter, slotNo, dueAt, slotsTo, runsTo, runPut, listTo, needed, listAll, ReportOutcome, reportEnded, reportOf}
-use Rattle.window_report.specs.Inner.{Within, reporting, reportOne, reportedTo, anyFrom, anyDue}
+use Rattle.window_report.specs.Inner.{Within, reporting, reportOne, reportedTo, dueFrom, anyDue}
 use Rattle.window.specs.declared.Window.{Window}
 use Rattle.window_report.specs.declared.report.Runs.{Runs}
 use Rattle.window_report.specs.declared.report.ReportAnswer.the-variants as answers
@@ -110,6 +112,44 @@ same time mean ws s e h k p =
     by-bool (isDue time mean e)
     (λ t. rw t (read-report ws s (kAfter e) time h (rw p (due-lost time mean e t)) (k-small e) k))
     (λ t. rw t p)
+
+-- the search for an entry that is due: its end, a slot that has one, and one that has none
+module _ (ws : List ℕ) (time mean : ℕ) where
+  module _ (s to : ℕ) where
+    pub due-end : to ≤ s → dueFrom ws time mean s (to - s) ≡ false
+    unfolding dueFrom
+    due-end h = let e : to - s ≡ 0 = omega arith in rw e
+
+    module _ (h : s < to) where
+      pub due-here : isDue time mean (entryAt ws s) ≡ true → dueFrom ws time mean s (to - s) ≡ true
+      unfolding dueFrom
+      due-here t = rw (one-less h) (rw t)
+
+      pub due-on : isDue time mean (entryAt ws s) ≡ false → dueFrom ws time mean s (to - s) ≡ dueFrom ws time mean (s + 1) (to - (s + 1))
+      unfolding dueFrom
+      due-on t = rw (one-less h) (rw t)
+
+  due-none : (n s j : ℕ) → dueFrom ws time mean s n ≡ false → s ≤ j → j < s + n → isDue time mean (entryAt ws j) ≡ false
+  unfolding dueFrom
+  due-none zero s j e h k = absurd (omega arith)
+  due-none (suc n) s j e h k =
+      by-bool (isDue time mean (entryAt ws s))
+      (λ t. impossible (rw t at e))
+      (λ t.
+      by-order s j
+      (λ l. due-none n (s + 1) j (rw t at e) (omega arith) (omega arith))
+      (λ l. let f : j ≡ s = omega arith in rw f t))
+
+-- an entry's slot before the end of the ring, and past it
+slot-front : (capacity start i : ℕ) → start + i < capacity → slotOf capacity start i ≡ start + i
+unfolding slotOf
+slot-front capacity start i h = mod-eq-of-lt h
+
+slot-back : (capacity start i : ℕ) → capacity ≤ start + i → start + i < 2 * capacity → slotOf capacity start i ≡ start + i - capacity
+unfolding slotOf
+slot-back capacity start i h k =
+    let l : start + i - capacity < capacity = omega arith in
+    rw (mod-eq-sub-mod h, mod-eq-of-lt l)
 
 module _ (w : Window) (ws : List ℕ) (time mean : ℕ) where
   pub runs-more : (i : ℕ) → runsTo w ws time mean (i + 1) ≡ runsAfter (runsTo w ws time mean i) i (dueAt w ws time mean i)
@@ -250,35 +290,19 @@ module _ (w : Window) (ws : List ℕ) (time mean : ℕ) where
       let g : runsTo w ws time mean (suc j) .going ≡ true = rw t in
       omega (arith, words-rise (suc j) (w .held) (omega arith), run-some (runsTo w ws time mean (suc j)) (suc j) g)
 
-  -- the search for an entry that is due: its end, an entry that is due, and one that is not
-  module _ (i held : ℕ) where
-    pub any-end : held ≤ i → anyFrom w ws time mean i (held - i) ≡ false
-    unfolding anyFrom
-    any-end h = let e : held - i ≡ 0 = omega arith in rw e
-
-    module _ (h : i < held) where
-      pub any-here : dueAt w ws time mean i ≡ true → anyFrom w ws time mean i (held - i) ≡ true
-      unfolding anyFrom
-      any-here t = rw (one-less h) (rw t)
-
-      pub any-on : dueAt w ws time mean i ≡ false → anyFrom w ws time mean i (held - i) ≡ anyFrom w ws time mean (i + 1) (held - (i + 1))
-      unfolding anyFrom
-      any-on t = rw (one-less h) (rw t)
-
-  -- where it finds none, none is due, and nothing is needed
-  any-none : (n i j : ℕ) → anyFrom w ws time mean i n ≡ false → i ≤ j → j < i + n → dueAt w ws time mean j ≡ false
-  unfolding anyFrom
-  any-none zero i j e h k = absurd (omega arith)
-  any-none (suc n) i j e h k =
-      by-bool (dueAt w ws time mean i)
+  -- where the search finds none, none is due, and nothing is needed
+  pub any-needs : Good w ws → anyDue w ws time mean ≡ false → needed w ws time mean ≡ 0
+  any-needs g e =
+      by-bool (dueFrom ws time mean (w .start) (min (w .held) (w .capacity - w .start)))
       (λ t. impossible (rw t at e))
       (λ t.
-      by-order i j
-      (λ l. any-none n (i + 1) j (rw t at e) (omega arith) (omega arith))
-      (λ l. let f : j ≡ i = omega arith in rw f t))
-
-  pub any-needs : anyDue w ws time mean ≡ false → needed w ws time mean ≡ 0
-  any-needs e = none-due (λ j h. any-none (w .held) 0 j e (omega arith) (omega arith))
+      none-due
+      (λ j h.
+      by-order (w .start + j) (w .capacity)
+      (λ l. rw (slot-front (w .capacity) (w .start) j l) (due-none ws time mean _ (w .start) (w .start + j) t (omega arith) (omega arith)))
+      (λ l.
+      rw (slot-back (w .capacity) (w .start) j l (omega arith))
+      (due-none ws time mean _ 0 (w .start + j - w .capacity) (rw t at e) (omega arith) (omega arith)))))
 
   -- where nothing is needed, the walk leaves the areas as they are
   module _ (z : needed w ws time mean ≡ 0) where

@@ -1,8 +1,8 @@
 -- What the code of report.rt does at each return, as laws over plain values; the proof files hand them to `search`. Assumes nothing.
 use mathlib.Core.Path.{_≡_, refl, ap, sym, _∙_, subst}
-use mathlib.Core.Bool.{Bool, true, false}
+use mathlib.Core.Bool.{Bool, true, false, cond}
 use mathlib.Core.List.{List}
-use Prim.Native.Nat.{ℕ, _+_, _-_, _*_, _^_, _<_, _≤_}
+use Prim.Native.Nat.{ℕ, _+_, _-_, _*_, _^_, _<_, _≤_, min}
 use native.Mathlib.Nat.{mul-le-mul-right}
 use native.Mathlib.Omega.{arith}
 use borrow.Author.Needs.{needs}
@@ -20,13 +20,14 @@ use Rattle.slots.specs.declared.entry.Entry.{Entry}
 use Rattle.slots.specs.declared.entry.Entry.the-variants.{Lost}
 use Rattle.slots.proofs.Laws.{entry-fit, slot-words, slot-words-kept}
 use Rattle.window.specs.Window.{numberIn}
+use Rattle.window.specs.Ready.{Good}
 use Rattle.window_report.specs.Report.{isDue, kAfter, runWords, closed, runsAfter, slotsTo, runsTo, runPut, listTo, needed, listAll, reportEnded, reportOf}
-use Rattle.window_report.specs.Inner.{Within, Reporting, reporting, reportOne, reportedTo, anyFrom, anyDue}
+use Rattle.window_report.specs.Inner.{Within, Reporting, reporting, reportOne, reportedTo, dueFrom, anyDue}
 use Rattle.window.specs.declared.Window.{Window}
 use Rattle.window_report.specs.declared.report.Runs.{Runs}
 use Rattle.window_report.specs.declared.report.ReportAnswer.the-variants as answers
 use Rattle.window.proofs.Walks.{walk-start, walk-slot, walk-most, held-most, walk-on}
-use Rattle.window_report.proofs.ReportLaws.{words-most, runs-within, runs-more, words-rise, needed-held, slots-same, list-same, length-slots, length-list, report-more, any-end, any-here, any-on, any-needs}
+use Rattle.window_report.proofs.ReportLaws.{words-most, runs-within, runs-more, words-rise, needed-held, slots-same, list-same, length-slots, length-list, report-more, due-end, due-here, due-on, any-needs}
 
 -- is_due: feedback and k round trips are under 2^60 + 2^47
 module _ {e : Entry} {k f : ℕ} (p : e ≡ Lost k f) where
@@ -203,6 +204,22 @@ module _ (w : Window) (ws : List ℕ) (time mean : ℕ) (list : List ℕ) where
     pub report-done : i ≤ w .held → w .held ≤ i → reporting words l r ≡ reportedTo w ws time mean list (w .held)
     report-done h k = let e : i ≡ w .held = omega arith in a ∙ ap (reportedTo w ws time mean list) e
 
+-- due_between: a turn, its way out in the middle and its end
+module _ (ws : List ℕ) (time mean s to : ℕ) {r : Bool} (a : r ≡ dueFrom ws time mean s (to - s)) where
+  module _ {e : Entry} {d : Bool} (h : s < to) (c : e ≡ entryAt ws s) (f : d ≡ isDue time mean e) where
+    pub due-again : d ≡ false → r ≡ dueFrom ws time mean (s + 1) (to - (s + 1))
+    due-again g = a ∙ due-on ws time mean s to h (rw (← c, ← f) g)
+
+    pub due-found : d ≡ true → true ≡ r
+    due-found g = sym (a ∙ due-here ws time mean s to h (rw (← c, ← f) g))
+
+  pub due-done : to ≤ s → false ≡ r
+  due-done h = sym (a ∙ due-end ws time mean s to h)
+
+cond-id : (d : Bool) → cond d true false ≡ d
+cond-id true = refl
+cond-id false = refl
+
 -- words_needed, report_counted
 module _ (w : Window) (ws : List ℕ) (time mean : ℕ) where
   pub needs-words : {r q : Runs} → r ≡ runsTo w ws time mean (w .held) → q ≡ closed r (w .held) → q .words ≡ needed w ws time mean
@@ -226,24 +243,29 @@ module _ (w : Window) (ws : List ℕ) (time mean : ℕ) where
     pub report-fits : n ≤ length list → needed w ws time mean ≤ length list
     report-fits h = rw (← a) h
 
-  -- any_due: the start, a turn, its way out in the middle and its end
-  pub any-start : anyDue w ws time mean ≡ anyFrom w ws time mean 0 (w .held - 0)
-  any-start = let e : w .held - 0 ≡ w .held = omega arith in rw e
+  -- any_due: one stretch, or the first of two, or both
+  pub any-one : {r : Bool} → w .start + w .held ≤ w .capacity → r ≡ dueFrom ws time mean (w .start) (w .start + w .held - w .start) → r ≡ anyDue w ws time mean
+  unfolding dueFrom
+  any-one h e =
+      let a : min (w .held) (w .capacity - w .start) ≡ w .start + w .held - w .start = omega arith in
+      let b : w .held - (w .capacity - w .start) ≡ 0 = omega arith in
+      rw (a, b, ← e) (sym (cond-id _))
 
-  module _ (i : ℕ) {r : Bool} (a : r ≡ anyFrom w ws time mean i (w .held - i)) where
-    module _ {s : ℕ} {e : Entry} {d : Bool} (h : i < w .held) (b : s ≡ slotOf (w .capacity) (w .start) i) (c : e ≡ entryAt ws s) (f : d ≡ isDue time mean e) where
-      pub any-again : d ≡ false → r ≡ anyFrom w ws time mean (i + 1) (w .held - (i + 1))
-      any-again g = a ∙ any-on w ws time mean i (w .held) h (rw (← b, ← c, ← f) g)
+  module _ {d : Bool} (h : w .capacity < w .start + w .held) (g : w .start < w .capacity) (e : d ≡ dueFrom ws time mean (w .start) (w .capacity - w .start)) where
+    any-front : dueFrom ws time mean (w .start) (min (w .held) (w .capacity - w .start)) ≡ d
+    any-front = let a : min (w .held) (w .capacity - w .start) ≡ w .capacity - w .start = omega arith in rw a (sym e)
 
-      pub any-found : d ≡ true → true ≡ r
-      any-found g = sym (a ∙ any-here w ws time mean i (w .held) h (rw (← b, ← c, ← f) g))
+    pub any-first : d ≡ true → true ≡ anyDue w ws time mean
+    any-first f = rw (any-front, f)
 
-    pub any-done : w .held ≤ i → false ≡ r
-    any-done h = sym (a ∙ any-end w ws time mean i (w .held) h)
+    pub any-second : {r : Bool} → d ≡ false → r ≡ dueFrom ws time mean 0 (w .start + w .held - w .capacity - 0) → r ≡ anyDue w ws time mean
+    any-second f k =
+        let b : w .held - (w .capacity - w .start) ≡ w .start + w .held - w .capacity - 0 = omega arith in
+        rw (any-front, f, b) k
 
   -- loss_report
-  pub lost-none : (list : List ℕ) {d : Bool} → d ≡ anyDue w ws time mean → d ≡ false → reportEnded answers.Nothing ws list ≡ reportOf w ws time mean list
-  lost-none list e f = report-none list (sym (any-needs w ws time mean (sym e ∙ f))) refl
+  pub lost-none : (list : List ℕ) {d : Bool} → Good w ws → d ≡ anyDue w ws time mean → d ≡ false → reportEnded answers.Nothing ws list ≡ reportOf w ws time mean list
+  lost-none list g e f = report-none list (sym (any-needs w ws time mean g (sym e ∙ f))) refl
 
   pub held-fits : (list : List ℕ) → w .held ≤ length list → needed w ws time mean ≤ length list
   held-fits list h = omega (arith, needed-held w ws time mean)
@@ -312,10 +334,12 @@ pub ruleset reports = (
   report-none,
   report-short,
   report-fits,
-  any-start,
-  any-again,
-  any-found,
-  any-done,
+  due-again,
+  due-found,
+  due-done,
+  any-one,
+  any-first,
+  any-second,
   lost-none,
   held-fits,
   walk-start,

@@ -2,10 +2,10 @@
 use mathlib.Core.Path.{_≡_}
 use mathlib.Core.Bool.{Bool, true, false, cond}
 use mathlib.Core.List.{List}
-use Prim.Native.Nat.{ℕ, zero, suc, _+_, _*_, _<_, _≤_}
+use Prim.Native.Nat.{ℕ, zero, suc, _+_, _-_, _*_, _<_, _≤_, min}
 use Rattle.slots.specs.Words.{entryAt, writeReport}
 use Rattle.window.specs.declared.Window.{Window}
-use Rattle.window_report.specs.Report.{isDue, kAfter, dueAt, runsAfter, runPut, slotsTo, runsTo, listTo}
+use Rattle.window_report.specs.Report.{isDue, kAfter, runsAfter, runPut, slotsTo, runsTo, listTo}
 use Rattle.window_report.specs.declared.report.Runs.{Runs}
 
 -- what holds of a walk before entry i: at most two words an entry, and a run that goes on began before i
@@ -35,10 +35,14 @@ reportOne w time mean s i x =
 abbrev pub reportedTo : Window → List ℕ → ℕ → ℕ → List ℕ → ℕ → Reporting
 reportedTo w ws time mean list i = reporting (slotsTo w ws time mean i) (listTo w ws time mean list i) (runsTo w ws time mean i)
 
--- whether one of the n entries from entry i on is due, and whether one of all
-unfoldable pub anyFrom : Window → List ℕ → ℕ → ℕ → ℕ → ℕ → Bool
-anyFrom w ws time mean i zero = false
-anyFrom w ws time mean i (suc n) = cond (dueAt w ws time mean i) true (anyFrom w ws time mean (i + 1) n)
+-- whether one of the n slots from s on holds an entry that is due
+unfoldable pub dueFrom : List ℕ → ℕ → ℕ → ℕ → ℕ → Bool
+dueFrom ws time mean s zero = false
+dueFrom ws time mean s (suc n) = cond (isDue time mean (entryAt ws s)) true (dueFrom ws time mean (s + 1) n)
 
+-- and whether one of the slots in use does: those up to the end of the ring, then those from slot 0 on
 abbrev pub anyDue : Window → List ℕ → ℕ → ℕ → Bool
-anyDue w ws time mean = anyFrom w ws time mean 0 (w .held)
+anyDue w ws time mean =
+    cond (dueFrom ws time mean (w .start) (min (w .held) (w .capacity - w .start)))
+    true
+    (dueFrom ws time mean 0 (w .held - (w .capacity - w .start)))

@@ -1,11 +1,11 @@
 // The loss report, buffer.rs `prepare_loss_list`: 01, "Window".
 ghost use mathlib.Core.Path.{_≡_};
-ghost use Prim.Native.Nat.{_+_, _*_, _<_, _≤_, _^_};
+ghost use Prim.Native.Nat.{_+_, _-_, _*_, _<_, _≤_, _^_};
 ghost use lib.ListN.{length};
 ghost use Rattle.slots.specs.Ready.{Fit};
 ghost use Rattle.window.specs.Ready.{Good};
 ghost use Rattle.window_report.specs.Report.{isDue, kAfter, reportEnded, runWords, closed, runsAfter, runsTo, runPut, needed, reportOf};
-ghost use Rattle.window_report.specs.Inner.{Within, reporting, reportOne, reportedTo, anyDue};
+ghost use Rattle.window_report.specs.Inner.{Within, reporting, reportOne, reportedTo, dueFrom, anyDue};
 use slots::entry::Entry;
 
 // Words so far, and whether a run of reported entries is going on, with its first entry.
@@ -247,21 +247,35 @@ fn report_counted(
     report_in(w, words, list, time, mean)
 }
 
-// Whether some entry is due. Where none is, the report ends with this walk, which minds no runs.
+// Whether one of the slots from `from` to before `to` holds an entry that is due.
+fn due_between(words: &[u64], from: usize, to: usize, time: u64, mean: u32) -> bool
+    requires { ⌜ (3 * to ≤ length (now words)) × (mean < 2 ^ 31) ⌝ }
+    ensures { λ r. ⌜ r ≡ dueFrom (now (words .entry)) time mean from (to - from) ⌝ }
+{
+    let mut s = from;
+    while s < to {
+        if is_due(slots::entry::read_at(words, s), time, mean) {
+            return true;
+        }
+        s += 1;
+    }
+    false
+}
+
+// Whether some entry is due. Where none is, the report ends with this walk: it minds no runs, and takes the ring as one or two
+// stretches of slots, so that a step is one addition.
 fn any_due(w: window::Window, words: &[u64], time: u64, mean: u32) -> bool
     requires { ⌜ Good w (now words) × (mean < 2 ^ 31) ⌝ }
     ensures { λ r. ⌜ r ≡ anyDue w (now (words .entry)) time mean ⌝ }
 {
-    let mut i = 0;
-    let mut s = w.start;
-    while i < w.held {
-        if is_due(slots::entry::read_at(words, s), time, mean) {
-            return true;
-        }
-        s = slots::ring::next_slot(w.capacity, s);
-        i += 1;
+    let end = w.start + w.held;
+    if end <= w.capacity {
+        return due_between(words, w.start, end, time, mean);
     }
-    false
+    if due_between(words, w.start, w.capacity, time, mean) {
+        return true;
+    }
+    due_between(words, 0, end - w.capacity, time, mean)
 }
 
 // The loss report. On ListShort, and where nothing is due, the areas stay. It never needs more words than there are entries.
