@@ -7,6 +7,7 @@
 #include <stdint.h>
 #include <stdio.h>
 #include <stdlib.h>
+#include <string.h>
 #include <time.h>
 
 #include "pursethistle.h"
@@ -120,9 +121,18 @@ static double seconds(void) {
 /* Indices that are lost at first; each comes 40 packets later. */
 static int lost_first(uint64_t index) { return index % 100 == 57 && index + 41 < packets; }
 
+/* A word that is all digits, as a number. */
+static uint64_t number(const char *word) {
+    if (*word == 0 || word[strspn(word, "0123456789")] != 0) {
+        fprintf(stderr, "bench/soak [PACKETS [FIRST]]: '%s' is not a number\n", word);
+        exit(2);
+    }
+    return strtoull(word, NULL, 10);
+}
+
 int main(int argc, char **argv) {
-    packets = argc > 1 ? strtoull(argv[1], NULL, 0) : WIDTH + (UINT64_C(1) << 20);
-    first = argc > 2 ? strtoull(argv[2], NULL, 0) : 0;
+    packets = argc > 1 ? number(argv[1]) : WIDTH + (UINT64_C(1) << 20);
+    first = argc > 2 ? number(argv[2]) : 0;
     double begun = seconds(), last = begun;
     if (pt_new(head, answer, 0, 0, false, (uint32_t)first, CAPACITY) != 0) fail("making", 0, 15);
     printf("%" PRIu64 " packets from number %" PRIu64 "\n", packets, first);

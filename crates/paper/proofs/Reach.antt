@@ -5,7 +5,7 @@ use mathlib.Core.List.{List, [], _∷_}
 use mathlib.Core.Logic.{_⊎_, inl, inr}
 use Prim.Native.Nat.{ℕ, _*_, _^_, _<_, _≤_}
 use native.Mathlib.Omega.{arith}
-use borrow.Author.Tests.{le-ltb, lt-leb}
+use borrow.Author.Tests.{le-ltb, lt-leb, ne-eqb}
 use lib.Dec.{eqb}
 use lib.IntN.{ℤ, natAbs}
 use lib.ListN.{length}
@@ -50,7 +50,7 @@ use Rattle.upkeep.specs.declared.show.ShowAnswer.the-variants as shows
 use Rattle.receiver.specs.Paper.{dataLine, messageLine}
 use Rattle.feedback.specs.Paper.{lossLine, clockLine, fullAckLine, rttLine}
 use Rattle.upkeep.specs.Paper.{shownLine}
-use Rattle.paper.specs.Reach.{OnlyLater}
+use Rattle.paper.specs.Reach.{OnlyLater, withBoth}
 
 -- no test holds, so nothing refuses
 none-from : (k : ℕ) (l : List Rule) → k ≡ 0 → Clear l → firstFrom k l ≡ 0
@@ -176,3 +176,43 @@ module _ (h : Head) (ok : headOk h ≡ true) where
     ack2-only a number n =
         let k = ack2Of (h .history) a (natAbs now) number in
         rw (none-refuses (timedRules (headOk h) (length a) 2048 now (h .latest)) (good ok, (le-ltb _ _ n, (good reading, (later, tt))))) (held-only h (k .history) (k .answer) now)
+
+-- every number of a call's tests is 6 at most, so is the first that holds
+abbrev Small : List Rule → Type 0
+Small [] = Unit {0}
+Small (r ∷ rs) = (r .number ≤ 6) × Small rs
+
+then-small : (k : ℕ) (t : Bool) (n : ℕ) → k ≤ 6 → n ≤ 6 → thenOf k t n ≤ 6
+unfolding thenOf
+then-small k t n a b = by-both (λ (x : ℕ). x ≤ 6) (eqb k 0) (cond t n 0) k (by-both (λ (x : ℕ). x ≤ 6) t n 0 b (omega arith)) a
+
+first-small : (k : ℕ) (l : List Rule) → k ≤ 6 → Small l → firstFrom k l ≤ 6
+first-small k [] a s = a
+first-small k (r ∷ rs) a s = first-small (thenOf k (r .bad) (r .number)) rs (then-small k (r .bad) (r .number) a (s .0)) (s .1)
+
+got-both : (light : Bool) (lrsn : ℕ) (recovered : Bool) → withBoth (calls.gotAnswer light lrsn recovered) ≡ true
+got-both true lrsn recovered = refl
+got-both false lrsn recovered = refl
+
+push-both : (h : Head) (w : Window) (a : PushAnswer) (now : ℤ) (number size : ℕ) → withBoth (calls.afterPush h w a now number size .answer) ≡ true
+unfolding calls.gotOf calls.ackedOf
+push-both h w (pushes.Got lrsn recovered) now number size =
+    let x = calls.placedOf (cond recovered h (calls.ratedOf h now number size)) w now in
+    got-both (lightAckOf (x .history) lrsn .light) lrsn recovered
+push-both h w (pushes.Loss first last) now number size = refl
+push-both h w pushes.BufferFull now number size = refl
+push-both h w (pushes.PacketTooEarly places need) now number size = refl
+push-both h w pushes.PacketTooLate now number size = refl
+push-both h w pushes.DiscardedDuplicate now number size = refl
+
+-- whatever the head, the areas and the arguments
+pub eight-with-both : (h : Head) (ws bs : List ℕ) (now : ℤ) (p : Packet) (payload : List ℕ) → withBoth (calls.dataCallOf h ws bs now p payload .handled .answer) ≡ true
+unfolding calls.dataCallOf calls.takenOf
+eight-with-both h ws bs now p payload =
+    let o = pushOf (h .window) ws bs (natAbs now) p payload in
+    let l = pushRules (headOk h) (h .window .capacity) (length ws) (length bs) now (h .latest) p (length payload) in
+    let n = firstRefusal l in
+    let s = first-small 0 l (omega arith) (omega arith, (omega arith, (omega arith, (omega arith, (omega arith, (omega arith, (omega arith, (omega arith, (omega arith, tt))))))))) in
+    by-both (λ (x : calls.DataOutcome). withBoth (x .handled .answer) ≡ true) (eqb n 0) _ _
+    (push-both h (o .pushed .window) (o .pushed .answer) now (p .number) (length payload))
+    (rw (ne-eqb n 8 (λ e. let f : 8 ≤ 6 = rw (sym e) s in omega arith)))

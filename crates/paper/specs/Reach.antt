@@ -1,12 +1,14 @@
 -- Making's answer as 01 writes it, and which refusals 01 leaves to a right use: "Refused, in order of test".
 use mathlib.Core.Path.{_≡_}
-use mathlib.Core.Bool.{cond}
+use mathlib.Core.Bool.{Bool, true, not, cond}
 use mathlib.Core.List.{[]}
 use mathlib.Core.Logic.{_⊎_}
 use Prim.Native.Nat.{_≤_}
 use lib.Dec.{eqb}
 use Rattle.head.specs.declared.state.Made.{Made}
 use Rattle.head.specs.Paper.{Line, refused, made}
+use Rattle.receiver.specs.declared.data.DataAnswer.{DataAnswer}
+use Rattle.receiver.specs.declared.data.DataAnswer.the-variants as datas
 
 -- making has no line in a trace; it answers a head, or refusal 15
 abbrev pub madeLine : Made → Line
@@ -15,3 +17,11 @@ madeLine m = record { word = cond (eqb (m .refusal) 0) made refused; refusal = m
 -- what a call can still answer once 1 to 6 cannot occur: no refusal, or 7 to 14
 abbrev pub OnlyLater : Line → Type 0
 OnlyLater l = (l .refusal ≡ 0) ⊎ ((7 ≤ l .refusal) × (l .refusal ≤ 14))
+
+-- "8 PacketTooEarly .. returns both": 8 never comes without its room and need
+abbrev pub withBoth : DataAnswer → Bool
+withBoth (datas.Got lrsn recovered) = true
+withBoth (datas.Light lrsn recovered) = true
+withBoth (datas.Loss first last) = true
+withBoth (datas.Refused n) = not (eqb n 8)
+withBoth (datas.PacketTooEarly places need) = true
