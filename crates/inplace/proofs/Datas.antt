@@ -226,7 +226,7 @@ placed-words g w now = refl
 
 -- a packet on words that say a head is the packet on that head
 module _ (ws : List ℕ) (ok : packOf (headOf ws) ≡ ws) (r : Rates ws) where
-  rated-words : (now : ℤ) (number size : ℕ) → putRated ws now number size ≡ packOf (ratedOf (headOf ws) now number size)
+  pub rated-words : (now : ℤ) (number size : ℕ) → putRated ws now number size ≡ packOf (ratedOf (headOf ws) now number size)
   unfolding putRated ratedOf headOf arrivalOf
   rated-words now number size =
       ap (λ (l : List ℕ). putLink (putArrival l (at ws 50) (at ws 51) (arrivalsOf ws .last) now size) (at ws 70) (at ws 71) (linksOf ws .probe) now number) (sym ok)

@@ -1,9 +1,9 @@
 -- How the code of data.rt takes a packet on words. `Calls` says what comes of it.
 use mathlib.Core.Path.{_≡_}
-use mathlib.Core.Bool.{Bool, true, cond}
+use mathlib.Core.Bool.{Bool, true, false, _&&_, cond}
 use mathlib.Core.List.{List}
 use Prim.Native.Nat.{ℕ, _+_, _%_, _<_, _≤_}
-use lib.Dec.{eqb}
+use lib.Dec.{ltb, eqb}
 use lib.IntN.{ℤ, natAbs}
 use lib.ListN.{length, set}
 use Rattle.numbers.specs.Instants.{isReading, sinceTime}
@@ -12,8 +12,11 @@ use Rattle.numbers.specs.declared.instant.Moment.the-variants.{Unset, At}
 use Rattle.intervals.specs.Rates.{nextPlace, countAfter}
 use Rattle.acks.specs.History.{lightAckOf}
 use Rattle.acks.specs.declared.history.History.{History}
+use Rattle.slots.specs.Words.{writeAt}
+use Rattle.slots.specs.Ring.{withPayload}
+use Rattle.window.specs.Window.{slotIn, nextOf}
 use Rattle.window.specs.Ready.{Good, Bytes, PacketRight}
-use Rattle.window.specs.Push.{pushOf}
+use Rattle.window.specs.Push.{received, movedPast, pushOf}
 use Rattle.window.specs.declared.Window.{Window}
 use Rattle.window.specs.declared.push.Packet.{Packet}
 use Rattle.window.specs.declared.push.PushAnswer.{PushAnswer}
@@ -98,6 +101,27 @@ pub record TakeReady (ws : List ℕ) (w : Window) (slots bs : List ℕ) (now : �
   pub good : Good w slots
   pub payloads : Bytes w bs
   pub right : PacketRight p payload
+
+-- a packet is the next expected one, and there is room for it
+unfoldable pub isNext : Window → ℕ → Bool
+isNext w number = ltb (w .held) (w .capacity) && eqb number (nextOf w)
+
+-- the words that its append moves: what is held, lrsn and the latest reading; then a light ACK, one of the history
+unfoldable pub putNext : List ℕ → ℕ → ℕ → ℤ → List ℕ
+putNext ws held lrsn now = set (set (set ws 3 held) 5 lrsn) 0 (wordOf now)
+
+unfoldable pub ackedNext : List ℕ → ℕ → Heard
+ackedNext ws lrsn = let l = lightAckOf (historyOf ws) lrsn .light in heard (gotAnswer l lrsn false) (cond l (set ws 78 lrsn) ws)
+
+unfoldable pub keptNext : List ℕ → ℕ → ℕ → ℤ → ℕ → ℕ → Heard
+keptNext ws held lrsn now number size = ackedNext (putNext (putRated ws now number size) held lrsn now) lrsn
+
+-- its append: `takenBy` where `isNext` holds, of the window that the words say
+unfoldable pub nextTaken : List ℕ → Window → List ℕ → List ℕ → ℤ → Packet → List ℕ → DataLeft
+nextTaken ws w slots bs now p payload =
+    let s = slotIn w (w .held) in
+    let x = keptNext ws (w .held + 1) (movedPast (w .lrsn) (p .number)) now (p .number) (length payload) in
+    dataLeft (x .answer) (x .words) (writeAt slots s (received p payload)) (withPayload bs s payload)
 
 -- the words say a head as well
 pub record Pushing (ws slots bs : List ℕ) (now : ℤ) (p : Packet) (payload : List ℕ) : Type 0 where

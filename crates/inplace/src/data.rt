@@ -4,7 +4,7 @@ ghost use Prim.Native.Nat.{_<_, _≤_};
 ghost use Rattle.receiver.specs.Data.{packet};
 ghost use Rattle.packing.specs.Packed.{at};
 ghost use Rattle.inplace.specs.Calls.{dataIn, dataLeft};
-ghost use Rattle.inplace.specs.Pushes.{putLast, putArrival, putPair, putLink, putRated, putPlaced, heard, ackedIn, gotIn, afterPushIn, takenBy, Rates, TakeReady, Pushing, dataTaken, pushRefusal};
+ghost use Rattle.inplace.specs.Pushes.{putLast, putArrival, putPair, putLink, putRated, putPlaced, heard, ackedIn, gotIn, afterPushIn, takenBy, Rates, TakeReady, isNext, putNext, ackedNext, keptNext, nextTaken, Pushing, dataTaken, pushRefusal};
 use acks::history::History;
 use intervals::rates::one_more;
 use intervals::rates::since;
@@ -168,6 +168,81 @@ fn take_packet(
     after_push(ws, pushed, time, number, size)
 }
 
+// Whether a packet is the next expected one, and there is room for it.
+fn is_next(w: Window, number: u32) -> bool
+    requires { ⌜ w .held ≤ 8192 ⌝ }
+    ensures { λ r. ⌜ r ≡ isNext w number ⌝ }
+{
+    let next = window::number(w, w.held);
+    (w.held < w.capacity) & (number == next)
+}
+
+// The words that its append moves besides the rates: what is held, lrsn and the latest reading.
+fn put_next(ws: &mut [u64; 79], held: usize, lrsn: u32, time: i64)
+    ensures { λ _. ⌜ now (ws .exit) ≡ putNext (now (ws .entry)) held lrsn time ⌝ }
+{
+    ws[3] = words::of_size(held);
+    ws[5] = words::of_number(lrsn);
+    ws[0] = words::of_whole(time);
+}
+
+// Of the history a light ACK moves one word, and all else none.
+fn acknowledge_next(ws: &mut [u64; 79], lrsn: u32) -> DataAnswer
+    ensures { λ r. ⌜ heard r (now (ws .exit)) ≡ ackedNext (now (ws .entry)) lrsn ⌝ }
+{
+    let y = unpack::history(ws);
+    let acked = y.next_light_ack(lrsn);
+    if acked.light {
+        ws[78] = words::of_number(lrsn);
+        return DataAnswer::Light {
+            lrsn,
+            recovered: false,
+        };
+    }
+    DataAnswer::Got {
+        lrsn,
+        recovered: false,
+    }
+}
+
+fn keep_next(
+    ws: &mut [u64; 79],
+    held: usize,
+    lrsn: u32,
+    time: i64,
+    number: u32,
+    size: u32,
+) -> DataAnswer
+    requires { ⌜ Rates (now ws) ⌝ }
+    ensures { λ r. ⌜ heard r (now (ws .exit)) ≡ keptNext (now (ws .entry)) held lrsn time number size ⌝ }
+{
+    rate(ws, time, number, size);
+    put_next(ws, held, lrsn, time);
+    acknowledge_next(ws, lrsn)
+}
+
+// The packet that nearly every call brings: into its slot, then the words that it moves. What it leaves alone is not written.
+fn take_next(
+    ws: &mut [u64; 79],
+    w: Window,
+    slots: &mut [u64],
+    bytes: &mut [u8],
+    time: i64,
+    p: Packet,
+    payload: &[u8],
+) -> DataAnswer
+    requires { ⌜ TakeReady (now ws) w (now slots) (now bytes) time p (now payload) × (w .held < w .capacity) ⌝ }
+    ensures { λ r. ⌜ dataLeft r (now (ws .exit)) (now (slots .exit)) (now (bytes .exit)) ≡ nextTaken (now (ws .entry)) w (now (slots .entry)) (now (bytes .entry)) time p (now (payload .entry)) ⌝ }
+{
+    let number = p.number;
+    let size = payload.len() as u32;
+    let held = w.held + 1;
+    let lrsn = window::push::moved_past(w.lrsn, number);
+    let s = slots::ring::slot(w.capacity, w.start, w.held);
+    window::push::put_packet(slots, bytes, s, p, payload);
+    keep_next(ws, held, lrsn, time, number, size)
+}
+
 // The same, as the head's call: what the type says of the words is needed for that.
 fn take(
     ws: &mut [u64; 79],
@@ -182,6 +257,9 @@ fn take(
 {
     crate::sound::typed(ws);
     let w = unpack::window(ws);
+    if is_next(w, p.number) {
+        return take_next(ws, w, slots, bytes, time, p, payload);
+    }
     take_packet(ws, w, slots, bytes, time, p, payload)
 }
 

@@ -35,7 +35,7 @@ pub struct Pushed {
 }
 
 // lrsn, past an append that is equal to it.
-fn moved_past(lrsn: u32, number: u32) -> u32
+pub fn moved_past(lrsn: u32, number: u32) -> u32
     ensures { λ r. ⌜ r ≡ movedPast lrsn number ⌝ }
 {
     if lrsn == number {
@@ -74,7 +74,7 @@ fn append_lost(
 }
 
 // Puts a packet into slot s of both areas.
-fn put_packet(words: &mut [u64], bytes: &mut [u8], s: usize, p: Packet, payload: &[u8])
+pub fn put_packet(words: &mut [u64], bytes: &mut [u8], s: usize, p: Packet, payload: &[u8])
     requires { ⌜ (3 * s + 3 ≤ length (now words)) × (1456 * s + 1456 ≤ length (now bytes)) × PacketRight p (now payload) ⌝ }
     ensures { λ _. ⌜ (now (words .exit) ≡ writeAt (now (words .entry)) s (received p (now (payload .entry))))
         × (now (bytes .exit) ≡ withPayload (now (bytes .entry)) s (now (payload .entry))) ⌝ }
