@@ -1,6 +1,6 @@
 -- What the code of data.rt does at each return, as laws over plain values. Assumes nothing.
 use mathlib.Core.Path.{_≡_, refl, sym, _∙_, ap}
-use mathlib.Core.Bool.{Bool, true, false, cond}
+use mathlib.Core.Bool.{Bool, true, false, not, cond}
 use mathlib.Core.List.{List, [], _∷_}
 use Prim.Native.Nat.{ℕ, zero, suc, _+_, _%_, _<_}
 use denote.Enum.Declared.{tagOf}
@@ -8,10 +8,12 @@ use types.Run.{OneOf, miss}
 use native.Mathlib.Omega.{arith}
 use borrow.Author.Needs.{needs}
 use borrow.Author.Tests.{ne-eqb, eq-eqb}
-use lib.Dec.{eqb}
+use lib.Dec.{ltb, eqb}
 use lib.IntN.{ℤ, natAbs}
 use lib.ListN.{length, set}
-use Rattle.numbers.proofs.Flags.{by-bool}
+use Rattle.numbers.proofs.Flags.{impossible, by-bool}
+use Rattle.numbers.specs.Circular.{distance, after, before}
+use Rattle.numbers.specs.Order.{order}
 use Rattle.numbers.specs.declared.instant.Moment.{Moment}
 use Rattle.numbers.specs.declared.instant.Moment.the-variants.{Unset, At}
 use Rattle.intervals.specs.Rates as rates
@@ -22,7 +24,9 @@ use Rattle.acks.specs.declared.history.History.{History}
 use Rattle.acks.specs.declared.history.LightAcked.{LightAcked}
 use Rattle.intervals.specs.declared.rates.Arrivals.{Arrivals}
 use Rattle.intervals.specs.declared.rates.Links.{Links}
-use Rattle.window.specs.Push.{PushOutcome, pushEnded, pushOf}
+use Rattle.slots.specs.Words.{isLost}
+use Rattle.window.specs.Window.{entryIn, nextOf, roomOf}
+use Rattle.window.specs.Push.{PushOutcome, pushEnded, appendWithLossOf, recoveredOf, recoverOf, pushOf}
 use Rattle.window.specs.declared.Window.{Window}
 use Rattle.window.proofs.push.PushAnswer.{the-type}
 use Rattle.window.specs.declared.push.Packet.{Packet}
@@ -50,7 +54,7 @@ use Rattle.inplace.proofs.Sounds.{no-range}
 use Rattle.inplace.proofs.Messages.{says-head}
 use Rattle.inplace.specs.Sound.{Typed}
 use Rattle.inplace.specs.Calls.{keptOr, DataLeft, dataLeft, dataIn}
-use Rattle.inplace.specs.Pushes.{putLast, putArrival, putPair, putLink, putRated, putPlaced, Heard, heard, ackedIn, gotIn, afterPushIn, takenBy, Rates, TakeReady, Pushing, dataTaken, pushRefusal}
+use Rattle.inplace.specs.Pushes.{putLast, putArrival, putPair, putLink, putRated, putPlaced, Heard, heard, ackedIn, gotIn, afterPushIn, recoveredIn, afterOther, takenBy, isNext, Rates, TakeReady, Pushing, dataTaken, pushRefusal}
 
 -- put_last, put_arrival, put_pair, put_link
 pub last-put : (ws : List ℕ) (now : ℤ) {n : ℕ} {z : ℤ} → n ≡ wordOf z → z ≡ now → set (set ws 52 1) 53 n ≡ putLast ws now
@@ -102,24 +106,19 @@ module _ (ws : List ℕ) (y : History) (lrsn : ℕ) (recovered : Bool) {l : Ligh
   unfolding ackedIn
   acked-got b = rw (← e, b, f)
 
-module _ (ws : List ℕ) (w : Window) (lrsn : ℕ) (recovered : Bool) (now : ℤ) (number size : ℕ) {y : History} (e : y ≡ historyOf ws) where
-  pub got-recovered : {vs : List ℕ} {z : ℤ} {x : Heard} → recovered ≡ true → vs ≡ putPlaced ws w z → z ≡ now → x ≡ ackedIn vs y lrsn true → x ≡ gotIn ws w lrsn recovered now number size
-  unfolding gotIn
-  got-recovered b f q g = g ∙ rw (f, q, e, b)
+pub recovered-put : (ws : List ℕ) (w : Window) (lrsn : ℕ) (now : ℤ) {y : History} {vs : List ℕ} {z : ℤ} {x : Heard}
+    → y ≡ historyOf ws → vs ≡ putPlaced ws w z → z ≡ now → x ≡ ackedIn vs y lrsn true → x ≡ recoveredIn ws w lrsn now
+unfolding recoveredIn
+recovered-put ws w lrsn now e f q g = g ∙ rw (f, q, e)
 
-  pub got-appended : {us vs : List ℕ} {z z₁ : ℤ} {x : Heard} → recovered ≡ false → us ≡ putRated ws z number size → z ≡ now → vs ≡ putPlaced us w z₁ → z₁ ≡ now → x ≡ ackedIn vs y lrsn false
-      → x ≡ gotIn ws w lrsn recovered now number size
-  unfolding gotIn
-  got-appended b f q g r h = h ∙ rw (g, f, q, r, e, b)
-
-module _ (ws : List ℕ) (w : Window) (a : PushAnswer) (now : ℤ) (number size : ℕ) where
-  pub after-got : {lrsn : ℕ} {recovered : Bool} {z : ℤ} {x : Heard} → a ≡ pushes.Got lrsn recovered → x ≡ gotIn ws w lrsn recovered z number size → z ≡ now → x ≡ afterPushIn ws w a now number size
+module _ (ws : List ℕ) (w : Window) (a : PushAnswer) (now : ℤ) where
+  pub after-got : {lrsn : ℕ} {recovered : Bool} {z : ℤ} {x : Heard} → a ≡ pushes.Got lrsn recovered → x ≡ recoveredIn ws w lrsn z → z ≡ now → x ≡ afterOther ws w a now
   after-got e f g = f ∙ rw (e, g)
 
-  pub after-loss : {first last : ℕ} {vs : List ℕ} {z : ℤ} → a ≡ pushes.Loss first last → vs ≡ putPlaced ws w z → z ≡ now → heard (answers.Loss first last) vs ≡ afterPushIn ws w a now number size
+  pub after-loss : {first last : ℕ} {vs : List ℕ} {z : ℤ} → a ≡ pushes.Loss first last → vs ≡ putPlaced ws w z → z ≡ now → heard (answers.Loss first last) vs ≡ afterOther ws w a now
   after-loss e f g = rw (f, g, e)
 
-  others : (b : PushAnswer) → OneOf (1 ∷ 2 ∷ 3 ∷ 4 ∷ 5 ∷ []) (tagOf the-type b) → OneOf (0 ∷ 2 ∷ 3 ∷ 4 ∷ 5 ∷ []) (tagOf the-type b) → heard (pushRefused b) ws ≡ afterPushIn ws w b now number size
+  others : (b : PushAnswer) → OneOf (1 ∷ 2 ∷ 3 ∷ 4 ∷ 5 ∷ []) (tagOf the-type b) → OneOf (0 ∷ 2 ∷ 3 ∷ 4 ∷ 5 ∷ []) (tagOf the-type b) → heard (pushRefused b) ws ≡ afterOther ws w b now
   others (pushes.Got lrsn recovered) p q = absurd (miss (1 ∷ 2 ∷ 3 ∷ 4 ∷ 5 ∷ []) 0 tt p)
   others (pushes.Loss first last) p q = absurd (miss (0 ∷ 2 ∷ 3 ∷ 4 ∷ 5 ∷ []) 1 tt q)
   others pushes.BufferFull p q = refl
@@ -128,18 +127,47 @@ module _ (ws : List ℕ) (w : Window) (a : PushAnswer) (now : ℤ) (number size 
   others pushes.DiscardedDuplicate p q = refl
 
   pub after-refused : {b : DataAnswer} → OneOf (1 ∷ 2 ∷ 3 ∷ 4 ∷ 5 ∷ []) (tagOf the-type a) → OneOf (0 ∷ 2 ∷ 3 ∷ 4 ∷ 5 ∷ []) (tagOf the-type a) → b ≡ pushRefused a
-      → heard b ws ≡ afterPushIn ws w a now number size
+      → heard b ws ≡ afterOther ws w a now
   after-refused p q e = rw e (others a p q)
+
+-- a push of another number than the next expected one appends no packet without a gap, so what it got, it recovered
+abbrev appended : PushAnswer → Bool
+appended (pushes.Got lrsn recovered) = not recovered
+appended (pushes.Loss first last) = false
+appended pushes.BufferFull = false
+appended (pushes.PacketTooEarly room need) = false
+appended pushes.PacketTooLate = false
+appended pushes.DiscardedDuplicate = false
+
+push-other : (w : Window) (slots bs : List ℕ) (t : ℕ) (p : Packet) (payload : List ℕ) → isNext w (p .number) ≡ false → appended (pushOf w slots bs t p payload .pushed .answer) ≡ false
+unfolding isNext pushOf order appendWithLossOf recoverOf recoveredOf
+push-other w slots bs t p payload h =
+    let n = nextOf w in
+    let i = distance 31 (p .number) (w .seqno0) in
+    by-bool (after 31 (p .number) n)
+    (λ a. rw (h, a) (by-bool (ltb (roomOf w) (distance 31 (p .number) n + 1)) (λ b. rw b) (λ b. rw b)))
+    (λ a. rw (h, a) (by-bool (before 31 (p .number) (w .seqno0)) (λ b. rw b) (λ b. by-bool (isLost (entryIn w slots i)) (λ c. rw (b, c)) (λ c. rw (b, c)))))
+
+other-is : (ws : List ℕ) (w : Window) (a : PushAnswer) (now : ℤ) (number size : ℕ) → appended a ≡ false → afterOther ws w a now ≡ afterPushIn ws w a now number size
+unfolding recoveredIn gotIn
+other-is ws w (pushes.Got lrsn true) now number size h = refl
+other-is ws w (pushes.Got lrsn false) now number size h = impossible h
+other-is ws w (pushes.Loss first last) now number size h = refl
+other-is ws w pushes.BufferFull now number size h = refl
+other-is ws w (pushes.PacketTooEarly room need) now number size h = refl
+other-is ws w pushes.PacketTooLate now number size h = refl
+other-is ws w pushes.DiscardedDuplicate now number size h = refl
 
 -- take_packet
 module _ (ws : List ℕ) (w : Window) (slots bs : List ℕ) (now : ℤ) (p : Packet) (payload : List ℕ) where
   pub taken-by : {u : Pushed} {z z₁ : ℤ} {t : ℕ} {slots₁ bs₁ vs : List ℕ} {r : DataAnswer}
-      → heard r vs ≡ afterPushIn ws (u .window) (u .answer) z₁ (p .number) (length payload) → z₁ ≡ now
+      → isNext w (p .number) ≡ false → heard r vs ≡ afterOther ws (u .window) (u .answer) z₁ → z₁ ≡ now
       → pushEnded u slots₁ bs₁ ≡ pushOf w slots bs t p payload → t ≡ natAbs z → z ≡ now → dataLeft r vs slots₁ bs₁ ≡ takenBy ws w slots bs now p payload
   unfolding takenBy
-  taken-by {u = u} {slots₁ = slots₁} {bs₁ = bs₁} {vs = vs} {r = r} g k f n q =
+  taken-by {u = u} {slots₁ = slots₁} {bs₁ = bs₁} {vs = vs} {r = r} h g k f n q =
       let a : pushEnded u slots₁ bs₁ ≡ pushOf w slots bs (natAbs now) p payload = f ∙ rw (n, q) in
-      let b : heard r vs ≡ afterPushIn ws (u .window) (u .answer) now (p .number) (length payload) = g ∙ rw k in
+      let c : appended (u .answer) ≡ false = ap (λ (o : PushOutcome). appended (o .pushed .answer)) a ∙ push-other w slots bs (natAbs now) p payload h in
+      let b : heard r vs ≡ afterPushIn ws (u .window) (u .answer) now (p .number) (length payload) = g ∙ rw k (other-is ws (u .window) (u .answer) now (p .number) (length payload) c) in
       ap (λ (x : Heard). dataLeft (x .answer) (x .words) slots₁ bs₁) b
       ∙ ap (λ (o : PushOutcome). let x = afterPushIn ws (o .pushed .window) (o .pushed .answer) now (p .number) (length payload) in dataLeft (x .answer) (x .words) (o .slots) (o .payloads)) a
 
@@ -320,7 +348,7 @@ pub ruleset puts-in = (last-put, arrival-first, arrival-next, pair-none, pair-pu
 
 pub ruleset rates-in = (rated-put, placed-put, acked-light, acked-got, needs)
 
-pub ruleset gots-in = (got-recovered, got-appended, after-got, after-loss, after-refused, needs)
+pub ruleset gots-in = (recovered-put, after-got, after-loss, after-refused, needs)
 
 pub ruleset pushes-in = (taken-by, reading-under, refusal-by, needs)
 

@@ -1,20 +1,18 @@
 -- What the code of data.rt does with a packet at the next expected number, as laws over plain values: its append is the push's. Assumes nothing.
 use mathlib.Core.Path.{_≡_, refl, sym, _∙_, ap}
-use mathlib.Core.Bool.{Bool, true, false, _&&_, cond}
+use mathlib.Core.Bool.{Bool, true, false, cond}
 use mathlib.Core.List.{List}
-use Prim.Native.Nat.{ℕ, _+_, _^_, _<_, _≤_}
+use Prim.Native.Nat.{ℕ, _+_, _^_, _≤_}
 use native.Mathlib.Nat.{mod-mod}
 use native.Mathlib.Omega.{arith}
 use borrow.Author.Needs.{needs}
-use borrow.Author.Tests.{eqb-true, ltb-true, ne-eqb}
-use lib.Dec.{ltb, eqb}
+use borrow.Author.Tests.{eq-eqb, ne-eqb}
+use lib.Dec.{eqb}
 use lib.IntN.{ℤ, natAbs}
 use lib.ListN.{length, set}
 use Rattle.numbers.specs.Order.{order}
-use Rattle.numbers.specs.Circular.{equal, before, sum}
-use Rattle.numbers.specs.declared.seq.Order.the-variants.{Equal}
-use Rattle.numbers.proofs.Circle.{distance-self}
-use Rattle.numbers.proofs.Flags.{and-left, and-right, by-bool}
+use Rattle.numbers.specs.Circular.{distance, equal, before, sum}
+use Rattle.numbers.proofs.Flags.{by-bool}
 use Rattle.acks.specs.History.{lightAckOf}
 use Rattle.acks.specs.declared.history.History.{History}
 use Rattle.acks.specs.declared.history.LightAcked.{LightAcked}
@@ -22,11 +20,9 @@ use Rattle.slots.specs.Words.{writeAt}
 use Rattle.slots.specs.Ring.{withPayload}
 use Rattle.slots.proofs.Laws.{slot-words, slot-bytes}
 use Rattle.window.specs.Window.{slotIn, nextOf}
-use Rattle.window.specs.Push.{pushEnded, received, movedPast, grown, appendNextOf, pushOf}
-use Rattle.window.specs.Ready.{Good}
+use Rattle.window.specs.Push.{received, movedPast, appendNextOf, pushOf}
 use Rattle.window.specs.declared.Window.{Window}
 use Rattle.window.specs.declared.push.Packet.{Packet}
-use Rattle.window.specs.declared.push.PushAnswer.the-variants as pushes
 use Rattle.head.specs.declared.state.Head.{Head}
 use Rattle.receiver.specs.Data.{placedOf, ratedOf}
 use Rattle.receiver.specs.declared.data.DataAnswer.{DataAnswer}
@@ -43,9 +39,9 @@ use Rattle.inplace.specs.Calls.{DataLeft, dataLeft}
 use Rattle.inplace.specs.Pushes.{putRated, putPlaced, Heard, heard, ackedIn, gotIn, takenBy, Rates, TakeReady, isNext, putNext, ackedNext, keptNext, nextTaken, Pushing, dataTaken}
 
 -- is_next
-pub next-by : (w : Window) (number : ℕ) {n : ℕ} → n ≡ nextOf w → (ltb (w .held) (w .capacity) && eqb number n) ≡ isNext w number
-unfolding isNext
-next-by w number e = rw e
+pub next-by : (w : Window) (number : ℕ) {n d : ℕ} → n ≡ nextOf w → d ≡ distance 31 number n → eqb d 0 ≡ isNext w number
+unfolding isNext equal
+next-by w number e f = rw (f, e)
 
 -- put_next, acknowledge_next, keep_next
 pub next-put : (ws : List ℕ) (held lrsn : ℕ) (now : ℤ) {a b c : ℕ} {z : ℤ} → a ≡ held → b ≡ lrsn → c ≡ wordOf z → z ≡ now → set (set (set ws 3 a) 5 b) 0 c ≡ putNext ws held lrsn now
@@ -67,36 +63,22 @@ unfolding keptNext
 next-kept ws held lrsn now number size a b c d e = e ∙ rw (c, a, b, d)
 
 -- take_next
-pub next-gone : (ws : List ℕ) (w : Window) (slots bs : List ℕ) (now : ℤ) (p : Packet) (payload : List ℕ) {lrsn s : ℕ} {z : ℤ} {slots₁ bs₁ vs : List ℕ} {r : DataAnswer}
-    → lrsn ≡ movedPast (w .lrsn) (p .number) → s ≡ slotIn w (w .held) → slots₁ ≡ writeAt slots s (received p payload) → bs₁ ≡ withPayload bs s payload
-    → heard r vs ≡ keptNext ws (w .held + 1) lrsn z (p .number) (length payload) → z ≡ now → dataLeft r vs slots₁ bs₁ ≡ nextTaken ws w slots bs now p payload
-unfolding nextTaken
-next-gone ws w slots bs now p payload {slots₁ = slots₁} {bs₁ = bs₁} a b c d e f = ap (λ (x : Heard). dataLeft (x .answer) (x .words) slots₁ bs₁) e ∙ rw (c, d, b, a, f)
+module _ (ws : List ℕ) (w : Window) (slots bs : List ℕ) (now : ℤ) (p : Packet) (payload : List ℕ) where
+  pub next-full : w .held ≡ w .capacity → dataLeft (answers.Refused 7) ws slots bs ≡ nextTaken ws w slots bs now p payload
+  unfolding nextTaken
+  next-full h = rw (eq-eqb _ _ h)
 
--- at the next expected number, with room, a push appends
-same-order : (n : ℕ) → order 31 n n ≡ Equal
-unfolding order equal
-same-order n = rw (distance-self 31 n)
+  pub next-gone : {lrsn s : ℕ} {z : ℤ} {slots₁ bs₁ vs : List ℕ} {r : DataAnswer}
+      → (w .held ≡ w .capacity → ⊥) → lrsn ≡ movedPast (w .lrsn) (p .number) → s ≡ slotIn w (w .held)
+      → slots₁ ≡ writeAt slots s (received p payload) → bs₁ ≡ withPayload bs s payload
+      → heard r vs ≡ keptNext ws (w .held + 1) lrsn z (p .number) (length payload) → z ≡ now → dataLeft r vs slots₁ bs₁ ≡ nextTaken ws w slots bs now p payload
+  unfolding nextTaken
+  next-gone {slots₁ = slots₁} {bs₁ = bs₁} h a b c d e f = ap (λ (x : Heard). dataLeft (x .answer) (x .words) slots₁ bs₁) e ∙ rw (ne-eqb _ _ h, c, d, b, a, f)
 
-module _ (w : Window) (p : Packet) (h : isNext w (p .number) ≡ true) where
-  room : w .held < w .capacity
-  unfolding isNext
-  room = ltb-true (w .held) (w .capacity) (and-left (ltb (w .held) (w .capacity)) (eqb (p .number) (nextOf w)) h)
-
-  is-next : p .number ≡ nextOf w
-  unfolding isNext
-  is-next = eqb-true (p .number) (nextOf w) (and-right (ltb (w .held) (w .capacity)) (eqb (p .number) (nextOf w)) h)
-
-  push-next : (slots bs : List ℕ) (t : ℕ) (payload : List ℕ)
-      → pushOf w slots bs t p payload
-      ≡ pushEnded
-      (record { window = grown w p 1; answer = pushes.Got (movedPast (w .lrsn) (p .number)) false })
-      (writeAt slots (slotIn w (w .held)) (received p payload))
-      (withPayload bs (slotIn w (w .held)) payload)
-  unfolding pushOf appendNextOf
-  push-next slots bs t payload =
-      let o : order 31 (p .number) (nextOf w) ≡ Equal = ap (λ (n : ℕ). order 31 n (nextOf w)) is-next ∙ same-order (nextOf w) in
-      rw (o, ne-eqb (w .held) (w .capacity) (λ e. let k = room in omega arith))
+-- a push at the next expected number appends
+push-next : (w : Window) (slots bs : List ℕ) (t : ℕ) (p : Packet) (payload : List ℕ) → isNext w (p .number) ≡ true → pushOf w slots bs t p payload ≡ appendNextOf w slots bs t p payload
+unfolding isNext pushOf order
+push-next w slots bs t p payload h = rw h
 
 -- and the words that it leaves alone are those that the push would write
 abbrev moved : Window → ℕ → ℕ → Window
@@ -138,25 +120,28 @@ module _ (ws : List ℕ) (ok : packOf (headOf ws) ≡ ws) (r : Rates ws) (n l : 
       ∙ ap (λ (x : List ℕ). ackedIn x (historyOf ws) l false) (sym (placed-words rated (moved (windowOf ws) n l) now))
       ∙ ap (λ (x : List ℕ). ackedIn (putPlaced x (moved (windowOf ws) n l) now) (historyOf ws) l false) (sym e)
 
+pub not-next : (w : Window) (number : ℕ) {c : Bool} → c ≡ isNext w number → c ≡ false → isNext w number ≡ false
+not-next w number d h = sym d ∙ h
+
 -- take
 module _ (ws slots bs : List ℕ) (now : ℤ) (p : Packet) (payload : List ℕ) where
   next-is : Typed ws → Pushing ws slots bs now p payload → isNext (windowOf ws) (p .number) ≡ true → nextTaken ws (windowOf ws) slots bs now p payload ≡ takenBy ws (windowOf ws) slots bs now p payload
-  unfolding nextTaken takenBy
+  unfolding nextTaken takenBy appendNextOf
   next-is t r h =
       let ok : packOf (headOf ws) ≡ ws = ap packOf (sym (says-head ws (r .says))) ∙ pack-unpack ws (t .small) (r .says) (t .long) in
       let w = windowOf ws in
-      rw (push-next w p h slots bs (natAbs now) payload, kept-next ws ok (r .ready .rates) (w .held + 1) (movedPast (w .lrsn) (p .number)) now (p .number) (length payload))
+      let e = push-next w slots bs (natAbs now) p payload h in
+      by-bool (eqb (w .held) (w .capacity))
+      (λ b. rw (e, b))
+      (λ b. rw (e, b, kept-next ws ok (r .ready .rates) (w .held + 1) (movedPast (w .lrsn) (p .number)) now (p .number) (length payload)))
 
   module _ {w : Window} (r : Pushing ws slots bs now p payload) (e : w ≡ windowOf ws) where
     pub next-held : w .held ≤ 8192
     next-held = let g = r .ready .good in rw e (omega (arith, g .ranges .most, g .ranges .holds))
 
-    pub next-room : {c : Bool} → c ≡ isNext w (p .number) → c ≡ true → w .held < w .capacity
-    next-room d h = room w p (sym d ∙ h)
-
     pub next-taken : {c : Bool} {z : ℤ} {x : DataLeft} → Typed ws → c ≡ isNext w (p .number) → c ≡ true → x ≡ nextTaken ws w slots bs z p payload → z ≡ now → x ≡ dataTaken ws slots bs now p payload
     next-taken t d h x q = take-is ws slots bs now p payload r refl refl t (x ∙ rw (e, q) (next-is t r (rw e at (sym d ∙ h))))
 
-pub ruleset nexts = (slot-words, slot-bytes, next-by, next-put, next-light, next-got, next-kept, next-gone, needs)
+pub ruleset nexts = (slot-words, slot-bytes, next-by, next-put, next-light, next-got, next-kept, next-full, next-gone, needs)
 
-pub ruleset takes-next = (next-held, next-room, next-taken, take-ready, take-is, needs)
+pub ruleset takes-next = (next-held, not-next, next-taken, take-ready, take-is, needs)

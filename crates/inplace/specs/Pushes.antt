@@ -1,11 +1,12 @@
 -- How the code of data.rt takes a packet on words. `Calls` says what comes of it.
 use mathlib.Core.Path.{_≡_}
-use mathlib.Core.Bool.{Bool, true, false, _&&_, cond}
+use mathlib.Core.Bool.{Bool, true, false, cond}
 use mathlib.Core.List.{List}
 use Prim.Native.Nat.{ℕ, _+_, _%_, _<_, _≤_}
-use lib.Dec.{ltb, eqb}
+use lib.Dec.{eqb}
 use lib.IntN.{ℤ, natAbs}
 use lib.ListN.{length, set}
+use Rattle.numbers.specs.Circular.{equal}
 use Rattle.numbers.specs.Instants.{isReading, sinceTime}
 use Rattle.numbers.specs.declared.instant.Moment.{Moment}
 use Rattle.numbers.specs.declared.instant.Moment.the-variants.{Unset, At}
@@ -81,6 +82,18 @@ afterPushIn ws w (pushes.PacketTooEarly room need) now number size = heard (answ
 afterPushIn ws w pushes.PacketTooLate now number size = heard (answers.Refused 9) ws
 afterPushIn ws w pushes.DiscardedDuplicate now number size = heard (answers.Refused 10) ws
 
+-- a recovery, and what comes of the answer to a packet that is not the next expected one: what that got, it recovered
+unfoldable pub recoveredIn : List ℕ → Window → ℕ → ℤ → Heard
+recoveredIn ws w lrsn now = ackedIn (putPlaced ws w now) (historyOf ws) lrsn true
+
+abbrev pub afterOther : List ℕ → Window → PushAnswer → ℤ → Heard
+afterOther ws w (pushes.Got lrsn recovered) now = recoveredIn ws w lrsn now
+afterOther ws w (pushes.Loss first last) now = heard (answers.Loss first last) (putPlaced ws w now)
+afterOther ws w pushes.BufferFull now = heard (answers.Refused 7) ws
+afterOther ws w (pushes.PacketTooEarly room need) now = heard (answers.PacketTooEarly room need) ws
+afterOther ws w pushes.PacketTooLate now = heard (answers.Refused 9) ws
+afterOther ws w pushes.DiscardedDuplicate now = heard (answers.Refused 10) ws
+
 unfoldable pub takenBy : List ℕ → Window → List ℕ → List ℕ → ℤ → Packet → List ℕ → DataLeft
 takenBy ws w slots bs now p payload =
     let o = pushOf w slots bs (natAbs now) p payload in
@@ -102,9 +115,9 @@ pub record TakeReady (ws : List ℕ) (w : Window) (slots bs : List ℕ) (now : �
   pub payloads : Bytes w bs
   pub right : PacketRight p payload
 
--- a packet is the next expected one, and there is room for it
+-- a packet is the next expected one
 unfoldable pub isNext : Window → ℕ → Bool
-isNext w number = ltb (w .held) (w .capacity) && eqb number (nextOf w)
+isNext w number = equal 31 number (nextOf w)
 
 -- the words that its append moves: what is held, lrsn and the latest reading; then a light ACK, one of the history
 unfoldable pub putNext : List ℕ → ℕ → ℕ → ℤ → List ℕ
@@ -116,12 +129,14 @@ ackedNext ws lrsn = let l = lightAckOf (historyOf ws) lrsn .light in heard (gotA
 unfoldable pub keptNext : List ℕ → ℕ → ℕ → ℤ → ℕ → ℕ → Heard
 keptNext ws held lrsn now number size = ackedNext (putNext (putRated ws now number size) held lrsn now) lrsn
 
--- its append: `takenBy` where `isNext` holds, of the window that the words say
+-- and all of it: `takenBy` where `isNext` holds, of the window that the words say
 unfoldable pub nextTaken : List ℕ → Window → List ℕ → List ℕ → ℤ → Packet → List ℕ → DataLeft
 nextTaken ws w slots bs now p payload =
     let s = slotIn w (w .held) in
     let x = keptNext ws (w .held + 1) (movedPast (w .lrsn) (p .number)) now (p .number) (length payload) in
-    dataLeft (x .answer) (x .words) (writeAt slots s (received p payload)) (withPayload bs s payload)
+    cond (eqb (w .held) (w .capacity))
+    (dataLeft (answers.Refused 7) ws slots bs)
+    (dataLeft (x .answer) (x .words) (writeAt slots s (received p payload)) (withPayload bs s payload))
 
 -- the words say a head as well
 pub record Pushing (ws slots bs : List ℕ) (now : ℤ) (p : Packet) (payload : List ℕ) : Type 0 where

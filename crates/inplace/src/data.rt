@@ -1,10 +1,11 @@
 // A data packet on a head's words: 01, "Window" with refusals 1 to 10, and of "ACKs, RTT, rates" what a push does. receiver/src/data.rt has the same on a head.
 ghost use mathlib.Core.Path.{_≡_};
+ghost use mathlib.Core.Bool.{true, false};
 ghost use Prim.Native.Nat.{_<_, _≤_};
 ghost use Rattle.receiver.specs.Data.{packet};
 ghost use Rattle.packing.specs.Packed.{at};
 ghost use Rattle.inplace.specs.Calls.{dataIn, dataLeft};
-ghost use Rattle.inplace.specs.Pushes.{putLast, putArrival, putPair, putLink, putRated, putPlaced, heard, ackedIn, gotIn, afterPushIn, takenBy, Rates, TakeReady, isNext, putNext, ackedNext, keptNext, nextTaken, Pushing, dataTaken, pushRefusal};
+ghost use Rattle.inplace.specs.Pushes.{putLast, putArrival, putPair, putLink, putRated, putPlaced, heard, ackedIn, recoveredIn, afterOther, takenBy, Rates, TakeReady, isNext, putNext, ackedNext, keptNext, nextTaken, Pushing, dataTaken, pushRefusal};
 use acks::history::History;
 use intervals::rates::one_more;
 use intervals::rates::since;
@@ -95,60 +96,51 @@ fn place(ws: &mut [u64; 79], window: Window, time: i64)
     ws[0] = words::of_whole(time);
 }
 
-// An append without gap or a recovery asks for a light ACK.
-fn acknowledge(ws: &mut [u64; 79], y: History, lrsn: u32, recovered: bool) -> DataAnswer
-    ensures { λ r. ⌜ heard r (now (ws .exit)) ≡ ackedIn (now (ws .entry)) y lrsn recovered ⌝ }
+// A recovery asks for a light ACK, as an append without gap does.
+fn acknowledge(ws: &mut [u64; 79], y: History, lrsn: u32) -> DataAnswer
+    ensures { λ r. ⌜ heard r (now (ws .exit)) ≡ ackedIn (now (ws .entry)) y lrsn true ⌝ }
 {
     let acked = y.next_light_ack(lrsn);
     let history = acked.history;
     pack::put_history(ws, history);
     if acked.light {
-        return DataAnswer::Light { lrsn, recovered };
+        return DataAnswer::Light {
+            lrsn,
+            recovered: true,
+        };
     }
-    DataAnswer::Got { lrsn, recovered }
+    DataAnswer::Got {
+        lrsn,
+        recovered: true,
+    }
 }
 
-// A packet appended without gap, or recovered.
-fn got(
-    ws: &mut [u64; 79],
-    window: Window,
-    lrsn: u32,
-    recovered: bool,
-    time: i64,
-    number: u32,
-    size: u32,
-) -> DataAnswer
-    requires { ⌜ Rates (now ws) ⌝ }
-    ensures { λ r. ⌜ heard r (now (ws .exit)) ≡ gotIn (now (ws .entry)) window lrsn recovered time number size ⌝ }
+// A packet recovered.
+fn recovered(ws: &mut [u64; 79], window: Window, lrsn: u32, time: i64) -> DataAnswer
+    ensures { λ r. ⌜ heard r (now (ws .exit)) ≡ recoveredIn (now (ws .entry)) window lrsn time ⌝ }
 {
     let y = unpack::history(ws);
-    if recovered {
-        place(ws, window, time);
-        return acknowledge(ws, y, lrsn, true);
-    }
-    rate(ws, time, number, size);
     place(ws, window, time);
-    acknowledge(ws, y, lrsn, false)
+    acknowledge(ws, y, lrsn)
 }
 
-// The window's answer as the call's: a refusal leaves the words, a gap asks for no ACK.
-fn after_push(ws: &mut [u64; 79], pushed: Pushed, time: i64, number: u32, size: u32) -> DataAnswer
-    requires { ⌜ Rates (now ws) ⌝ }
-    ensures { λ r. ⌜ heard r (now (ws .exit)) ≡ afterPushIn (now (ws .entry)) (pushed .window) (pushed .answer) time number size ⌝ }
+// The window's answer as the call's: a refusal leaves the words, a gap asks for no ACK. What a packet that is not the next one got, it recovered.
+fn after_push(ws: &mut [u64; 79], pushed: Pushed, time: i64) -> DataAnswer
+    ensures { λ r. ⌜ heard r (now (ws .exit)) ≡ afterOther (now (ws .entry)) (pushed .window) (pushed .answer) time ⌝ }
 {
     let window = pushed.window;
     let answer = pushed.answer;
-    let PushAnswer::Got { lrsn, recovered } = answer else {
+    let PushAnswer::Got { lrsn, recovered: _ } = answer else {
         let PushAnswer::Loss { first, last } = answer else {
             return receiver::data::refused_by(answer);
         };
         place(ws, window, time);
         return DataAnswer::Loss { first, last };
     };
-    got(ws, window, lrsn, recovered, time, number, size)
+    recovered(ws, window, lrsn, time)
 }
 
-// The call, once nothing refuses it. A reading is not negative, so the window takes it without its sign.
+// The call, once nothing refuses it, of a packet that is not the next one. A reading is not negative, so the window takes it without its sign.
 fn take_packet(
     ws: &mut [u64; 79],
     w: Window,
@@ -158,23 +150,21 @@ fn take_packet(
     p: Packet,
     payload: &[u8],
 ) -> DataAnswer
-    requires { ⌜ TakeReady (now ws) w (now slots) (now bytes) time p (now payload) ⌝ }
+    requires { ⌜ TakeReady (now ws) w (now slots) (now bytes) time p (now payload) × (isNext w (p .number) ≡ false) ⌝ }
     ensures { λ r. ⌜ dataLeft r (now (ws .exit)) (now (slots .exit)) (now (bytes .exit)) ≡ takenBy (now (ws .entry)) w (now (slots .entry)) (now (bytes .entry)) time p (now (payload .entry)) ⌝ }
 {
-    let number = p.number;
-    let size = payload.len() as u32;
     let t = numbers::instant::size(time);
     let pushed = window::push::push(w, slots, bytes, t, p, payload);
-    after_push(ws, pushed, time, number, size)
+    after_push(ws, pushed, time)
 }
 
-// Whether a packet is the next expected one, and there is room for it.
+// Whether a packet is the next expected one.
 fn is_next(w: Window, number: u32) -> bool
     requires { ⌜ w .held ≤ 8192 ⌝ }
     ensures { λ r. ⌜ r ≡ isNext w number ⌝ }
 {
     let next = window::number(w, w.held);
-    (w.held < w.capacity) & (number == next)
+    numbers::seq::distance(number, next) == 0
 }
 
 // The words that its append moves besides the rates: what is held, lrsn and the latest reading.
@@ -221,7 +211,7 @@ fn keep_next(
     acknowledge_next(ws, lrsn)
 }
 
-// The packet that nearly every call brings: into its slot, then the words that it moves. What it leaves alone is not written.
+// The packet that nearly every call brings: with room, it goes into its slot, and of the words only those are written that it moves.
 fn take_next(
     ws: &mut [u64; 79],
     w: Window,
@@ -231,9 +221,12 @@ fn take_next(
     p: Packet,
     payload: &[u8],
 ) -> DataAnswer
-    requires { ⌜ TakeReady (now ws) w (now slots) (now bytes) time p (now payload) × (w .held < w .capacity) ⌝ }
+    requires { ⌜ TakeReady (now ws) w (now slots) (now bytes) time p (now payload) ⌝ }
     ensures { λ r. ⌜ dataLeft r (now (ws .exit)) (now (slots .exit)) (now (bytes .exit)) ≡ nextTaken (now (ws .entry)) w (now (slots .entry)) (now (bytes .entry)) time p (now (payload .entry)) ⌝ }
 {
+    if w.held == w.capacity {
+        return DataAnswer::Refused(7);
+    }
     let number = p.number;
     let size = payload.len() as u32;
     let held = w.held + 1;

@@ -7,4 +7,5 @@ is-next-spec =
     tie.close
     (tie.spec
     (λ c κs. search nexts)
+    (λ c κs. search nexts)
     (λ c. search nexts))

@@ -8,6 +8,7 @@ take-next-spec =
     (tie.spec
     (λ c. search nexts)
     (λ c. search nexts)
+    (λ c. search nexts)
     (λ c κs. search nexts)
     (λ c κs. search nexts)
     (λ c κs. search nexts)

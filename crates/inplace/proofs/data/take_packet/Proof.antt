@@ -6,7 +6,6 @@ pub take-packet-spec : {M : Type 1} → statement M
 take-packet-spec =
     tie.close
     (tie.spec
-    (λ c. search pushes-in)
     (λ c κs. search pushes-in)
     (λ c κs. search pushes-in)
     (λ c κs. search pushes-in)
