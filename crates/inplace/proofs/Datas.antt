@@ -11,6 +11,7 @@ use borrow.Author.Tests.{ne-eqb, eq-eqb}
 use lib.Dec.{ltb, eqb}
 use lib.IntN.{ℤ, natAbs}
 use lib.ListN.{length, set}
+use lib.Seq.{getD-set-other}
 use Rattle.numbers.proofs.Flags.{impossible, by-bool}
 use Rattle.numbers.specs.Circular.{distance, after, before}
 use Rattle.numbers.specs.Order.{order}
@@ -54,7 +55,7 @@ use Rattle.inplace.proofs.Sounds.{no-range}
 use Rattle.inplace.proofs.Messages.{says-head}
 use Rattle.inplace.specs.Sound.{Typed}
 use Rattle.inplace.specs.Calls.{keptOr, DataLeft, dataLeft, dataIn}
-use Rattle.inplace.specs.Pushes.{putLast, putArrival, putPair, putLink, putRated, putPlaced, Heard, heard, ackedIn, gotIn, afterPushIn, recoveredIn, afterOther, takenBy, isNext, Rates, TakeReady, Pushing, dataTaken, pushRefusal}
+use Rattle.inplace.specs.Pushes.{putLast, putArrival, putPair, putLink, putLinked, putRated, putPlaced, Heard, heard, ackedIn, gotIn, afterPushIn, recoveredIn, afterOther, takenBy, isNext, Pairs, Rates, TakeReady, Pushing, dataTaken, pushRefusal}
 
 -- put_last, put_arrival, put_pair, put_link
 pub last-put : (ws : List ℕ) (now : ℤ) {n : ℕ} {z : ℤ} → n ≡ wordOf z → z ≡ now → set (set ws 52 1) 53 n ≡ putLast ws now
@@ -63,10 +64,12 @@ last-put ws now e f = rw (e, f)
 
 module _ (ws : List ℕ) (place count : ℕ) (m : Moment) (now : ℤ) where
   pub arrival-first : (size : ℕ) {vs : List ℕ} {z : ℤ} → m ≡ Unset → vs ≡ putLast ws z → z ≡ now → vs ≡ putArrival ws place count m now size
+  unfolding putArrival
   arrival-first size e f g = f ∙ rw (e, g)
 
   pub arrival-next : (size : ℕ) {t t₁ z z₁ : ℤ} {a b c d g s : ℕ} {vs : List ℕ} → m ≡ At t → g ≡ sinceTime z t₁ → z ≡ now → t₁ ≡ t → a ≡ g → s ≡ size → b ≡ nextPlace place → c ≡ d → d ≡ countAfter count
       → vs ≡ putLast (set (set (set (set ws (18 + place) a) (34 + place) s) 50 b) 51 c) z₁ → z₁ ≡ now → vs ≡ putArrival ws place count m now size
+  unfolding putArrival
   arrival-next size e f p q h o i j j₁ k l = k ∙ rw (h, f, p, q, o, i, j, j₁, l, e)
 
   pub pair-none : m ≡ Unset → set (set ws 72 0) 73 0 ≡ putPair ws place count m now
@@ -76,22 +79,54 @@ module _ (ws : List ℕ) (place count : ℕ) (m : Moment) (now : ℤ) where
       → set (set (set (set (set ws 72 0) 73 0) (54 + place) a) 70 b) 71 c ≡ putPair ws place count m now
   pair-put e f p q h i j j₁ = rw (h, f, p, q, i, j, j₁, e)
 
-  module _ (number : ℕ) where
-    pub link-first : {n : ℕ} {z : ℤ} → number % 16 ≡ 0 → n ≡ wordOf z → z ≡ now → set (set ws 72 1) 73 n ≡ putLink ws place count m now number
-    link-first e f g = rw (eq-eqb (number % 16) 0 e, f, g)
+module _ (ws : List ℕ) (now : ℤ) (number : ℕ) where
+  pub link-first : {n : ℕ} {z : ℤ} → number % 16 ≡ 0 → n ≡ wordOf z → z ≡ now → set (set ws 72 1) 73 n ≡ putLinked ws now number
+  unfolding putLinked
+  link-first e f g = rw (eq-eqb (number % 16) 0 e, f, g)
 
-    pub link-second : {vs : List ℕ} {z : ℤ} → (number % 16 ≡ 0 → ⊥) → number % 16 ≡ 1 → vs ≡ putPair ws place count m z → z ≡ now → vs ≡ putLink ws place count m now number
-    link-second a b e f = e ∙ rw (ne-eqb (number % 16) 0 a, eq-eqb (number % 16) 1 b, f)
+  pub link-second : {p q : ℕ} {m : Moment} {vs : List ℕ} {z : ℤ} → (number % 16 ≡ 0 → ⊥) → number % 16 ≡ 1
+      → p ≡ at ws 70 → q ≡ at ws 71 → m ≡ momentOf (at ws 72) (at ws 73) → vs ≡ putPair ws p q m z → z ≡ now → vs ≡ putLinked ws now number
+  unfolding putLinked
+  link-second a b p q m e f = e ∙ rw (ne-eqb (number % 16) 0 a, eq-eqb (number % 16) 1 b, p, q, m, f)
 
-    pub link-other : (number % 16 ≡ 0 → ⊥) → (number % 16 ≡ 1 → ⊥) → ws ≡ putLink ws place count m now number
-    link-other a b = rw (ne-eqb (number % 16) 0 a, ne-eqb (number % 16) 1 b)
+  pub link-other : (number % 16 ≡ 0 → ⊥) → (number % 16 ≡ 1 → ⊥) → ws ≡ putLinked ws now number
+  unfolding putLinked
+  link-other a b = rw (ne-eqb (number % 16) 0 a, ne-eqb (number % 16) 1 b)
 
--- rate, place, acknowledge, got, after_push
-pub rated-put : (ws : List ℕ) (now : ℤ) (number size : ℕ) {a c p q : ℕ} {l b : Moment} {vs us : List ℕ} {z z₁ : ℤ}
-    → a ≡ at ws 50 → c ≡ at ws 51 → l ≡ momentOf (at ws 52) (at ws 53) → p ≡ at ws 70 → q ≡ at ws 71 → b ≡ momentOf (at ws 72) (at ws 73)
-    → vs ≡ putArrival ws a c l z size → z ≡ now → us ≡ putLink vs p q b z₁ number → z₁ ≡ now → us ≡ putRated ws now number size
-unfolding putRated
-rated-put ws now number size a c l p q b e f g h = g ∙ rw (e, a, c, l, p, q, b, f, h)
+-- an arrival leaves the words of the pairs
+module _ (j : ℕ) (h : 53 < j) where
+  kept : (ws : List ℕ) (i x : ℕ) → i < 54 → at (set ws i x) j ≡ at ws j
+  kept ws i x k = getD-set-other ws i j x 0 (λ e. omega arith)
+
+  last-keeps : (ws : List ℕ) (now : ℤ) → at (putLast ws now) j ≡ at ws j
+  unfolding putLast
+  last-keeps ws now = kept (set ws 52 1) 53 (wordOf now) (omega arith) ∙ kept ws 52 1 (omega arith)
+
+  arrival-keeps : (ws : List ℕ) (place count : ℕ) (m : Moment) (now : ℤ) (size : ℕ) → place < 16 → at (putArrival ws place count m now size) j ≡ at ws j
+  unfolding putArrival
+  arrival-keeps ws place count Unset now size k = last-keeps ws now
+  arrival-keeps ws place count (At t) now size k =
+      let ws₁ = set ws (18 + place) (sinceTime now t) in
+      let ws₂ = set ws₁ (34 + place) size in
+      let ws₃ = set ws₂ 50 (nextPlace place) in
+      last-keeps (set ws₃ 51 (countAfter count)) now
+      ∙ kept ws₃ 51 (countAfter count) (omega arith)
+      ∙ kept ws₂ 50 (nextPlace place) (omega arith)
+      ∙ kept ws₁ (34 + place) size (omega arith)
+      ∙ kept ws (18 + place) (sinceTime now t) (omega arith)
+
+-- rate, place, acknowledge, recovered, after_push
+module _ (ws : List ℕ) (a c : ℕ) (l : Moment) (z : ℤ) (size : ℕ) {vs : List ℕ} (e : vs ≡ putArrival ws a c l z size) (f : a ≡ at ws 50) (r : Rates ws) where
+  stays : (j : ℕ) → 53 < j → at vs j ≡ at ws j
+  stays j h = ap (λ (x : List ℕ). at x j) e ∙ arrival-keeps j h ws a c l z size (omega (arith, r .place))
+
+  pub link-ready : Pairs vs
+  link-ready =
+      let p = r .pairs in record { place = omega (arith, stays 70 (omega arith), p .place); count = omega (arith, stays 71 (omega arith), p .count) }
+
+  pub rated-put : (now : ℤ) (number : ℕ) {us : List ℕ} {z₁ : ℤ} → c ≡ at ws 51 → l ≡ momentOf (at ws 52) (at ws 53) → z ≡ now → us ≡ putLinked vs z₁ number → z₁ ≡ now → us ≡ putRated ws now number size
+  unfolding putLinked putRated
+  rated-put now number g h i j k = j ∙ rw (stays 70 (omega arith), stays 71 (omega arith), stays 72 (omega arith), stays 73 (omega arith), e, f, g, h, i, k)
 
 pub placed-put : (ws : List ℕ) (w : Window) (now : ℤ) {vs : List ℕ} {n : ℕ} {z : ℤ} → vs ≡ putWindow ws w → n ≡ wordOf z → z ≡ now → set vs 0 n ≡ putPlaced ws w now
 unfolding putPlaced
@@ -200,6 +235,7 @@ first-words ws now = refl
 
 arrival-words : (ws : List ℕ) (now : ℤ) (size : ℕ) → at ws 50 < 16 → (m : Moment)
     → putArrival (packOf (headOf ws)) (at ws 50) (at ws 51) m now size ≡ packOf (withRates (headOf ws) (rates.arrivedSince m (arrivalsOf ws) now size) (linksOf ws))
+unfolding putArrival
 arrival-words ws now size h Unset = first-words ws now
 arrival-words ws now size h (At t) = arrived-words ws (at ws 50) (sinceTime now t) size (nextPlace (at ws 50)) (countAfter (at ws 51)) now h
 
@@ -259,7 +295,7 @@ module _ (ws : List ℕ) (ok : packOf (headOf ws) ≡ ws) (r : Rates ws) where
   rated-words now number size =
       ap (λ (l : List ℕ). putLink (putArrival l (at ws 50) (at ws 51) (arrivalsOf ws .last) now size) (at ws 70) (at ws 71) (linksOf ws .probe) now number) (sym ok)
       ∙ ap (λ (l : List ℕ). putLink l (at ws 70) (at ws 71) (linksOf ws .probe) now number) (arrival-words ws now size (r .place) (arrivalsOf ws .last))
-      ∙ link-words ws (headOf ws) (rates.arrivedSince (arrivalsOf ws .last) (arrivalsOf ws) now size) now number (r .pair)
+      ∙ link-words ws (headOf ws) (rates.arrivedSince (arrivalsOf ws .last) (arrivalsOf ws) now size) now number (r .pairs .place)
 
   got-words : (w : Window) (lrsn : ℕ) (recovered : Bool) (now : ℤ) (number size : ℕ)
       → gotIn ws w lrsn recovered now number size ≡ (let x = gotOf (headOf ws) w lrsn recovered now number size in heard (x .answer) (packOf (x .head)))
@@ -323,7 +359,7 @@ module _ (ws slots bs : List ℕ) (now : ℤ) (p : Packet) (payload : List ℕ) 
   ready-in r =
       let a = arrivals-fit (arrivalsOf ws) (r .head .arrivals) in
       let l = links-fit (linksOf ws) (r .head .links) in
-      record { rates = record { place = a .0; count = a .1; pair = l .0; pairs = l .1 }; reading = r .reading; good = r .good; payloads = r .payloads; right = r .right }
+      record { rates = record { place = a .0; count = a .1; pairs = record { place = l .0; count = l .1 } }; reading = r .reading; good = r .good; payloads = r .payloads; right = r .right }
 
   pub call-ready : {n : ℕ} → n ≡ refusal now → n ≡ 0 → Pushing ws slots bs now p payload
   call-ready e z =
@@ -346,7 +382,7 @@ module _ (ws slots bs : List ℕ) (now : ℤ) (p : Packet) (payload : List ℕ) 
 
 pub ruleset puts-in = (last-put, arrival-first, arrival-next, pair-none, pair-put, link-first, link-second, link-other, needs)
 
-pub ruleset rates-in = (rated-put, placed-put, acked-light, acked-got, needs)
+pub ruleset rates-in = (link-ready, rated-put, placed-put, acked-light, acked-got, needs)
 
 pub ruleset gots-in = (recovered-put, after-got, after-loss, after-refused, needs)
 

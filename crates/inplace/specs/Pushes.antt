@@ -37,7 +37,7 @@ unfoldable pub putLast : List ℕ → ℤ → List ℕ
 putLast ws now = set (set ws 52 1) 53 (wordOf now)
 
 -- an arrival: the interval since the last one, and the size
-abbrev pub putArrival : List ℕ → ℕ → ℕ → Moment → ℤ → ℕ → List ℕ
+unfoldable pub putArrival : List ℕ → ℕ → ℕ → Moment → ℤ → ℕ → List ℕ
 putArrival ws place count Unset now size = putLast ws now
 putArrival ws place count (At t) now size =
     putLast (set (set (set (set ws (18 + place) (sinceTime now t)) (34 + place) size) 50 (nextPlace place)) 51 (countAfter count)) now
@@ -51,6 +51,9 @@ putPair ws place count (At t) now =
 abbrev pub putLink : List ℕ → ℕ → ℕ → Moment → ℤ → ℕ → List ℕ
 putLink ws place count probe now number =
     cond (eqb (number % 16) 0) (set (set ws 72 1) 73 (wordOf now)) (cond (eqb (number % 16) 1) (putPair ws place count probe now) ws)
+
+unfoldable pub putLinked : List ℕ → ℤ → ℕ → List ℕ
+putLinked ws now number = putLink ws (at ws 70) (at ws 71) (momentOf (at ws 72) (at ws 73)) now number
 
 unfoldable pub putRated : List ℕ → ℤ → ℕ → ℕ → List ℕ
 putRated ws now number size =
@@ -101,11 +104,14 @@ takenBy ws w slots bs now p payload =
     dataLeft (x .answer) (x .words) (o .slots) (o .payloads)
 
 -- what the rates count on
+pub record Pairs (ws : List ℕ) : Type 0 where
+  pub place : at ws 70 < 16
+  pub count : at ws 71 ≤ 16
+
 pub record Rates (ws : List ℕ) : Type 0 where
   pub place : at ws 50 < 16
   pub count : at ws 51 ≤ 16
-  pub pair : at ws 70 < 16
-  pub pairs : at ws 71 ≤ 16
+  pub pairs : Pairs ws
 
 -- and the call, once nothing refuses it
 pub record TakeReady (ws : List ℕ) (w : Window) (slots bs : List ℕ) (now : ℤ) (p : Packet) (payload : List ℕ) : Type 0 where

@@ -5,7 +5,7 @@ ghost use Prim.Native.Nat.{_<_, _≤_};
 ghost use Rattle.receiver.specs.Data.{packet};
 ghost use Rattle.packing.specs.Packed.{at};
 ghost use Rattle.inplace.specs.Calls.{dataIn, dataLeft};
-ghost use Rattle.inplace.specs.Pushes.{putLast, putArrival, putPair, putLink, putRated, putPlaced, heard, ackedIn, recoveredIn, afterOther, takenBy, Rates, TakeReady, isNext, putNext, ackedNext, keptNext, nextTaken, Pushing, dataTaken, pushRefusal};
+ghost use Rattle.inplace.specs.Pushes.{putLast, putArrival, putPair, putLinked, putRated, putPlaced, heard, ackedIn, recoveredIn, afterOther, takenBy, Pairs, Rates, TakeReady, isNext, putNext, ackedNext, keptNext, nextTaken, Pushing, dataTaken, pushRefusal};
 use acks::history::History;
 use intervals::rates::one_more;
 use intervals::rates::since;
@@ -57,10 +57,10 @@ fn put_pair(ws: &mut [u64; 79], at: usize, count: usize, probe: Moment, time: i6
     ws[71] = words::of_size(one_more(count));
 }
 
-// An append of this number: the first of a pair, the second, or neither.
-fn put_link(ws: &mut [u64; 79], at: usize, count: usize, probe: Moment, time: i64, number: u32)
-    requires { ⌜ (at < 16) × (count ≤ 16) ⌝ }
-    ensures { λ _. ⌜ now (ws .exit) ≡ putLink (now (ws .entry)) at count probe time number ⌝ }
+// An append of this number: the first of a pair, the second, or neither. Most are neither, and read nothing.
+fn put_link(ws: &mut [u64; 79], time: i64, number: u32)
+    requires { ⌜ Pairs (now ws) ⌝ }
+    ensures { λ _. ⌜ now (ws .exit) ≡ putLinked (now (ws .entry)) time number ⌝ }
 {
     let place = number % 16;
     if place == 0 {
@@ -69,11 +69,14 @@ fn put_link(ws: &mut [u64; 79], at: usize, count: usize, probe: Moment, time: i6
         return;
     }
     if place == 1 {
+        let at = words::size(ws[70]);
+        let count = words::size(ws[71]);
+        let probe = words::moment(ws[72], ws[73]);
         put_pair(ws, at, count, probe, time);
     }
 }
 
-// Rates count appends without gap. Both windows' places are read before either is written.
+// Rates count appends without gap.
 fn rate(ws: &mut [u64; 79], time: i64, number: u32, size: u32)
     requires { ⌜ Rates (now ws) ⌝ }
     ensures { λ _. ⌜ now (ws .exit) ≡ putRated (now (ws .entry)) time number size ⌝ }
@@ -81,11 +84,8 @@ fn rate(ws: &mut [u64; 79], time: i64, number: u32, size: u32)
     let at = words::size(ws[50]);
     let count = words::size(ws[51]);
     let last = words::moment(ws[52], ws[53]);
-    let place = words::size(ws[70]);
-    let pairs = words::size(ws[71]);
-    let probe = words::moment(ws[72], ws[73]);
     put_arrival(ws, at, count, last, time, size);
-    put_link(ws, place, pairs, probe, time, number);
+    put_link(ws, time, number);
 }
 
 // The window after a push, at a reading.
