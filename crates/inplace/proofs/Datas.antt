@@ -284,7 +284,7 @@ acked-words : (g : Head) (w : Window) (lrsn : ℕ) (recovered : Bool) (now : ℤ
 unfolding ackedIn putPlaced putWindow putHistory ackedOf packOf packed.numbersWords
 acked-words g w lrsn recovered now = refl
 
-placed-words : (g : Head) (w : Window) (now : ℤ) → putPlaced (packOf g) w now ≡ packOf (placedOf g w now)
+pub placed-words : (g : Head) (w : Window) (now : ℤ) → putPlaced (packOf g) w now ≡ packOf (placedOf g w now)
 unfolding putPlaced putWindow packOf packed.numbersWords
 placed-words g w now = refl
 

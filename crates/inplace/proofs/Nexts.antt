@@ -24,19 +24,19 @@ use Rattle.window.specs.Push.{received, movedPast, appendNextOf, pushOf}
 use Rattle.window.specs.declared.Window.{Window}
 use Rattle.window.specs.declared.push.Packet.{Packet}
 use Rattle.head.specs.declared.state.Head.{Head}
-use Rattle.receiver.specs.Data.{placedOf, ratedOf}
+use Rattle.receiver.specs.Data.{gotAnswer, placedOf, ratedOf}
 use Rattle.receiver.specs.declared.data.DataAnswer.{DataAnswer}
 use Rattle.receiver.specs.declared.data.DataAnswer.the-variants as answers
-use Rattle.packing.specs.Words.{wordOf, numberOf}
+use Rattle.packing.specs.Words.{wordOf}
 use Rattle.packing.specs.Packed as packed
-use Rattle.packing.specs.Packed.{at, windowOf, historyOf, headOf, formed, packOf}
-use Rattle.packing.specs.Puts.{putWindow, putHistory}
+use Rattle.packing.specs.Packed.{at, windowOf, historyOf, headOf, packOf}
+use Rattle.packing.specs.Puts.{putHistory}
 use Rattle.packing.proofs.Undo.{pack-unpack}
 use Rattle.inplace.proofs.Messages.{says-head}
-use Rattle.inplace.proofs.Datas.{rated-words, take-ready, take-is}
+use Rattle.inplace.proofs.Datas.{rated-words, placed-words, take-ready, take-is}
 use Rattle.inplace.specs.Sound.{Typed}
 use Rattle.inplace.specs.Calls.{DataLeft, dataLeft}
-use Rattle.inplace.specs.Pushes.{putRated, putPlaced, Heard, heard, ackedIn, gotIn, takenBy, Rates, TakeReady, isNext, putNext, ackedNext, keptNext, nextTaken, Pushing, dataTaken}
+use Rattle.inplace.specs.Pushes.{putRated, putPlaced, Heard, heard, ackedIn, gotIn, takenBy, Rates, isNext, putNext, ackedNext, keptNext, nextTaken, Pushing, dataTaken}
 
 -- is_next
 pub next-by : (w : Window) (number : ℕ) {n d : ℕ} → n ≡ nextOf w → d ≡ distance 31 number n → eqb d 0 ≡ isNext w number
@@ -88,16 +88,12 @@ placed-next : (g : Head) (n l : ℕ) (now : ℤ) → putNext (packOf g) n l now 
 unfolding putNext packOf packed.numbersWords
 placed-next g n l now = refl
 
-placed-words : (g : Head) (w : Window) (now : ℤ) → putPlaced (packOf g) w now ≡ packOf (placedOf g w now)
-unfolding putPlaced putWindow packOf packed.numbersWords
-placed-words g w now = refl
-
--- a number that was read is read again
+-- the history's numbers, read again from the words, are the same
 history-again : (ws : List ℕ) (g : Head) → g .history ≡ historyOf ws → historyOf (packOf g) ≡ historyOf ws
 unfolding packOf packed.numbersWords
 history-again ws g e = rw (e, mod-mod (at ws 76) (2 ^ 32), mod-mod (at ws 77) (2 ^ 32), mod-mod (at ws 78) (2 ^ 32))
 
-acked-again : (g : Head) (l : ℕ) → ackedIn (packOf g) (g .history) l false ≡ (let b = lightAckOf (g .history) l .light in heard (cond b (answers.Light l false) (answers.Got l false)) (cond b (set (packOf g) 78 l) (packOf g)))
+acked-again : (g : Head) (l : ℕ) → ackedIn (packOf g) (g .history) l false ≡ (let b = lightAckOf (g .history) l .light in heard (gotAnswer b l false) (cond b (set (packOf g) 78 l) (packOf g)))
 unfolding ackedIn lightAckOf putHistory packOf packed.numbersWords
 acked-again g l = by-bool (before 31 l (sum 31 (g .history .lastack) 64)) (λ b. rw b) (λ b. rw b)
 

@@ -158,7 +158,7 @@ fn take_packet(
     after_push(ws, pushed, time)
 }
 
-// Whether a packet is the next expected one.
+// Whether a packet is the next expected one: by the distance, as the push tells it, so that the compiler sees that no other packet is appended without gap.
 fn is_next(w: Window, number: u32) -> bool
     requires { ⌜ w .held ≤ 8192 ⌝ }
     ensures { λ r. ⌜ r ≡ isNext w number ⌝ }
@@ -195,6 +195,7 @@ fn acknowledge_next(ws: &mut [u64; 79], lrsn: u32) -> DataAnswer
     }
 }
 
+// The words after it, and the answer.
 fn keep_next(
     ws: &mut [u64; 79],
     held: usize,
