@@ -17,7 +17,7 @@ use Rattle.head.specs.Rules.{firstRefusal, pushRules, popRules}
 use Rattle.head.specs.Head.{headOk}
 use Rattle.packing.specs.Words.{wholeOf}
 use Rattle.packing.specs.Packed.{at, unpackOf}
-use Rattle.inplace.proofs.Quick.{parts}
+use Rattle.sound.proofs.Quick.{parts}
 use Rattle.inplace.proofs.Messages.{refusal-by as pop-by}
 use Rattle.inplace.proofs.Datas.{refusal-by as push-by}
 use Rattle.inplace.specs.Clear.{areasClear, packetClear}

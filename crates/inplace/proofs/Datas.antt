@@ -51,9 +51,9 @@ use Rattle.packing.specs.Packed as packed
 use Rattle.packing.specs.Packed.{at, sixteenOf, windowOf, historyOf, arrivalsOf, linksOf, headOf, formed, packOf, unpackOf}
 use Rattle.packing.specs.Puts.{putWindow, putHistory}
 use Rattle.packing.proofs.Undo.{pack-unpack}
-use Rattle.inplace.proofs.Sounds.{no-range}
+use Rattle.sound.proofs.Sounds.{no-range}
 use Rattle.inplace.proofs.Messages.{says-head}
-use Rattle.inplace.specs.Sound.{Typed}
+use Rattle.sound.specs.Sound.{Typed}
 use Rattle.inplace.specs.Calls.{keptOr, DataLeft, dataLeft, dataIn}
 use Rattle.inplace.specs.Pushes.{putLast, putArrival, putPair, putLink, putLinked, putRated, putPlaced, Heard, heard, ackedIn, gotIn, afterPushIn, recoveredIn, afterOther, takenBy, isNext, Pairs, Rates, TakeReady, Pushing, dataTaken, pushRefusal}
 

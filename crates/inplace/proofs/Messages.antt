@@ -33,8 +33,8 @@ use Rattle.packing.specs.Packed as packed
 use Rattle.packing.specs.Packed.{at, windowOf, clockOf, headOf, formed, packOf, unpackOf}
 use Rattle.packing.specs.Puts.{putWindow, putBase, putStats}
 use Rattle.packing.proofs.Undo.{pack-unpack}
-use Rattle.inplace.proofs.Sounds.{no-range}
-use Rattle.inplace.specs.Sound.{Typed}
+use Rattle.sound.proofs.Sounds.{no-range}
+use Rattle.sound.specs.Sound.{Typed}
 use Rattle.inplace.specs.Calls.{keptOr, PopIn, popIn, messageIn}
 use Rattle.inplace.specs.Pops.{putPopped, Settled, settled, settledOf, settledBy, releasedOf, Popping, messageTaken, popRefusal}
 

@@ -34,7 +34,7 @@ use Rattle.packing.specs.Puts.{putHistory}
 use Rattle.packing.proofs.Undo.{pack-unpack}
 use Rattle.inplace.proofs.Messages.{says-head}
 use Rattle.inplace.proofs.Datas.{rated-words, placed-words, take-ready, take-is}
-use Rattle.inplace.specs.Sound.{Typed}
+use Rattle.sound.specs.Sound.{Typed}
 use Rattle.inplace.specs.Calls.{DataLeft, dataLeft}
 use Rattle.inplace.specs.Pushes.{putRated, putPlaced, Heard, heard, ackedIn, gotIn, takenBy, Rates, isNext, putNext, ackedNext, keptNext, nextTaken, Pushing, dataTaken}
 

@@ -62,7 +62,7 @@ use Rattle.kept.proofs.TimedKept.{message-kept}
 use Rattle.packing.specs.Packed.{at, sixteenOf, numbersFormed, formed, headOf, nowhere, packOf, unpackOf}
 use Rattle.packing.specs.Holds.{Number, Whole, Time, Numbers, Double, RttHolds, HistoryHolds, Holds}
 use Rattle.packing.proofs.Undo.{unpack-pack}
-use Rattle.inplace.proofs.Sounds.{formed-under, element}
+use Rattle.sound.proofs.Sounds.{formed-under, element}
 
 -- what a head in range has beside its ranges
 pub record Rest (h : Head) : Type 0 where

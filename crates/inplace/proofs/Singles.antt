@@ -39,7 +39,7 @@ use Rattle.packing.specs.Packed.{at, windowOf, baseOf, clockOf, headOf, formed,
 use Rattle.packing.specs.Puts.{putWindow, putBase, putStats}
 use Rattle.packing.proofs.Undo.{pack-unpack}
 use Rattle.inplace.proofs.Messages.{says-head, take-ready, take-is}
-use Rattle.inplace.specs.Sound.{Typed}
+use Rattle.sound.specs.Sound.{Typed}
 use Rattle.inplace.specs.Calls.{PopIn, popIn}
 use Rattle.inplace.specs.Pops.{putPopped, releasedOf, isSingle, releaseTime, putSingle, Single, singleOf, Fronted, isUsual, Usual, usualOf, Popping, messageTaken}
 

@@ -1,6 +1,5 @@
--- The definitions of calls on a head's words: `Calls` says what each leaves, and is what a reader must believe; `Sound`, `Clear`, `Pops` and `Pushes` say how
+-- The definitions of calls on a head's words: `Calls` says what each leaves, and is what a reader must believe; `Clear`, `Pops` and `Pushes` say how
 -- the code goes.
-pub mod Sound
 pub mod Clear
 pub mod Calls
 pub mod Pops

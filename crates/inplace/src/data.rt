@@ -249,7 +249,7 @@ fn take(
     requires { ⌜ Pushing (now ws) (now slots) (now bytes) time p (now payload) ⌝ }
     ensures { λ r. ⌜ dataLeft r (now (ws .exit)) (now (slots .exit)) (now (bytes .exit)) ≡ dataTaken (now (ws .entry)) (now (slots .entry)) (now (bytes .entry)) time p (now (payload .entry)) ⌝ }
 {
-    crate::sound::typed(ws);
+    sound::typed(ws);
     let w = unpack::window(ws);
     if is_next(w, p.number) {
         return take_next(ws, w, slots, bytes, time, p, payload);
@@ -260,7 +260,7 @@ fn take(
 fn refusal(ws: &[u64; 79], slots: usize, bytes: usize, time: i64, p: Packet, size: usize) -> u32
     ensures { λ r. ⌜ r ≡ pushRefusal (now (ws .entry)) slots bytes time p size ⌝ }
 {
-    let ok = crate::sound::sound(ws);
+    let ok = sound::sound(ws);
     let capacity = words::size(ws[1]);
     let latest = words::whole(ws[0]);
     if crate::clear::areas_clear(ok, capacity, slots, bytes, time, latest) {

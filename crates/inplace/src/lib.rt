@@ -3,4 +3,3 @@
 mod clear;
 pub mod data;
 pub mod message;
-pub mod sound;

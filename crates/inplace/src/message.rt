@@ -186,7 +186,7 @@ fn take(ws: &mut [u64; 79], slots: &[u64], bytes: &[u8], out: &mut [u8], time: i
     requires { ⌜ Popping (now ws) (now slots) (now bytes) time ⌝ }
     ensures { λ r. ⌜ popIn r (now (ws .exit)) (now (out .exit)) ≡ messageTaken (now (ws .entry)) (now (slots .entry)) (now (bytes .entry)) (now (out .entry)) time ⌝ }
 {
-    crate::sound::typed(ws);
+    sound::typed(ws);
     if is_usual(ws, slots, out.len(), time) {
         return release_usual(ws, slots, bytes, out, time);
     }
@@ -196,7 +196,7 @@ fn take(ws: &mut [u64; 79], slots: &[u64], bytes: &[u8], out: &mut [u8], time: i
 fn refusal(ws: &[u64; 79], slots: usize, bytes: usize, time: i64) -> u32
     ensures { λ r. ⌜ r ≡ popRefusal (now (ws .entry)) slots bytes time ⌝ }
 {
-    let ok = crate::sound::sound(ws);
+    let ok = sound::sound(ws);
     let capacity = words::size(ws[1]);
     let latest = words::whole(ws[0]);
     if crate::clear::areas_clear(ok, capacity, slots, bytes, time, latest) {

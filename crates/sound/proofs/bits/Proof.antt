@@ -1,9 +1,9 @@
 use mathlib.Core.Path.{_≡_}
 use Prim.Native.Nat.{_-_, _≤_}
-use Rattle.inplace.specs.Sound.{bitsTo}
-use Rattle.inplace.proofs.Sounds.{sounds}
-use Rattle.inplace.proofs.sound.bits.Statement.{statement}
-use Rattle.inplace.proofs.sound.bits.Tie as tie
+use Rattle.sound.specs.Sound.{bitsTo}
+use Rattle.sound.proofs.Sounds.{sounds}
+use Rattle.sound.proofs.bits.Statement.{statement}
+use Rattle.sound.proofs.bits.Tie as tie
 
 abbrev Inv-loop : tie.InvT-loop
 Inv-loop ws at all₀ i₀ all i = (i ≤ 16) × (all ≡ bitsTo ws at i)

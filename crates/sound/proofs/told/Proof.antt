@@ -1,7 +1,7 @@
 use mir.Syntax.{w64}
 use borrow.Author.Needs.{elem-fits}
-use Rattle.inplace.proofs.sound.told.Statement.{statement}
-use Rattle.inplace.proofs.sound.told.Tie as tie
+use Rattle.sound.proofs.told.Statement.{statement}
+use Rattle.sound.proofs.told.Tie as tie
 
 -- what is owned of an array: its length, and that each element fits
 returns : tie.Need-returns

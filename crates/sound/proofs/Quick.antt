@@ -23,8 +23,8 @@ use Rattle.head.specs.Head.{headOk}
 use Rattle.packing.specs.Words.{wholeOf, numberOf, momentOf, floatFormed, momentFormed}
 use Rattle.packing.specs.Packed.{at, windowOf, clockOf, rttOf, historyOf, firstFormed, lastFormed, unpackOf}
 use Rattle.packing.proofs.Floats.{nan-low}
-use Rattle.inplace.proofs.Sounds.{or-left, or-right, placesOk, partsOk, sound-quick, sound-slow}
-use Rattle.inplace.specs.Sound.{sizesSmall, intervalsSmall, fewBits, beside, besideAll, finite, windowSmall, countsSmall, quickly}
+use Rattle.sound.proofs.Sounds.{or-left, or-right, placesOk, partsOk, sound-quick, sound-slow}
+use Rattle.sound.specs.Sound.{sizesSmall, intervalsSmall, fewBits, beside, besideAll, finite, windowSmall, countsSmall, quickly}
 
 -- the parts of a test, however many
 abbrev conj : Bool → List Bool → Bool

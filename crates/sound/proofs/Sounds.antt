@@ -22,7 +22,7 @@ use Rattle.window.specs.Window.{windowOk}
 use Rattle.numbers.specs.Instants.{isReading}
 use Rattle.packing.specs.Words.{numberOf, wholeOf, momentOf}
 use Rattle.packing.specs.Packed.{at, sixteenOf, numbersFormed, firstFormed, ratesFormed, lastFormed, formed, windowOf, clockOf, rttOf, arrivalsOf, linksOf, historyOf, headOf, nowhere, unpackOf}
-use Rattle.inplace.specs.Sound.{bitsTo, raisedTo, sizesSmall, intervalsSmall}
+use Rattle.sound.specs.Sound.{bitsTo, raisedTo, sizesSmall, intervalsSmall}
 
 -- bits, raised_bits
 pub or-left : (a b : ℕ) → a ≤ bitOr a b

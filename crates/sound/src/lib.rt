@@ -3,7 +3,7 @@ ghost use mathlib.Core.Path.{_≡_};
 ghost use Prim.Native.Nat.{_≤_};
 ghost use Rattle.head.specs.Head.{headOk};
 ghost use Rattle.packing.specs.Packed.{unpackOf};
-ghost use Rattle.inplace.specs.Sound.{Typed, bitsTo, raisedTo, sizesSmall, intervalsSmall, fewBits, beside, besideAll, finite, windowSmall, countsSmall, quickly};
+ghost use Rattle.sound.specs.Sound.{Typed, bitsTo, raisedTo, sizesSmall, intervalsSmall, fewBits, beside, besideAll, finite, windowSmall, countsSmall, quickly};
 use packing::unpack;
 
 // What the type says of the words: 79 of 64 bits. A copy tells the proof so, and the compiler drops it.

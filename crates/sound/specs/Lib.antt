@@ -1,0 +1,2 @@
+-- The definitions of the test of a head's words.
+pub mod Sound
