@@ -153,7 +153,8 @@ extern "C" {
 #endif
 
 /* Makes a receiver: writes a fresh head. start is a reading, 0 .. 2^60 - 1; latency at most 65,535,000; first, the number of
- * the first packet, under 2^31; capacity 1 to 8,192 slots. With late_drop a message that is late is given up.
+ * the first packet, under 2^31; capacity 1 to 8,192 slots: at least what comes in during the latency, as a packet
+ * without room is refused; many more take more time (docs/SPEED.md). With late_drop a message that is late is given up.
  * Refuses 15. Answers MADE. */
 uint32_t pt_new(uint64_t head[PT_HEAD_WORDS], int64_t answer[PT_ANSWER_CELLS], int64_t start, uint32_t latency, bool late_drop,
                 uint32_t first, size_t capacity);
