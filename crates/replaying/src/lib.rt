@@ -434,10 +434,19 @@ fn replay_open(fd: i32, name: &[u8], counting: bool) {
     finish(want, &text, s.used, name);
 }
 
+// A name of no letters is shown in quotes.
+fn fail_name(path: &[u8]) {
+    if path.len() == 0 {
+        os::fail(b"''");
+        return;
+    }
+    os::fail(path);
+}
+
 fn replay_file(path: &[u8], counting: bool) {
     let fd = os::open_read(path);
     if fd < 0 {
-        os::fail(path);
+        fail_name(path);
         return;
     }
     replay_open(fd, path, counting);
