@@ -1,4 +1,4 @@
-// Scenarios of the window in capacity 4, call by call. 01, "Window", with refusals 2, 5, 7 to 12 as far as the window has them.
+// Scenarios of the window in capacity 4, call by call, worked out by hand: 01, "Window".
 use case_print::put;
 use case_window_calls::drop_request;
 use case_window_calls::end;

@@ -1,7 +1,7 @@
 -- Both sides of each range of the head, and how words with more bits than they need are read: 01, "Head and lent areas". Computed from the definitions. Assumes nothing.
 use mathlib.Core.Path.{_≡_, refl}
 use mathlib.Core.Bool.{Bool, true, false}
-use mathlib.Core.List.{[], _∷_, _++_}
+use mathlib.Core.List.{List, [], _∷_, _++_, map}
 use Prim.Native.Nat.{ℕ, _+_, _-_, _*_, _^_}
 use lib.Ieee as ieee
 use lib.IntN.{ℤ, pos, negsuc}
@@ -22,114 +22,128 @@ use Rattle.head.specs.Head.{headOk, freshHead}
 use Rattle.head.specs.Parts.{withWindow, withClock, withRtt, withRates, withHistory, withLatest}
 use Rattle.head.specs.declared.state.Head.{Head}
 
+-- a head, and whether its numbers are in their ranges
+record End : Type 0 where
+  head : Head
+  ok : Bool
+
+abbrev inside : Head → End
+inside h = record { head = h; ok = true }
+
+abbrev outside : Head → End
+outside h = record { head = h; ok = false }
+
 abbrev fresh : Head
 fresh = freshHead (pos 0) 0 true 0 8
 
 -- capacity, start, held, seqno0, lrsn: all at their upper ends; capacity 0 and 8,193; start at capacity, held past it; numbers of 2^31
-abbrev windowed : ℕ → ℕ → ℕ → ℕ → ℕ → Bool
-windowed capacity start held front lrsn = headOk (withWindow fresh (record { capacity = capacity; start = start; held = held; seqno0 = front; lrsn = lrsn }))
+abbrev windowed : ℕ → ℕ → ℕ → ℕ → ℕ → Head
+windowed capacity start held front lrsn = withWindow fresh (record { capacity = capacity; start = start; held = held; seqno0 = front; lrsn = lrsn })
 
-window-ends :
-    (windowed 8192 8191 8192 2147483647 2147483647
-    ∷ windowed 0 0 0 0 0
-    ∷ windowed 8193 0 0 0 0
-    ∷ windowed 8 8 0 0 0
-    ∷ windowed 8 0 9 0 0
-    ∷ windowed 8 0 0 2147483648 0
-    ∷ windowed 8 0 0 0 2147483648
-    ∷ [])
-    ≡ (true ∷ false ∷ false ∷ false ∷ false ∷ false ∷ false ∷ [])
-unfolding headOk freshHead sync.freshClock base.freshBase ieee.fits samples.noSamples rates.freshArrivals rates.freshLinks history.freshHistory rtt.freshRtt ranges.clockOk rtt.rttOk rates.arrivalsOk rates.linksOk rates.windowOf rates.allUnder history.historyOk
-window-ends = refl
+abbrev windows : List End
+windows =
+    inside (windowed 8192 8191 8192 2147483647 2147483647)
+    ∷ outside (windowed 0 0 0 0 0)
+    ∷ outside (windowed 8193 0 0 0 0)
+    ∷ outside (windowed 8 8 0 0 0)
+    ∷ outside (windowed 8 0 9 0 0)
+    ∷ outside (windowed 8 0 0 2147483648 0)
+    ∷ outside (windowed 8 0 0 0 2147483648)
+    ∷ []
 
 -- reference time, last released time, drift samples
-abbrev clocked : ℤ → Moment → ℕ → Bool
+abbrev clocked : ℤ → Moment → ℕ → Head
 clocked time last count =
-    headOk (withClock fresh (record { base = record { time = time; stamp = 0 }; last = last; seen = true; stats = record { mean = samples.noSamples .mean; squares = samples.noSamples .squares; count = count } }))
+    withClock fresh (record { base = record { time = time; stamp = 0 }; last = last; seen = true; stats = record { mean = samples.noSamples .mean; squares = samples.noSamples .squares; count = count } })
 
-clock-ends :
-    (clocked (pos (2 ^ 61)) (At (pos (2 ^ 61 + 2 ^ 31))) 999
-    ∷ clocked (negsuc (2 ^ 61 - 1)) (At (negsuc (2 ^ 61 + 2 ^ 31 - 1))) 0
-    ∷ clocked (pos (2 ^ 61 + 1)) Unset 0
-    ∷ clocked (negsuc (2 ^ 61)) Unset 0
-    ∷ clocked (pos 0) (At (pos (2 ^ 61 + 2 ^ 31 + 1))) 0
-    ∷ clocked (pos 0) (At (negsuc (2 ^ 61 + 2 ^ 31))) 0
-    ∷ clocked (pos 0) Unset 1000
-    ∷ [])
-    ≡ (true ∷ true ∷ false ∷ false ∷ false ∷ false ∷ false ∷ [])
-unfolding headOk freshHead sync.freshClock base.freshBase ieee.fits samples.noSamples rates.freshArrivals rates.freshLinks history.freshHistory rtt.freshRtt ranges.clockOk rtt.rttOk rates.arrivalsOk rates.linksOk rates.windowOf rates.allUnder history.historyOk
-clock-ends = refl
+abbrev clocks : List End
+clocks =
+    inside (clocked (pos (2 ^ 61)) (At (pos (2 ^ 61 + 2 ^ 31))) 999)
+    ∷ inside (clocked (negsuc (2 ^ 61 - 1)) (At (negsuc (2 ^ 61 + 2 ^ 31 - 1))) 0)
+    ∷ outside (clocked (pos (2 ^ 61 + 1)) Unset 0)
+    ∷ outside (clocked (negsuc (2 ^ 61)) Unset 0)
+    ∷ outside (clocked (pos 0) (At (pos (2 ^ 61 + 2 ^ 31 + 1))) 0)
+    ∷ outside (clocked (pos 0) (At (negsuc (2 ^ 61 + 2 ^ 31))) 0)
+    ∷ outside (clocked (pos 0) Unset 1000)
+    ∷ []
 
 -- both figures of the round trip
-abbrev tripped : ℕ → ℕ → Bool
-tripped mean variance = headOk (withRtt fresh (record { mean = mean; variance = variance }))
+abbrev tripped : ℕ → ℕ → Head
+tripped mean variance = withRtt fresh (record { mean = mean; variance = variance })
 
-rtt-ends : (tripped 2147483647 2147483647 ∷ tripped 2147483648 0 ∷ tripped 0 2147483648 ∷ []) ≡ (true ∷ false ∷ false ∷ [])
-unfolding headOk freshHead sync.freshClock base.freshBase ieee.fits samples.noSamples rates.freshArrivals rates.freshLinks history.freshHistory rtt.freshRtt ranges.clockOk rtt.rttOk rates.arrivalsOk rates.linksOk rates.windowOf rates.allUnder history.historyOk
-rtt-ends = refl
+abbrev trips : List End
+trips =
+    inside (tripped 2147483647 2147483647)
+    ∷ outside (tripped 2147483648 0)
+    ∷ outside (tripped 0 2147483648)
+    ∷ []
 
 -- the window of arrivals: an interval and a size in it, the next place, the count, the last arrival; a place that is not in the window may hold anything
-abbrev arrived : ℕ → ℕ → ℕ → ℕ → Moment → Bool
+abbrev arrived : ℕ → ℕ → ℕ → ℕ → Moment → Head
 arrived gap size at count last =
-    headOk (withRates fresh (record { gaps = set (replicate 16 0) 0 gap; sizes = set (replicate 16 0) 0 size; at = at; count = count; last = last }) rates.freshLinks)
+    withRates fresh (record { gaps = set (replicate 16 0) 0 gap; sizes = set (replicate 16 0) 0 size; at = at; count = count; last = last }) rates.freshLinks
 
-arrival-ends :
-    (arrived 2147483647 1456 15 16 (At (pos (2 ^ 60 - 1)))
-    ∷ arrived 2147483648 1457 1 0 Unset
-    ∷ arrived 2147483648 0 1 1 Unset
-    ∷ arrived 0 1457 1 1 Unset
-    ∷ arrived 0 0 16 0 Unset
-    ∷ arrived 0 0 0 17 Unset
-    ∷ arrived 0 0 0 0 (At (pos (2 ^ 60)))
-    ∷ arrived 0 0 0 0 (At (negsuc 0))
-    ∷ [])
-    ≡ (true ∷ true ∷ false ∷ false ∷ false ∷ false ∷ false ∷ false ∷ [])
-unfolding headOk freshHead sync.freshClock base.freshBase ieee.fits samples.noSamples rates.freshArrivals rates.freshLinks history.freshHistory rtt.freshRtt ranges.clockOk rtt.rttOk rates.arrivalsOk rates.linksOk rates.windowOf rates.allUnder history.historyOk
-arrival-ends = refl
+abbrev arrivals : List End
+arrivals =
+    inside (arrived 2147483647 1456 15 16 (At (pos (2 ^ 60 - 1))))
+    ∷ inside (arrived 2147483648 1457 1 0 Unset)
+    ∷ outside (arrived 2147483648 0 1 1 Unset)
+    ∷ outside (arrived 0 1457 1 1 Unset)
+    ∷ outside (arrived 0 0 16 0 Unset)
+    ∷ outside (arrived 0 0 0 17 Unset)
+    ∷ outside (arrived 0 0 0 0 (At (pos (2 ^ 60))))
+    ∷ outside (arrived 0 0 0 0 (At (negsuc 0)))
+    ∷ []
 
 -- the window of pairs likewise
-abbrev paired : ℕ → ℕ → ℕ → Moment → Bool
-paired gap at count probe = headOk (withRates fresh rates.freshArrivals (record { gaps = set (replicate 16 0) 0 gap; at = at; count = count; probe = probe }))
+abbrev paired : ℕ → ℕ → ℕ → Moment → Head
+paired gap at count probe = withRates fresh rates.freshArrivals (record { gaps = set (replicate 16 0) 0 gap; at = at; count = count; probe = probe })
 
-pair-ends :
-    (paired 2147483647 15 16 (At (pos (2 ^ 60 - 1)))
-    ∷ paired 2147483648 1 0 Unset
-    ∷ paired 2147483648 1 1 Unset
-    ∷ paired 0 16 0 Unset
-    ∷ paired 0 0 17 Unset
-    ∷ paired 0 0 0 (At (pos (2 ^ 60)))
-    ∷ paired 0 0 0 (At (negsuc 0))
-    ∷ [])
-    ≡ (true ∷ true ∷ false ∷ false ∷ false ∷ false ∷ false ∷ [])
-unfolding headOk freshHead sync.freshClock base.freshBase ieee.fits samples.noSamples rates.freshArrivals rates.freshLinks history.freshHistory rtt.freshRtt ranges.clockOk rtt.rttOk rates.arrivalsOk rates.linksOk rates.windowOf rates.allUnder history.historyOk
-pair-ends = refl
+abbrev pairs : List End
+pairs =
+    inside (paired 2147483647 15 16 (At (pos (2 ^ 60 - 1))))
+    ∷ inside (paired 2147483648 1 0 Unset)
+    ∷ outside (paired 2147483648 1 1 Unset)
+    ∷ outside (paired 0 16 0 Unset)
+    ∷ outside (paired 0 0 17 Unset)
+    ∷ outside (paired 0 0 0 (At (pos (2 ^ 60))))
+    ∷ outside (paired 0 0 0 (At (negsuc 0)))
+    ∷ []
 
 -- history start, count, first ACK number and with it the newest, largest_ack2_dsn, last_ack_dsn
-abbrev recorded : ℕ → ℕ → ℕ → ℕ → ℕ → Bool
-recorded start count first largest lastack = headOk (withHistory fresh (record { start = start; count = count; first = first; largest = largest; lastack = lastack }))
+abbrev recorded : ℕ → ℕ → ℕ → ℕ → ℕ → Head
+recorded start count first largest lastack = withHistory fresh (record { start = start; count = count; first = first; largest = largest; lastack = lastack })
 
-history-ends :
-    (recorded 1023 1024 4294966272 2147483647 2147483647
-    ∷ recorded 0 1 4294967295 0 0
-    ∷ recorded 1024 0 1 0 0
-    ∷ recorded 0 1025 1 0 0
-    ∷ recorded 0 0 0 0 0
-    ∷ recorded 0 1024 4294966273 0 0
-    ∷ recorded 0 0 4294967296 0 0
-    ∷ recorded 0 0 1 2147483648 0
-    ∷ recorded 0 0 1 0 2147483648
-    ∷ [])
-    ≡ (true ∷ true ∷ false ∷ false ∷ false ∷ false ∷ false ∷ false ∷ false ∷ [])
-unfolding headOk freshHead sync.freshClock base.freshBase ieee.fits samples.noSamples rates.freshArrivals rates.freshLinks history.freshHistory rtt.freshRtt ranges.clockOk rtt.rttOk rates.arrivalsOk rates.linksOk rates.windowOf rates.allUnder history.historyOk
-history-ends = refl
+abbrev histories : List End
+histories =
+    inside (recorded 1023 1024 4294966272 2147483647 2147483647)
+    ∷ inside (recorded 0 1 4294967295 0 0)
+    ∷ outside (recorded 1024 0 1 0 0)
+    ∷ outside (recorded 0 1025 1 0 0)
+    ∷ outside (recorded 0 0 0 0 0)
+    ∷ outside (recorded 0 1024 4294966273 0 0)
+    ∷ outside (recorded 0 0 4294967296 0 0)
+    ∷ outside (recorded 0 0 1 2147483648 0)
+    ∷ outside (recorded 0 0 1 0 2147483648)
+    ∷ []
 
 -- the latest reading
-abbrev readAt : ℤ → Bool
-readAt now = headOk (withLatest fresh now)
+abbrev readAt : ℤ → Head
+readAt now = withLatest fresh now
 
-reading-ends : (readAt (pos (2 ^ 60 - 1)) ∷ readAt (pos (2 ^ 60)) ∷ readAt (negsuc 0) ∷ []) ≡ (true ∷ false ∷ false ∷ [])
+abbrev readings : List End
+readings =
+    inside (readAt (pos (2 ^ 60 - 1)))
+    ∷ outside (readAt (pos (2 ^ 60)))
+    ∷ outside (readAt (negsuc 0))
+    ∷ []
+
+abbrev ends : List End
+ends = windows ++ clocks ++ trips ++ arrivals ++ pairs ++ histories ++ readings
+
+ends-hold : map (λ (e : End). headOk (e .head)) ends ≡ map (λ (e : End). e .ok) ends
 unfolding headOk freshHead sync.freshClock base.freshBase ieee.fits samples.noSamples rates.freshArrivals rates.freshLinks history.freshHistory rtt.freshRtt ranges.clockOk rtt.rttOk rates.arrivalsOk rates.linksOk rates.windowOf rates.allUnder history.historyOk
-reading-ends = refl
+ends-hold = refl
 
 -- a slot's words: a length above 1,456 is read as 1,456; of k the low 16 bits, of a feedback time those under 2^60; all other bits are ignored
 lengths-read : (entryOf (1 + 4 * 1456) 0 0 ∷ entryOf (1 + 4 * 1457) 0 0 ∷ entryOf (1 + 4 * 2047) 0 0 ∷ []) ≡ (Received 1456 0 0 0 ∷ Received 1456 0 0 0 ∷ Received 1456 0 0 0 ∷ [])

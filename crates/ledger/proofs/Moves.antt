@@ -26,7 +26,7 @@ use Rattle.window.specs.Push.{PushOutcome, pushEnded, grown, movedPast, withLos
 use Rattle.window.specs.declared.Window.{Window}
 use Rattle.window.specs.declared.push.Packet.{Packet}
 use Rattle.window.specs.declared.push.PushAnswer.the-variants as pushes
-use Rattle.head.specs.Rules.{Rule, thenOf, firstFrom, firstRefusal, pushRules}
+use Rattle.head.specs.Rules.{firstRefusal, pushRules}
 use Rattle.head.specs.Head.{headOk}
 use Rattle.head.specs.declared.state.Head.{Head}
 use Rattle.head.proofs.Ready.{push-ready}
@@ -37,22 +37,7 @@ use Rattle.receiver.specs.declared.data.DataAnswer.the-variants as datas
 use Rattle.views.specs.View.{Seen, lost, entries, LrsnRight, packetSeen, afterPush}
 use Rattle.views.proofs.Pushes.{push-seen}
 use Rattle.views.proofs.PushLrsn.{push-right}
-
--- the first refusal is one of those listed
-abbrev pub Under : ℕ → List Rule → Type 0
-Under m [] = Unit
-Under m (r ∷ rs) = (r .number ≤ m) × Under m rs
-
-then-under : (m k : ℕ) (bad : Bool) (n : ℕ) → k ≤ m → n ≤ m → thenOf k bad n ≤ m
-unfolding thenOf
-then-under m k bad n a b =
-    by-test (λ (x : ℕ). x ≤ m) (eqb k 0) _ _
-    (λ t. by-test (λ (x : ℕ). x ≤ m) bad _ _ (λ u. b) (λ u. omega arith))
-    (λ t. a)
-
-pub refusal-under : (m k : ℕ) (rs : List Rule) → k ≤ m → Under m rs → firstFrom k rs ≤ m
-refusal-under m k [] a u = a
-refusal-under m k (r ∷ rs) a u = refusal-under m (thenOf k (r .bad) (r .number)) rs (then-under m k (r .bad) (r .number) a (u .0)) (u .1)
+use Rattle.paper.proofs.Reach.{refusal-under}
 
 -- what a packet has that no test of 1 to 6 refuses
 pub record Admitted (h : Head) (ws bs : List ℕ) (time : ℤ) (p : Packet) (payload : List ℕ) : Type 0 where

@@ -11,6 +11,7 @@ use lib.IntN.{ℤ, natAbs}
 use lib.ListN.{length}
 use lib.Signed.{ltZ}
 use Rattle.numbers.specs.Instants.{isReading}
+use Rattle.numbers.proofs.Flags.{by-test}
 use Rattle.acks.specs.History.{ack2Of, fullAckOf, lightAckOf}
 use Rattle.acks.specs.declared.history.History.{History}
 use Rattle.acks.specs.declared.history.AckAnswer.{AckAnswer}
@@ -177,18 +178,21 @@ module _ (h : Head) (ok : headOk h ≡ true) where
         let k = ack2Of (h .history) a (natAbs now) number in
         rw (none-refuses (timedRules (headOk h) (length a) 2048 now (h .latest)) (good ok, (le-ltb _ _ n, (good reading, (later, tt))))) (held-only h (k .history) (k .answer) now)
 
--- every number of a call's tests is 6 at most, so is the first that holds
-abbrev Small : List Rule → Type 0
-Small [] = Unit {0}
-Small (r ∷ rs) = (r .number ≤ 6) × Small rs
+-- the first refusal is one of those listed
+abbrev pub Under : ℕ → List Rule → Type 0
+Under m [] = Unit {0}
+Under m (r ∷ rs) = (r .number ≤ m) × Under m rs
 
-then-small : (k : ℕ) (t : Bool) (n : ℕ) → k ≤ 6 → n ≤ 6 → thenOf k t n ≤ 6
+then-under : (m k : ℕ) (bad : Bool) (n : ℕ) → k ≤ m → n ≤ m → thenOf k bad n ≤ m
 unfolding thenOf
-then-small k t n a b = by-both (λ (x : ℕ). x ≤ 6) (eqb k 0) (cond t n 0) k (by-both (λ (x : ℕ). x ≤ 6) t n 0 b (omega arith)) a
+then-under m k bad n a b =
+    by-test (λ (x : ℕ). x ≤ m) (eqb k 0) _ _
+    (λ t. by-test (λ (x : ℕ). x ≤ m) bad _ _ (λ u. b) (λ u. omega arith))
+    (λ t. a)
 
-first-small : (k : ℕ) (l : List Rule) → k ≤ 6 → Small l → firstFrom k l ≤ 6
-first-small k [] a s = a
-first-small k (r ∷ rs) a s = first-small (thenOf k (r .bad) (r .number)) rs (then-small k (r .bad) (r .number) a (s .0)) (s .1)
+pub refusal-under : (m k : ℕ) (rs : List Rule) → k ≤ m → Under m rs → firstFrom k rs ≤ m
+refusal-under m k [] a u = a
+refusal-under m k (r ∷ rs) a u = refusal-under m (thenOf k (r .bad) (r .number)) rs (then-under m k (r .bad) (r .number) a (u .0)) (u .1)
 
 got-both : (light : Bool) (lrsn : ℕ) (recovered : Bool) → withBoth (calls.gotAnswer light lrsn recovered) ≡ true
 got-both true lrsn recovered = refl
@@ -212,7 +216,7 @@ eight-with-both h ws bs now p payload =
     let o = pushOf (h .window) ws bs (natAbs now) p payload in
     let l = pushRules (headOk h) (h .window .capacity) (length ws) (length bs) now (h .latest) p (length payload) in
     let n = firstRefusal l in
-    let s = first-small 0 l (omega arith) (omega arith, (omega arith, (omega arith, (omega arith, (omega arith, (omega arith, (omega arith, (omega arith, (omega arith, tt))))))))) in
+    let s = refusal-under 6 0 l (omega arith) (omega arith, (omega arith, (omega arith, (omega arith, (omega arith, (omega arith, (omega arith, (omega arith, (omega arith, tt))))))))) in
     by-both (λ (x : calls.DataOutcome). withBoth (x .handled .answer) ≡ true) (eqb n 0) _ _
     (push-both h (o .pushed .window) (o .pushed .answer) now (p .number) (length payload))
     (rw (ne-eqb n 8 (λ e. let f : 8 ≤ 6 = rw (sym e) s in omega arith)))

@@ -4,7 +4,6 @@ use mathlib.Core.Bool.{Bool, true, false, cond}
 use mathlib.Core.List.{List}
 use Prim.Native.Nat.{ℕ, zero, suc, _+_, _-_, _*_, _^_, _<_, _≤_, min}
 use native.Mathlib.Numerals.{add-one}
-use native.Mathlib.Nat.{mod-eq-of-lt, mod-eq-sub-mod}
 use native.Mathlib.Omega.{arith}
 use borrow.Author.Tests.{eq-eqb, ne-eqb}
 use lib.Dec.{ltb, eqb}
@@ -12,10 +11,10 @@ use lib.ListN.{length, drop, length-set}
 use lib.Seq.{drop-set-lt}
 use Rattle.numbers.proofs.Flags.{by-test, by-bool, by-order, impossible}
 use Rattle.slots.specs.Words.{isLost, entryAt, writeReport}
-use Rattle.slots.specs.Ring.{slotOf}
 use Rattle.slots.specs.declared.entry.Entry.{Entry}
 use Rattle.slots.specs.declared.entry.Entry.the-variants.{Lost, Received, GivenUp}
 use Rattle.slots.proofs.Laws.{length-report, read-report, report-other, report-outside, slot-lt, slot-words, slot-apart}
+use Rattle.slots.proofs.Steps.{slot-low, slot-high}
 use Rattle.window.specs.Ready.{Good}
 use Rattle.window.proofs.Walks.{one-less}
 use Rattle.window_report.specs.Report.{isDue, kAfter, runWords, runsAfter, slotNo, dueAt, slotsTo, runsTo, runPut, listTo, needed, listAll, ReportOutcome, reportEnded, reportOf}
@@ -139,17 +138,6 @@ module _ (ws : List ℕ) (time mean : ℕ) where
       by-order s j
       (λ l. due-none n (s + 1) j (rw t at e) (omega arith) (omega arith))
       (λ l. let f : j ≡ s = omega arith in rw f t))
-
--- an entry's slot before the end of the ring, and past it
-slot-front : (capacity start i : ℕ) → start + i < capacity → slotOf capacity start i ≡ start + i
-unfolding slotOf
-slot-front capacity start i h = mod-eq-of-lt h
-
-slot-back : (capacity start i : ℕ) → capacity ≤ start + i → start + i < 2 * capacity → slotOf capacity start i ≡ start + i - capacity
-unfolding slotOf
-slot-back capacity start i h k =
-    let l : start + i - capacity < capacity = omega arith in
-    rw (mod-eq-sub-mod h, mod-eq-of-lt l)
 
 module _ (w : Window) (ws : List ℕ) (time mean : ℕ) where
   pub runs-more : (i : ℕ) → runsTo w ws time mean (i + 1) ≡ runsAfter (runsTo w ws time mean i) i (dueAt w ws time mean i)
@@ -299,9 +287,9 @@ module _ (w : Window) (ws : List ℕ) (time mean : ℕ) where
       none-due
       (λ j h.
       by-order (w .start + j) (w .capacity)
-      (λ l. rw (slot-front (w .capacity) (w .start) j l) (due-none ws time mean _ (w .start) (w .start + j) t (omega arith) (omega arith)))
+      (λ l. rw (← slot-low (w .capacity) (w .start) j l) (due-none ws time mean _ (w .start) (w .start + j) t (omega arith) (omega arith)))
       (λ l.
-      rw (slot-back (w .capacity) (w .start) j l (omega arith))
+      rw (← slot-high (w .capacity) (w .start) j (g .ranges .starts) (omega (arith, g .ranges .holds)) l)
       (due-none ws time mean _ 0 (w .start + j - w .capacity) (rw t at e) (omega arith) (omega arith)))))
 
   -- where nothing is needed, the walk leaves the areas as they are
