@@ -141,7 +141,7 @@ module _ (S : ℕ → List ℕ → Type 0) (l : Ledger) (h : Head) (ws bs : List
       data-moves h ws bs now p payload hs (a .right) Kept
       (λ n q x y. still a)
       (λ d q c. still a)
-      (λ d room need x y c. still a)
+      (λ d x y c. still a)
       (λ d b. still a)
       (λ d i n. still a)
       next

@@ -1,6 +1,6 @@
 -- What each answer says is so: duplicates, lost places, fresh packets, messages and late drops. Assumes nothing.
 use mathlib.Core.Path.{_≡_, refl, ap, sym, _∙_, subst}
-use mathlib.Core.Bool.{Bool, true, false}
+use mathlib.Core.Bool.{Bool, true, false, _||_}
 use mathlib.Core.List.{List, [], _∷_, _++_, map}
 use mathlib.Core.Logic.{inl, inr}
 use Prim.Native.Nat.{ℕ, zero, suc, _+_, _-_, _^_, _<_, _≤_}
@@ -35,7 +35,7 @@ use Rattle.views.specs.View.{Seen, seenOf, seenAt, entries, LrsnRight, packetSe
 use Rattle.views.proofs.Lists.{entries-at}
 use Rattle.ledger.specs.Ledger.{Place, lost, givenUp, Ledger, numberOf, frontOf, nextOf}
 use Rattle.ledger.specs.Runs.{placeOf}
-use Rattle.ledger.specs.Seen.{appends, recovers, isLoss, LossIs}
+use Rattle.ledger.specs.Seen.{appends, recovers, isLoss, LossIs, EarlyIs}
 use Rattle.ledger.specs.Claims.{Judges}
 use Rattle.ledger.proofs.Moved.{Stands, window-count, place-number}
 use Rattle.ledger.proofs.Moves.{Admitted, Said, data-moves}
@@ -152,6 +152,8 @@ module _ (S : ℕ → List ℕ → Type 0) (l : Ledger) (h : Head) (ws bs : List
         tested = inl t;
         full = λ e. absurd (omega arith);
         early = λ e. absurd (omega arith);
+        room = tt;
+        took = λ e. absurd (omega arith);
         late = λ e. absurd (omega arith);
         unplaced = λ b c i k e. omega arith;
         duplicate = λ e. absurd (omega arith);
@@ -170,6 +172,8 @@ module _ (S : ℕ → List ℕ → Type 0) (l : Ledger) (h : Head) (ws bs : List
         tested = inr (d .tests, omega arith, omega arith);
         full = λ e. (q ∙ next-is, sym (window-count ws bs a) ∙ c);
         early = λ e. absurd (omega arith);
+        room = tt;
+        took = λ e. absurd (omega arith);
         unplaced = λ b m. not-next (d .good) q;
         duplicate = λ e. absurd (omega arith);
         taken = λ z i k e x. absurd (not-next (d .good) q i k e);
@@ -178,9 +182,9 @@ module _ (S : ℕ → List ℕ → Type 0) (l : Ledger) (h : Head) (ws bs : List
         gap = λ z e r. absurd (let y = beyond-next e in let x = none-missing (q ∙ next-is) in omega arith);
       }
 
-  early : Admitted h ws bs time p payload → (room need : ℕ) → 0 < distance 31 (p .number) (windows.nextOf w) → distance 31 (p .number) (windows.nextOf w) < 2 ^ 30
-      → roomOf w < distance 31 (p .number) (windows.nextOf w) + 1 → Judged (datas.PacketTooEarly room need)
-  early d room need some under r =
+  early : Admitted h ws bs time p payload → 0 < distance 31 (p .number) (windows.nextOf w) → distance 31 (p .number) (windows.nextOf w) < 2 ^ 30
+      → roomOf w < distance 31 (p .number) (windows.nextOf w) + 1 → Judged (datas.PacketTooEarly (roomOf w) (distance 31 (p .number) (windows.nextOf w) + 1))
+  early d some under r =
       let n = ap (distance 31 (p .number)) next-is in
       record {
         inOrder = λ e. impossible (sym e);
@@ -189,7 +193,9 @@ module _ (S : ℕ → List ℕ → Type 0) (l : Ledger) (h : Head) (ws bs : List
         gapNamed = tt;
         tested = inr (d .tests, omega arith, omega arith);
         full = λ e. absurd (omega arith);
-        early = λ e. omega (arith, window-count ws bs a, n, r);
+        early = λ e. (ap (after 31 (p .number)) (sym next-is) ∙ after-at 31 (p .number) (windows.nextOf w) some under, omega (arith, window-count ws bs a, n, r));
+        room = (ap (λ (x : ℕ). w .capacity - x) (window-count ws bs a), ap (λ (x : ℕ). x + 1) n);
+        took = λ e. absurd (omega arith);
         unplaced = λ b m. not-far (d .good) under;
         duplicate = λ e. absurd (omega arith);
         taken = λ z i k e x. absurd (not-far (d .good) under i k e);
@@ -208,6 +214,8 @@ module _ (S : ℕ → List ℕ → Type 0) (l : Ledger) (h : Head) (ws bs : List
         tested = inr (d .tests, omega arith, omega arith);
         full = λ e. absurd (omega arith);
         early = λ e. absurd (omega arith);
+        room = tt;
+        took = λ e. absurd (omega arith);
         unplaced = λ c m i k e. not-late (d .good) b i (omega (arith, window-count ws bs a)) e;
         duplicate = λ e. absurd (omega arith);
         taken = λ z i k e x. absurd (not-late (d .good) b i (omega (arith, window-count ws bs a)) e);
@@ -229,6 +237,8 @@ module _ (S : ℕ → List ℕ → Type 0) (l : Ledger) (h : Head) (ws bs : List
         tested = inr (d .tests, omega arith, omega arith);
         full = λ e. absurd (omega arith);
         early = λ e. absurd (omega arith);
+        room = tt;
+        took = λ e. absurd (omega arith);
         unplaced = λ b m j k e. omega arith;
         duplicate =
             λ e.
@@ -251,8 +261,9 @@ module _ (S : ℕ → List ℕ → Type 0) (l : Ledger) (h : Head) (ws bs : List
       → ((i : ℕ) → i < length (l .held) → numberOf l (frontOf l + i) ≡ p .number → getD (l .held) i givenUp ≡ lost → recovers x ≡ true)
       → (p .number ≡ numberOf l (nextOf l) → appends x ≡ true)
       → (after 31 (p .number) (numberOf l (nextOf l)) ≡ true → length (l .held) + distance 31 (p .number) (numberOf l (nextOf l)) + 1 ≤ w .capacity → isLoss x ≡ true)
+      → EarlyIs x (w .capacity - length (l .held)) (distance 31 (p .number) (numberOf l (nextOf l)) + 1) → (appends x || recovers x || isLoss x) ≡ true
       → Judged x
-  took x z d o v g n r f m =
+  took x z d o v g n r f m rm tk =
       record {
         inOrder = o;
         forLost = v;
@@ -261,6 +272,8 @@ module _ (S : ℕ → List ℕ → Type 0) (l : Ledger) (h : Head) (ws bs : List
         tested = inl (z ∙ sym (d .tests));
         full = λ e. absurd (omega (arith, z));
         early = λ e. absurd (omega (arith, z));
+        room = rm;
+        took = λ e. tk;
         late = λ e. absurd (omega (arith, z));
         unplaced = λ b m i k e. omega (arith, z);
         duplicate = λ e. absurd (omega (arith, z));
@@ -273,9 +286,12 @@ module _ (S : ℕ → List ℕ → Type 0) (l : Ledger) (h : Head) (ws bs : List
   abbrev Named : DataAnswer → Type 0
   Named x = LossIs x (numberOf l (nextOf l)) (sum 31 (p .number) (2 ^ 31 - 1))
 
-  appended : (x : DataAnswer) → dataLine x .refusal ≡ 0 → recovers x ≡ false → isLoss x ≡ false → appends x ≡ true → Named x
+  abbrev Roomed : DataAnswer → Type 0
+  Roomed x = EarlyIs x (w .capacity - length (l .held)) (distance 31 (p .number) (numberOf l (nextOf l)) + 1)
+
+  appended : (x : DataAnswer) → dataLine x .refusal ≡ 0 → recovers x ≡ false → isLoss x ≡ false → appends x ≡ true → Named x → Roomed x → (appends x || recovers x || isLoss x) ≡ true
       → Admitted h ws bs time p payload → p .number ≡ windows.nextOf w → Judged x
-  appended x z v g f n d q =
+  appended x z v g f n rm tk d q =
       took x z d
       (λ e. q ∙ next-is)
       (λ e. impossible (sym e ∙ v))
@@ -284,10 +300,11 @@ module _ (S : ℕ → List ℕ → Type 0) (l : Ledger) (h : Head) (ws bs : List
       (λ i k e y. absurd (not-next (d .good) q i k e))
       (λ e. f)
       (λ e m. absurd (let y = beyond-next e in let x = none-missing (q ∙ next-is) in omega arith))
+      rm tk
 
-  filled : (x : DataAnswer) → dataLine x .refusal ≡ 0 → appends x ≡ false → isLoss x ≡ false → recovers x ≡ true → Named x
+  filled : (x : DataAnswer) → dataLine x .refusal ≡ 0 → appends x ≡ false → isLoss x ≡ false → recovers x ≡ true → Named x → Roomed x → (appends x || recovers x || isLoss x) ≡ true
       → Admitted h ws bs time p payload → at < w .held → words.isLost (entryIn w ws at) ≡ true → Judged x
-  filled x z o g v n d i m =
+  filled x z o g v n rm tk d i m =
       took x z d
       (λ e. impossible (sym e ∙ o))
       (λ e. (at, omega (arith, window-count ws bs a), number d, place-is views.givenUp at i ∙ lost-so bs (slotIn w at) (entryIn w ws at) m))
@@ -296,6 +313,7 @@ module _ (S : ℕ → List ℕ → Type 0) (l : Ledger) (h : Head) (ws bs : List
       (λ j k e q. v)
       (λ e. absurd (let y = fresh-index (d .good) e in omega arith))
       (λ e r. absurd (let y = gap-index d e r in omega arith))
+      rm tk
 
   pub data-judged : Said h ws bs time p payload hs (a .right) (λ v fs x. Judged x) (dataCallOf h ws bs time p payload)
   data-judged =
@@ -314,14 +332,15 @@ module _ (S : ℕ → List ℕ → Type 0) (l : Ledger) (h : Head) (ws bs : List
       (next-is, refl)
       (λ i k e q. absurd (not-far (d .good) (omega (arith, d .good .ranges .most)) i k e))
       (λ e. absurd (let y = none-missing e in omega arith))
-      (λ e m. refl))
+      (λ e m. refl)
+      tt refl)
       recovered
     where
       next : Admitted h ws bs time p payload → (light : Bool) (lrsn : ℕ) → p .number ≡ windows.nextOf w → LrsnRight (grown w p 1) (es ++ (packetSeen p payload ∷ [])) → Judged (gotAnswer light lrsn false)
-      next d true lrsn q r = appended (datas.Light lrsn false) refl refl refl refl tt d q
-      next d false lrsn q r = appended (datas.Got lrsn false) refl refl refl refl tt d q
+      next d true lrsn q r = appended (datas.Light lrsn false) refl refl refl refl tt tt refl d q
+      next d false lrsn q r = appended (datas.Got lrsn false) refl refl refl refl tt tt refl d q
 
       recovered : Admitted h ws bs time p payload → (light : Bool) (lrsn : ℕ) → at < w .held → words.isLost (entryIn w ws at) ≡ true
           → LrsnRight (withLrsn w lrsn) (set es at (packetSeen p payload)) → Judged (gotAnswer light lrsn true)
-      recovered d true lrsn i n r = filled (datas.Light lrsn true) refl refl refl refl tt d i n
-      recovered d false lrsn i n r = filled (datas.Got lrsn true) refl refl refl refl tt d i n
+      recovered d true lrsn i n r = filled (datas.Light lrsn true) refl refl refl refl tt tt refl d i n
+      recovered d false lrsn i n r = filled (datas.Got lrsn true) refl refl refl refl tt tt refl d i n

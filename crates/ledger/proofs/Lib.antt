@@ -9,5 +9,7 @@ pub mod Pop
 pub mod Dropped
 pub mod Others
 pub mod Judged
+pub mod Knows
+pub mod Shown
 pub mod Theorem
 pub mod RuledOut

@@ -71,10 +71,10 @@ module _ (w : Window) (ws bs : List ℕ) (time : ℕ) (p : Packet) (payload : Li
       (writeAt (withLost (w .capacity) (w .start) ws time (w .held) gap) (slotIn w (w .held + gap)) (push.received p payload))
       (withPayload bs (slotIn w (w .held + gap)) payload)
 
-  push-cases : (P : PushOutcome → Type 0)
+  pub push-cases : (P : PushOutcome → Type 0)
       → (order 31 (p .number) (nextOf w) ≡ Equal → w .held ≡ w .capacity → P (push.refused w ws bs time p payload pushes.BufferFull))
       → (order 31 (p .number) (nextOf w) ≡ Equal → P appended)
-      → ((room need : ℕ) → order 31 (p .number) (nextOf w) ≡ After → roomOf w < gap + 1 → P (push.refused w ws bs time p payload (pushes.PacketTooEarly room need)))
+      → (order 31 (p .number) (nextOf w) ≡ After → roomOf w < gap + 1 → P (push.refused w ws bs time p payload (pushes.PacketTooEarly (roomOf w) (gap + 1))))
       → (order 31 (p .number) (nextOf w) ≡ After → gap + 1 ≤ roomOf w → P appendedWithLoss)
       → (before 31 (p .number) (w .seqno0) ≡ true → P (push.refused w ws bs time p payload pushes.PacketTooLate))
       → (index < w .held → words.isLost (entryIn w ws index) ≡ true → P (recoveredOf w ws bs time p payload index))
@@ -85,7 +85,7 @@ module _ (w : Window) (ws bs : List ℕ) (time : ℕ) (p : Packet) (payload : Li
     where
       go : (o : Order) → order 31 (p .number) (nextOf w) ≡ o → P (push.byOrder w ws bs time p payload o)
       go Equal q = by-test P (eqb (w .held) (w .capacity)) _ _ (λ t. full q (eqb-true (w .held) (w .capacity) t)) (λ t. next q)
-      go After q = by-test P (ltb (roomOf w) (gap + 1)) _ _ (λ t. early (roomOf w) (gap + 1) q (ltb-true (roomOf w) (gap + 1) t)) (λ t. loss q (ltb-false (roomOf w) (gap + 1) t))
+      go After q = by-test P (ltb (roomOf w) (gap + 1)) _ _ (λ t. early q (ltb-true (roomOf w) (gap + 1) t)) (λ t. loss q (ltb-false (roomOf w) (gap + 1) t))
       go Before q =
           by-test P (before 31 (p .number) (w .seqno0)) _ _
           late
@@ -125,7 +125,7 @@ module _ (h : Head) (ws bs : List ℕ) (now : ℤ) (p : Packet) (payload : List 
   pub data-moves : (P : Window → List Seen → DataAnswer → Type 0)
       → ((n : ℕ) → n ≡ firstRefusal (pushRules (headOk h) (w .capacity) (length ws) (length bs) now (h .latest) p (length payload)) → 1 ≤ n → n ≤ 6 → P w es (datas.Refused n))
       → (Admitted h ws bs now p payload → p .number ≡ nextOf w → w .held ≡ w .capacity → P w es (datas.Refused 7))
-      → (Admitted h ws bs now p payload → (room need : ℕ) → 0 < missing → missing < 2 ^ 30 → roomOf w < missing + 1 → P w es (datas.PacketTooEarly room need))
+      → (Admitted h ws bs now p payload → 0 < missing → missing < 2 ^ 30 → roomOf w < missing + 1 → P w es (datas.PacketTooEarly (roomOf w) (missing + 1)))
       → (Admitted h ws bs now p payload → before 31 (p .number) (w .seqno0) ≡ true → P w es (datas.Refused 9))
       → (Admitted h ws bs now p payload → at < w .held → words.isLost (entryIn w ws at) ≡ false → P w es (datas.Refused 10))
       → (Admitted h ws bs now p payload → (light : Bool) (lrsn : ℕ) → p .number ≡ nextOf w → LrsnRight (grown w p 1) (es ++ (packetSeen p payload ∷ []))
@@ -148,7 +148,7 @@ module _ (h : Head) (ws bs : List ℕ) (now : ℤ) (p : Packet) (payload : List 
       (λ q c s v. full d (same d q) c)
       (λ q s v.
       rw s (next d (lit false (grown w p 1) (movedPast (w .lrsn) (p .number))) (movedPast (w .lrsn) (p .number)) (same d q) (subst (LrsnRight (grown w p 1)) s v)))
-      (λ room need q c s v. early d room need (order-after 31 (p .number) (nextOf w) q .0) (order-after 31 (p .number) (nextOf w) q .1) c)
+      (λ q c s v. early d (order-after 31 (p .number) (nextOf w) q .0) (order-after 31 (p .number) (nextOf w) q .1) c)
       (λ q m s v. rw s (loss d (order-after 31 (p .number) (nextOf w) q .0) m (subst (LrsnRight (grown w p (missing + 1))) s v)))
       (λ b s v. late d b)
       (λ i l s u.

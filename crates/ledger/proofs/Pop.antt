@@ -167,7 +167,8 @@ module _ (S : ℕ → List ℕ → Type 0) (l : Ledger) (h : Head) (ws bs out : 
         let places : take packets (l .held) ≡ map placeOf (take packets es) = ap (take packets) (sym (a .held)) ∙ sym (map-take placeOf packets es) in
         let laid : take bytes (o .output) ≡ joined (take packets es) =
         ap (take bytes) (m .output) ∙ take-at (joined (take packets es)) (drop bytes out) bytes (sym (m .long)) in
-        rw e (m .some, run, laid ∙ sym (ap (λ (x : List Place). releasedBytes (map f x)) places ∙ released-joined (take packets es)))
+        let same : releasedBytes (map f (take packets (l .held))) ≡ joined (take packets es) = ap (λ (x : List Place). releasedBytes (map f x)) places ∙ released-joined (take packets es) in
+        rw e (m .some, run, laid ∙ sym same, m .long ∙ ap length (sym same))
     tells (pops.Late first end delay) e =
         let n = subst Named e named in
         let some : distance 31 end first ≤ length (l .held) = subst (λ (x : ℕ). distance 31 end first ≤ x) (window-count ws bs a) (subst (λ (x : PopAnswer). takes x ≤ w .held) e (front (d .good) .1)) in

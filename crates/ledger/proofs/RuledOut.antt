@@ -17,7 +17,6 @@ use Rattle.receiver.specs.declared.data.DataAnswer.{DataAnswer}
 use Rattle.receiver.specs.declared.data.DataAnswer.the-variants as datas
 use Rattle.receiver.specs.declared.message.MessageAnswer.the-variants as messages
 use Rattle.upkeep.specs.declared.request.DropAnswer.the-variants as drops
-use Rattle.kept.proofs.DataKept.{made-kept}
 use Rattle.step.specs.Step.{State, Lent, Ended}
 use Rattle.step.specs.declared.Call.{Call}
 use Rattle.step.specs.declared.Call.the-variants as calls
@@ -79,18 +78,18 @@ module _ (step : State → Lent → Call → Ended) (demand : Demand3 step) (fir
     abbrev c : Call
     c = calls.Data time number message location stamp
 
-    told : (x : DataAnswer) → r t c .answer ≡ answers.Data x → Judges l (b .state .head .window .capacity) (earlyRefusal (b .state) t c) number x
-    told x q = subst (λ (a : Answer). Says l (b .state) t c a (r t c .output)) q (demand first s f past p .told (event c t) k .says)
+    told : (x : DataAnswer) → r t c .answer ≡ answers.Data x → Judges l (b .desk .capacity) (earlyRefusal (b .desk) t c) number x
+    told x q = subst (λ (a : Answer). Says l (b .desk) t c a (r t c .output)) q (demand first s f past p .told (event c t) k .says)
 
     pub answer-is : (x : DataAnswer) × (r t c .answer ≡ answers.Data x)
     answer-is = data-only (r t c .answer) (demand first s f past p .told (event c t) k .kind)
 
     -- it is taken: so a program that refuses all is ruled out, and one that compares numbers as plain numbers
-    pub must-append : earlyRefusal (b .state) t c ≡ 0 → length (l .held) < b .state .head .window .capacity → appends (answer-is .0) ≡ true
+    pub must-append : earlyRefusal (b .desk) t c ≡ 0 → length (l .held) < b .desk .capacity → appends (answer-is .0) ≡ true
     must-append z m = told (answer-is .0) (answer-is .1) .next z e m
 
     -- it is held: so a program that does nothing is ruled out whatever it answers, and one that works on the first call only and then echoes
-    pub must-hold : earlyRefusal (b .state) t c ≡ 0 → length (l .held) < b .state .head .window .capacity → length (sight (r t c .state)) ≡ length (sight (b .state)) + 1
+    pub must-hold : earlyRefusal (b .desk) t c ≡ 0 → length (l .held) < b .desk .capacity → length (sight (r t c .state)) ≡ length (sight (b .state)) + 1
     must-hold z m =
         sym (length-map (sight (r t c .state)) placeOf)
         ∙ ap length (held-then c t k)
@@ -98,7 +97,7 @@ module _ (step : State → Lent → Call → Ended) (demand : Demand3 step) (fir
         ∙ one-more l number (t .payload) (answer-is .0) (must-append z m)
         ∙ ap (λ (x : ℕ). x + 1) (sym held-now)
 
-    pub idle : earlyRefusal (b .state) t c ≡ 0 → length (l .held) < b .state .head .window .capacity → r t c .state ≡ b .state → ⊥
+    pub idle : earlyRefusal (b .desk) t c ≡ 0 → length (l .held) < b .desk .capacity → r t c .state ≡ b .state → ⊥
     idle z m q = let x = must-hold z m in let y = ap (λ (a : State). length (sight a)) q in omega arith
 
     -- and it is no duplicate
@@ -130,7 +129,7 @@ module _ (step : State → Lent → Call → Ended) (demand : Demand3 step) (fir
       → lostCount (map placeOf (sight (b .state))) ≡ lostCount (map placeOf (sight (r t (calls.Drop from last) .state))) + n
   drop-count from last t n q =
       let c = calls.Drop from last in
-      let u = subst (λ (a : Answer). Says l (b .state) t c a (r t c .output)) q (demand first s f past p .told (event c t) tt .says) in
+      let u = subst (λ (a : Answer). Says l (b .desk) t c a (r t c .output)) q (demand first s f past p .told (event c t) tt .says) in
       let v = held-then c t tt ∙ ap (λ (a : Answer). enter l c (t .payload) a .held) q in
       ap lostCount (demand first s f past p .holds .agrees .entries) ∙ u ∙ ap (λ (x : List Place). lostCount x + n) (sym v)
 
@@ -170,9 +169,9 @@ small-fresh = record { start = pos 0; latency = 0; dropping = false; capacity = 
 abbrev packet : Lent
 packet = record { payload = 7 ∷ []; output = []; list = [] }
 
-small-tests : earlyRefusal small packet (calls.Data (pos 0) 0 0 3 0) ≡ 0
+small-tests : earlyRefusal (fresh 0 small .desk) packet (calls.Data (pos 0) 0 0 3 0) ≡ 0
 unfolding madeOf thenOf freshHead
-small-tests = rw (made-kept (pos 0) 0 false 0 1)
+small-tests = refl
 
 -- doing nothing, whatever it answers
 pub doing-nothing : (step : State → Lent → Call → Ended) → Demand3 step → ((s : State) (t : Lent) (c : Call) → step s t c .state ≡ s) → ⊥

@@ -122,6 +122,10 @@ isReceived givenUp = false
 abbrev pub receivedRun : List Place → ℕ
 receivedRun xs = runOf isReceived xs
 
+-- the acknowledgement number: that of the first held place not received, else of the next expected
+abbrev pub ackOf : Ledger → ℕ
+ackOf l = numberOf l (frontOf l + receivedRun (l .held))
+
 unfoldable pub lostCount : List Place → ℕ
 lostCount [] = 0
 lostCount (lost ∷ xs) = lostCount xs + 1

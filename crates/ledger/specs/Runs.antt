@@ -1,25 +1,41 @@
 -- Runs: any calls but clear on a fresh receiver, each given what the last left, with the ledger kept beside. `step` is what makes a call: the receiver's, or a wrong one.
 use mathlib.Core.Path.{_≡_}
-use mathlib.Core.Bool.{Bool}
+use mathlib.Core.Bool.{Bool, true, cond}
 use mathlib.Core.List.{List, [], _∷_, _++_, map}
 use Prim.Native.Nat.{ℕ, _+_}
+use lib.Dec.{eqb}
 use lib.IntN.{ℤ}
-use Rattle.head.specs.Head.{madeOf}
+use lib.ListN.{length}
+use Rattle.head.specs.Head.{headOk, madeOf}
 use Rattle.step.specs.Step.{State, Lent, Ended}
 use Rattle.step.specs.declared.Call.{Call}
+use Rattle.step.specs.declared.Answer.{Answer}
 use Rattle.step.specs.declared.Call.the-variants as calls
 use Rattle.views.specs.View as views
-use Rattle.ledger.specs.Seen.{NotClear, outBytes, placesIn}
-use Rattle.ledger.specs.Ledger.{Place, lost, received, givenUp, Ledger, opened, numberOf, frontOf, receivedRun, enter}
+use Rattle.ledger.specs.Seen.{NotClear, outBytes, placesIn, readingIn, refusalIn}
+use Rattle.ledger.specs.Ledger.{Place, lost, received, givenUp, Ledger, opened, numberOf, frontOf, ackOf, enter}
 
 -- a call and what is lent for it; any contents
 pub record Event : Type 0 where
   pub call : Call
   pub lent : Lent
 
+-- what the station knows of its receiver beside the ledger: the capacity that it was made with, how long the areas are that it lends, and the latest reading of
+-- a call that was not refused
+pub record Desk : Type 0 where
+  pub capacity : ℕ
+  pub slots : ℕ
+  pub payloads : ℕ
+  pub latest : ℤ
+
+abbrev pub noted : Desk → Call → Answer → Desk
+noted d c a =
+    record { capacity = d .capacity; slots = d .slots; payloads = d .payloads; latest = cond (eqb (refusalIn a) 0) (readingIn c (d .latest)) (d .latest) }
+
 -- the station's ledger beside the receiver's state
 pub record Book : Type 0 where
   pub ledger : Ledger
+  pub desk : Desk
   pub state : State
 
 -- a fresh receiver: what new made, with areas of any length and any contents
@@ -31,8 +47,16 @@ pub record Fresh (first : ℕ) (s : State) : Type 0 where
   pub made : madeOf start latency dropping first capacity .refusal ≡ 0
   pub head : s .head ≡ madeOf start latency dropping first capacity .head
 
+-- a receiver that holds nothing and has acknowledged all: a fresh one, and any other between two messages, after a clear of an empty window too
+pub record Empty (first : ℕ) (s : State) : Type 0 where
+  pub kept : headOk (s .head) ≡ true
+  pub none : s .head .window .held ≡ 0
+  pub begins : s .head .window .seqno0 ≡ first
+  pub acked : s .head .window .lrsn ≡ first
+
 abbrev pub fresh : ℕ → State → Book
-fresh first s = record { ledger = opened first; state = s }
+fresh first s =
+    record { ledger = opened first; desk = record { capacity = s .head .window .capacity; slots = length (s .slots); payloads = length (s .payloads); latest = s .head .latest }; state = s }
 
 abbrev pub NoneClear : List Event → Type 0
 NoneClear [] = Unit
@@ -44,7 +68,7 @@ module _ (step : State → Lent → Call → Ended) where
 
   abbrev pub turned : Book → Event → Book
   turned b e =
-      record { ledger = enter (b .ledger) (e .call) (e .lent .payload) (answered b e .answer); state = answered b e .state }
+      record { ledger = enter (b .ledger) (e .call) (e .lent .payload) (answered b e .answer); desk = noted (b .desk) (e .call) (answered b e .answer); state = answered b e .state }
 
   -- the book after these calls; the newest stands first in the list
   unfoldable pub bookAfter : Book → List Event → Book
@@ -77,4 +101,11 @@ placeOf views.givenUp = givenUp
 pub record Agrees (l : Ledger) (s : State) : Type 0 where
   pub front : s .head .window .seqno0 ≡ numberOf l (frontOf l)
   pub entries : map placeOf (views.entries (s .head .window) (s .slots) (s .payloads)) ≡ l .held
-  pub lrsn : s .head .window .lrsn ≡ numberOf l (frontOf l + receivedRun (l .held))
+  pub lrsn : s .head .window .lrsn ≡ ackOf l
+
+-- what the station knows is so
+pub record Known (d : Desk) (s : State) : Type 0 where
+  pub capacity : s .head .window .capacity ≡ d .capacity
+  pub slots : length (s .slots) ≡ d .slots
+  pub payloads : length (s .payloads) ≡ d .payloads
+  pub latest : s .head .latest ≡ d .latest

@@ -3,12 +3,14 @@ use mathlib.Core.Path.{_≡_}
 use mathlib.Core.Bool.{Bool, true, false}
 use mathlib.Core.List.{List, []}
 use Prim.Native.Nat.{ℕ, _+_, _^_, _<_}
+use lib.IntN.{ℤ}
 use lib.ListN.{take}
 use Rattle.numbers.specs.Circular.{distance}
 use Rattle.receiver.specs.declared.data.DataAnswer.{DataAnswer}
 use Rattle.receiver.specs.declared.data.DataAnswer.the-variants as datas
 use Rattle.receiver.specs.declared.message.MessageAnswer.{MessageAnswer}
 use Rattle.receiver.specs.declared.message.MessageAnswer.the-variants as messages
+use Rattle.step.specs.Step.{lineOf}
 use Rattle.step.specs.declared.Call.{Call}
 use Rattle.step.specs.declared.Call.the-variants as calls
 use Rattle.step.specs.declared.Answer.{Answer}
@@ -136,3 +138,25 @@ kindIn (answers.Ack2 a) = 5
 kindIn (answers.Drop a) = 6
 kindIn (answers.Clock a) = 7
 kindIn (answers.Clear a) = 8
+
+-- the reading of a call that has one, and the number of the refusal that an answer tells, 0 for none
+abbrev pub readingIn : Call → ℤ → ℤ
+readingIn (calls.Data time number message location stamp) z = time
+readingIn (calls.Pop time) z = time
+readingIn (calls.Report time) z = time
+readingIn (calls.FullAck time) z = time
+readingIn (calls.Ack2 time number) z = time
+readingIn (calls.Drop first last) z = z
+readingIn (calls.Clock time stamp) z = time
+readingIn calls.Clear z = z
+
+abbrev pub refusalIn : Answer → ℕ
+refusalIn a = lineOf a [] .refusal
+
+-- whether the room and the need of a packet that came too early are these
+abbrev pub EarlyIs : DataAnswer → ℕ → ℕ → Type 0
+EarlyIs (datas.Got lrsn recovered) room need = Unit
+EarlyIs (datas.Light lrsn recovered) room need = Unit
+EarlyIs (datas.Loss a b) room need = Unit
+EarlyIs (datas.Refused n) room need = Unit
+EarlyIs (datas.PacketTooEarly r n) room need = (r ≡ room) × (n ≡ need)

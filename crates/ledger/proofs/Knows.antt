@@ -1,0 +1,353 @@
+-- What the station knows stays so: no call moves the capacity or the length of an area, and the latest reading is that of the last call that was not refused.
+-- And the acknowledgement number that an answer tells is the head's. Assumes nothing.
+use mathlib.Core.Path.{_≡_, refl, ap, sym, _∙_, subst}
+use mathlib.Core.Bool.{Bool, true, false, cond}
+use mathlib.Core.List.{List, []}
+use Prim.Native.Nat.{ℕ, _+_, _-_, _*_, _^_, _<_}
+use native.Mathlib.Omega.{arith}
+use borrow.Author.Tests.{ne-eqb}
+use lib.Dec.{eqb}
+use lib.IntN.{ℤ, natAbs}
+use lib.ListN.{length}
+use Rattle.numbers.proofs.Flags.{by-bool, by-test}
+use Rattle.numbers.specs.Circular.{distance}
+use Rattle.acks.specs.History.{ack2Of, fullAckOf, lightAckOf}
+use Rattle.acks.specs.declared.history.History.{History}
+use Rattle.acks.specs.declared.history.AckAnswer.{AckAnswer}
+use Rattle.acks.specs.declared.history.AckAnswer.the-variants as acks
+use Rattle.acks.specs.declared.history.Ack2Answer.{Ack2Answer}
+use Rattle.acks.specs.declared.history.Ack2Answer.the-variants as acks2
+use Rattle.clock.specs.Sync.{synchronized}
+use Rattle.clock.specs.declared.time.SynchronizedRemoteClock.{SynchronizedRemoteClock}
+use Rattle.clock.specs.declared.time.Synchronized.{Synchronized}
+use Rattle.clock.specs.declared.time.Synchronized.the-variants as clocks
+use Rattle.slots.proofs.Laws.{length-write, length-payload, slot-lt}
+use Rattle.slots.specs.Ring.{withPayload}
+use Rattle.window.specs.Window.{slotIn, nextOf, roomOf}
+use Rattle.window.specs.Push.{PushOutcome, recoveredOf, pushOf}
+use Rattle.window.specs.declared.Window.{Window}
+use Rattle.window.specs.declared.push.Packet.{Packet}
+use Rattle.window.specs.declared.push.PushAnswer.{PushAnswer}
+use Rattle.window.specs.declared.push.PushAnswer.the-variants as pushes
+use Rattle.window.proofs.Pushes.{length-lost}
+use Rattle.window_pop.specs.Pop.{PopOutcome, discardFront, popOf}
+use Rattle.window_pop.specs.declared.pop.PopAnswer.{PopAnswer}
+use Rattle.window_pop.specs.declared.pop.PopAnswer.the-variants as pops
+use Rattle.window_pop.proofs.PopLaws.{pop-cases}
+use Rattle.window_report.specs.Drop.{dropFrom, dropTo, dropOf}
+use Rattle.window_report.specs.Report.{ReportOutcome, reportOf}
+use Rattle.window_report.specs.declared.report.ReportAnswer.{ReportAnswer}
+use Rattle.window_report.specs.declared.report.ReportAnswer.the-variants as reports
+use Rattle.window_report.proofs.ReportLaws.{by-outcome, length-slots}
+use Rattle.window_report.proofs.DropLaws.{sweep-long}
+use Rattle.head.specs.Rules.{firstRefusal, pushRules, popRules, timedRules, dropRules, clockRules}
+use Rattle.head.specs.Head.{headOk}
+use Rattle.head.specs.declared.state.Head.{Head}
+use Rattle.head.specs.Parts.{withLatest}
+use Rattle.feedback.specs.declared.acking.FullAckAnswer.the-variants as answered
+use Rattle.head.specs.Ready.{PushReady}
+use Rattle.head.proofs.Ready.{push-ready}
+use Rattle.receiver.specs.Data as receiving
+use Rattle.receiver.specs.Data.{DataOutcome, packet, gotAnswer, ackedOf, gotOf, takenOf, dataCallOf}
+use Rattle.receiver.specs.Paper.{dataLine, messageLine}
+use Rattle.receiver.specs.Message as message
+use Rattle.receiver.specs.Message.{MessageOutcome, popCallOf}
+use Rattle.feedback.specs.Acking.{FullAckOutcome, fullAckEnded, Ack2Outcome, afterAck, afterAck2, roomyAck, dueAck, fullAckCallOf, heldAck2, ack2CallOf}
+use Rattle.feedback.specs.Loss.{LossOutcome, headAfter, answerOf, reportedOf, reportCallOf}
+use Rattle.feedback.specs.Paper.{lossLine, clockLine, fullAckLine, rttLine}
+use Rattle.feedback.specs.Sync.{ClockOutcome, afterSync, syncOf, clockCallOf}
+use Rattle.upkeep.specs.Request.{DropOutcome, dropCallOf}
+use Rattle.upkeep.specs.Paper.{dropLine}
+use Rattle.kept.proofs.Says.{Says, push-says}
+use Rattle.step.specs.Step.{State, Lent, Ended, lineOf, stepOf}
+use Rattle.step.specs.declared.Call.{Call}
+use Rattle.step.specs.declared.Call.the-variants as calls
+use Rattle.step.specs.declared.Answer.{Answer}
+use Rattle.views.specs.View.{entries, LrsnRight}
+use Rattle.ledger.specs.Seen.{NotClear, readingIn, refusalIn}
+use Rattle.ledger.specs.Runs.{Desk, noted, Known}
+use Rattle.ledger.specs.Claims.{DataAcks, FullAcks, Acks}
+use Rattle.ledger.proofs.Moves.{by-refusal, push-cases, data-moves}
+
+-- what a call leaves as it was
+pub record Same (s s₁ : State) (c : Call) (a : Answer) : Type 0 where
+  pub capacity : s₁ .head .window .capacity ≡ s .head .window .capacity
+  pub slots : length (s₁ .slots) ≡ length (s .slots)
+  pub payloads : length (s₁ .payloads) ≡ length (s .payloads)
+  pub latest : s₁ .head .latest ≡ cond (eqb (refusalIn a) 0) (readingIn c (s .head .latest)) (s .head .latest)
+
+-- the latest reading by the number of a refusal
+abbrev byNumber : ℕ → ℤ → ℤ → ℤ
+byNumber n now latest = cond (eqb n 0) now latest
+
+refused-latest : (n : ℕ) (now latest : ℤ) → (n ≡ 0 → ⊥) → latest ≡ byNumber n now latest
+refused-latest n now latest h = rw (ne-eqb n 0 h)
+
+module _ (h : Head) (ws bs : List ℕ) where
+  abbrev w : Window
+  w = h .window
+
+  -- a data packet
+  module _ (now : ℤ) (p : Packet) (payload : List ℕ) where
+    abbrev tests : ℕ
+    tests = firstRefusal (pushRules (headOk h) (w .capacity) (length ws) (length bs) now (h .latest) p (length payload))
+
+    pub data-capacity : p .stamp < 2 ^ 32 → LrsnRight w (entries w ws bs) → dataCallOf h ws bs now p payload .handled .head .window .capacity ≡ w .capacity
+    data-capacity hs r =
+        data-moves h ws bs now p payload hs r (λ v fs x. v .capacity ≡ w .capacity)
+        (λ n t a b. refl) (λ d q c. refl) (λ d a b c. refl) (λ d b. refl) (λ d i n. refl) (λ d light lrsn q z. refl) (λ d a b z. refl) (λ d light lrsn i n z. refl)
+
+    abbrev Long : DataOutcome → Type 0
+    Long o = (length (o .slots) ≡ length ws) × (length (o .payloads) ≡ length bs)
+
+    pub data-long : Long (dataCallOf h ws bs now p payload)
+    unfolding dataCallOf takenOf recoveredOf
+    data-long =
+        by-refusal Long tests _ _
+        (λ z.
+        let r = push-ready h ws bs now p payload z in
+        let bytes : (i : ℕ) → length (withPayload bs (slotIn w i) payload) ≡ length bs =
+        λ i. length-payload bs (slotIn w i) payload (r .right .bytes) (omega (arith, slot-lt (w .capacity) (w .start) i (r .good .ranges .some), r .payloads)) in
+        push-cases w ws bs (natAbs now) p payload (λ (o : PushOutcome). (length (o .slots) ≡ length ws) × (length (o .payloads) ≡ length bs))
+        (λ q c. (refl, refl))
+        (λ q. (length-write _ _ _, bytes (w .held)))
+        (λ q c. (refl, refl))
+        (λ q c. (length-write _ _ _ ∙ length-lost (w .capacity) (w .start) ws (natAbs now) (w .held) (distance 31 (p .number) (nextOf w)), bytes (w .held + distance 31 (p .number) (nextOf w))))
+        (λ b. (refl, refl))
+        (λ i n. (length-write _ _ _, bytes (distance 31 (p .number) (w .seqno0))))
+        (λ i n. (refl, refl)))
+        (λ z. (refl, refl))
+
+    abbrev lit : Bool → Window → ℕ → ℕ → Bool
+    lit recovered v lrsn size = lightAckOf (receiving.placedOf (cond recovered h (receiving.ratedOf h now (p .number) size)) v now .history) lrsn .light
+
+    got-latest : (light : Bool) (lrsn : ℕ) (recovered : Bool) → now ≡ byNumber (dataLine (gotAnswer light lrsn recovered) .refusal) now (h .latest)
+    got-latest true lrsn recovered = refl
+    got-latest false lrsn recovered = refl
+
+    after-latest : (v : Window) (a : PushAnswer) (size : ℕ)
+        → receiving.afterPush h v a now (p .number) size .head .latest ≡ byNumber (dataLine (receiving.afterPush h v a now (p .number) size .answer) .refusal) now (h .latest)
+    unfolding gotOf ackedOf
+    after-latest v (pushes.Got lrsn recovered) size = got-latest (lit recovered v lrsn size) lrsn recovered
+    after-latest v (pushes.Loss first last) size = refl
+    after-latest v pushes.BufferFull size = refl
+    after-latest v (pushes.PacketTooEarly room need) size = refl
+    after-latest v pushes.PacketTooLate size = refl
+    after-latest v pushes.DiscardedDuplicate size = refl
+
+    pub data-latest : dataCallOf h ws bs now p payload .handled .head .latest ≡ byNumber (dataLine (dataCallOf h ws bs now p payload .handled .answer) .refusal) now (h .latest)
+    unfolding dataCallOf takenOf
+    data-latest =
+        by-refusal (λ (o : DataOutcome). o .handled .head .latest ≡ byNumber (dataLine (o .handled .answer) .refusal) now (h .latest)) tests _ _
+        (λ z. let o = pushOf w ws bs (natAbs now) p payload in after-latest (o .pushed .window) (o .pushed .answer) (length payload))
+        (λ z. refused-latest tests now (h .latest) z)
+
+    -- its acknowledgement number
+    got-acks : (v : ℕ) (light : Bool) (lrsn : ℕ) (recovered : Bool) → lrsn ≡ v → DataAcks v (gotAnswer light lrsn recovered)
+    got-acks v true lrsn recovered e = e
+    got-acks v false lrsn recovered e = e
+
+    after-acks : (v : Window) (a : PushAnswer) (size : ℕ) → Says (v .lrsn) a
+        → DataAcks (receiving.afterPush h v a now (p .number) size .head .window .lrsn) (receiving.afterPush h v a now (p .number) size .answer)
+    unfolding gotOf ackedOf
+    after-acks v (pushes.Got lrsn recovered) size e = got-acks (v .lrsn) (lit recovered v lrsn size) lrsn recovered e
+    after-acks v (pushes.Loss first last) size e = tt
+    after-acks v pushes.BufferFull size e = tt
+    after-acks v (pushes.PacketTooEarly room need) size e = tt
+    after-acks v pushes.PacketTooLate size e = tt
+    after-acks v pushes.DiscardedDuplicate size e = tt
+
+    pub data-acks : DataAcks (dataCallOf h ws bs now p payload .handled .head .window .lrsn) (dataCallOf h ws bs now p payload .handled .answer)
+    unfolding dataCallOf takenOf
+    data-acks =
+        by-refusal (λ (o : DataOutcome). DataAcks (o .handled .head .window .lrsn) (o .handled .answer)) tests _ _
+        (λ z.
+        let o = pushOf w ws bs (natAbs now) p payload in
+        after-acks (o .pushed .window) (o .pushed .answer) (length payload) (push-says w ws bs (natAbs now) p payload))
+        (λ z. tt)
+
+  -- a pop
+  module _ (out : List ℕ) (now : ℤ) where
+    abbrev popTests : ℕ
+    popTests = firstRefusal (popRules (headOk h) (w .capacity) (length ws) (length bs) now (h .latest))
+
+    pub pop-capacity : popCallOf h ws bs out now .given .head .window .capacity ≡ w .capacity
+    unfolding popCallOf message.takenOf discardFront
+    pop-capacity =
+        by-refusal (λ (o : MessageOutcome). o .given .head .window .capacity ≡ w .capacity) popTests _ _
+        (λ z.
+        pop-cases (h .clock) (h .latency) (h .dropping) w ws now bs out
+        (λ (x : PopOutcome). message.headAfter h (x .popped .window) (x .popped .clock) (x .popped .answer) now .window .capacity ≡ w .capacity)
+        refl refl (λ some held fits. refl) (λ n stamp some held. refl))
+        (λ z. refl)
+
+    answer-latest : (v : Window) (k : SynchronizedRemoteClock) (a : PopAnswer) → message.headAfter h v k a now .latest ≡ byNumber (messageLine (message.answerOf a) .refusal) now (h .latest)
+    answer-latest v k pops.Nothing = refl
+    answer-latest v k (pops.Message time bytes packets) = refl
+    answer-latest v k (pops.Late first end delay) = refl
+    answer-latest v k pops.OutShort = refl
+
+    pub pop-latest : popCallOf h ws bs out now .given .head .latest ≡ byNumber (messageLine (popCallOf h ws bs out now .given .answer) .refusal) now (h .latest)
+    unfolding popCallOf message.takenOf
+    pop-latest =
+        by-refusal (λ (o : MessageOutcome). o .given .head .latest ≡ byNumber (messageLine (o .given .answer) .refusal) now (h .latest)) popTests _ _
+        (λ z. let o = popOf (h .clock) (h .latency) (h .dropping) w ws now bs out in answer-latest (o .popped .window) (o .popped .clock) (o .popped .answer))
+        (λ z. refused-latest popTests now (h .latest) z)
+
+  -- a loss report
+  module _ (list : List ℕ) (now : ℤ) where
+    abbrev reportTests : ℕ
+    reportTests = firstRefusal (timedRules (headOk h) (length ws) (3 * w .capacity) now (h .latest))
+
+    report-window : (a : ReportAnswer) → headAfter h a now .window .capacity ≡ w .capacity
+    report-window reports.Nothing = refl
+    report-window (reports.Report words) = refl
+    report-window reports.ListShort = refl
+
+    report-read : (a : ReportAnswer) → headAfter h a now .latest ≡ byNumber (lossLine (answerOf a) [] .refusal) now (h .latest)
+    report-read reports.Nothing = refl
+    report-read (reports.Report words) = refl
+    report-read reports.ListShort = refl
+
+    abbrev Reported : LossOutcome → Type 0
+    Reported o =
+        (o .reported .head .window .capacity ≡ w .capacity) × (length (o .slots) ≡ length ws) × (o .reported .head .latest ≡ byNumber (lossLine (o .reported .answer) [] .refusal) now (h .latest))
+
+    pub report-same : Reported (reportCallOf h ws list now)
+    unfolding reportCallOf reportedOf
+    report-same =
+        by-refusal Reported reportTests _ _
+        (λ z.
+        let o = reportOf w ws (natAbs now) (h .rtt .mean) list in (
+          report-window (o .answer),
+          by-outcome w ws (natAbs now) (h .rtt .mean) list (λ (x : ReportOutcome). length (x .slots) ≡ length ws) refl refl (length-slots w ws (natAbs now) (h .rtt .mean) (w .held)),
+          report-read (o .answer),
+        ))
+        (λ z. (refl, refl, refused-latest reportTests now (h .latest) z))
+
+  -- a drop request
+  pub drop-long : (first last : ℕ) → length (dropCallOf h ws first last .slots) ≡ length ws
+  unfolding dropCallOf dropOf
+  drop-long first last =
+      by-refusal (λ (o : DropOutcome). length (o .slots) ≡ length ws) (firstRefusal (dropRules (headOk h) (w .capacity) (length ws) first last)) _ _
+      (λ z. sweep-long (w .capacity) (w .start) ws (dropFrom w first) (dropTo w last - dropFrom w first))
+      (λ z. refl)
+
+-- ACKs and the clock
+module _ (h : Head) (b : List ℕ) (now : ℤ) where
+  abbrev ackTests : ℕ
+  ackTests = firstRefusal (timedRules (headOk h) (length b) 2048 now (h .latest))
+
+  abbrev Acked : FullAckOutcome → Type 0
+  Acked o =
+      (o .acked .head .window .capacity ≡ h .window .capacity)
+      × (o .acked .head .latest ≡ byNumber (fullAckLine (o .acked .answer) .refusal) now (h .latest))
+      × FullAcks (o .acked .head .window .lrsn) (o .acked .answer)
+
+  pub full-ack-same : Acked (fullAckCallOf h b now)
+  unfolding fullAckCallOf dueAck roomyAck
+  full-ack-same =
+      by-refusal Acked ackTests _ _
+      (λ z.
+      by-test Acked (eqb (roomOf (h .window)) 0) (fullAckEnded (record { head = withLatest h now; answer = answered.Nothing }) b) (roomyAck h b now)
+      (λ t. (refl, refl, tt))
+      (λ t. let k = fullAckOf (h .history) b (natAbs now) (h .rtt .mean) (h .latency) (h .window .lrsn) in go (k .acked .history) (k .acked .answer) (k .area)))
+      (λ z. (refl, refused-latest ackTests now (h .latest) z, tt))
+    where
+      go : (y : History) (x : AckAnswer) (area : List ℕ)
+          → (afterAck h y x now .head .window .capacity ≡ h .window .capacity)
+          × (afterAck h y x now .head .latest ≡ byNumber (fullAckLine (afterAck h y x now .answer) .refusal) now (h .latest))
+          × FullAcks (afterAck h y x now .head .window .lrsn) (afterAck h y x now .answer)
+      go y acks.Nothing area = (refl, refl, tt)
+      go y acks.Worn area = (refl, refl, tt)
+      go y (acks.Ack n) area = (refl, refl, refl)
+
+  abbrev Acked2 : Ack2Outcome → Type 0
+  Acked2 o = (o .acked2 .head .window .capacity ≡ h .window .capacity) × (o .acked2 .head .latest ≡ byNumber (rttLine (o .acked2 .answer) .refusal) now (h .latest))
+
+  pub ack2-same : (number : ℕ) → Acked2 (ack2CallOf h b now number)
+  unfolding ack2CallOf heldAck2
+  ack2-same number =
+      by-refusal Acked2 ackTests _ _
+      (λ z. let k = ack2Of (h .history) b (natAbs now) number in go (k .history) (k .answer))
+      (λ z. (refl, refused-latest ackTests now (h .latest) z))
+    where
+      go : (y : History) (x : Ack2Answer)
+          → (afterAck2 h y x now .head .window .capacity ≡ h .window .capacity) × (afterAck2 h y x now .head .latest ≡ byNumber (rttLine (afterAck2 h y x now .answer) .refusal) now (h .latest))
+      go y acks2.NotHeld = (refl, refl)
+      go y (acks2.Held r) = (refl, refl)
+
+module _ (h : Head) (now : ℤ) (stamp : ℕ) where
+  abbrev Clocked : ClockOutcome → Type 0
+  Clocked o = (o .clocked .head .window .capacity ≡ h .window .capacity) × (o .clocked .head .latest ≡ byNumber (clockLine (o .clocked .answer) .refusal) now (h .latest))
+
+  pub clock-same : Clocked (clockCallOf h now stamp)
+  unfolding clockCallOf syncOf
+  clock-same =
+      by-refusal Clocked (firstRefusal (clockRules (headOk h) now (h .latest))) _ _
+      (λ z. let k = synchronized (h .clock) now stamp in go (k .clock) (k .answer))
+      (λ z. (refl, refused-latest (firstRefusal (clockRules (headOk h) now (h .latest))) now (h .latest) z))
+    where
+      go : (k : SynchronizedRemoteClock) (x : Synchronized)
+          → (afterSync h k x now .head .window .capacity ≡ h .window .capacity) × (afterSync h k x now .head .latest ≡ byNumber (clockLine (afterSync h k x now .answer) .refusal) now (h .latest))
+      go k clocks.Nothing = (refl, refl)
+      go k (clocks.Adjusted mean deviation) = (refl, refl)
+      go k (clocks.Unsteady deviation v) = (refl, refl)
+      go k clocks.DriftRange = (refl, refl)
+
+-- any call
+either : (n : ℕ) (z : ℤ) → z ≡ byNumber n z z
+either n z = by-bool (eqb n 0) (λ t. rw t) (λ t. rw t)
+
+pub step-same : (s : State) (t : Lent) (c : Call) → NotClear c → LrsnRight (s .head .window) (entries (s .head .window) (s .slots) (s .payloads)) → Same s (stepOf s t c .state) c (stepOf s t c .answer)
+step-same s t (calls.Data time number message location stamp) k r =
+    let p = packet number message location stamp in
+    let l = data-long (s .head) (s .slots) (s .payloads) time p (t .payload) in
+    record {
+      capacity = data-capacity (s .head) (s .slots) (s .payloads) time p (t .payload) k r;
+      slots = l .0;
+      payloads = l .1;
+      latest = data-latest (s .head) (s .slots) (s .payloads) time p (t .payload);
+    }
+step-same s t (calls.Pop time) k r =
+    record { capacity = pop-capacity (s .head) (s .slots) (s .payloads) (t .output) time; slots = refl; payloads = refl; latest = pop-latest (s .head) (s .slots) (s .payloads) (t .output) time }
+step-same s t (calls.Report time) k r =
+    let x = report-same (s .head) (s .slots) (s .payloads) (t .list) time in record { capacity = x .0; slots = x .1; payloads = refl; latest = x .2 }
+step-same s t (calls.FullAck time) k r =
+    let x = full-ack-same (s .head) (s .history) time in record { capacity = x .0; slots = refl; payloads = refl; latest = x .1 }
+step-same s t (calls.Ack2 time number) k r =
+    let x = ack2-same (s .head) (s .history) time number in record { capacity = x .0; slots = refl; payloads = refl; latest = x .1 }
+step-same s t (calls.Drop first last) k r =
+    record { capacity = refl; slots = drop-long (s .head) (s .slots) (s .payloads) first last; payloads = refl; latest = either (dropLine (dropCallOf (s .head) (s .slots) first last .answer) .refusal) (s .head .latest) }
+step-same s t (calls.Clock time stamp) k r =
+    let x = clock-same (s .head) time stamp in record { capacity = x .0; slots = refl; payloads = refl; latest = x .1 }
+step-same s t calls.Clear k r = absurd k
+
+pub known-after : {d : Desk} {s s₁ : State} {c : Call} {a : Answer} → Known d s → Same s s₁ c a → Known (noted d c a) s₁
+known-after {c = c} {a = a} k q =
+    record {
+      capacity = q .capacity ∙ k .capacity;
+      slots = q .slots ∙ k .slots;
+      payloads = q .payloads ∙ k .payloads;
+      latest = q .latest ∙ ap (λ (z : ℤ). cond (eqb (refusalIn a) 0) (readingIn c z) z) (k .latest);
+    }
+
+pub step-acks : (s : State) (t : Lent) (c : Call) → NotClear c → Acks (stepOf s t c .state .head .window .lrsn) (stepOf s t c .answer)
+step-acks s t (calls.Data time number message location stamp) k = data-acks (s .head) (s .slots) (s .payloads) time (packet number message location stamp) (t .payload)
+step-acks s t (calls.Pop time) k = tt
+step-acks s t (calls.Report time) k = tt
+step-acks s t (calls.FullAck time) k = full-ack-same (s .head) (s .history) time .2
+step-acks s t (calls.Ack2 time number) k = tt
+step-acks s t (calls.Drop first last) k = tt
+step-acks s t (calls.Clock time stamp) k = tt
+step-acks s t calls.Clear k = absurd k
+
+pub step-line : (s : State) (t : Lent) (c : Call) → stepOf s t c .line ≡ lineOf (stepOf s t c .answer) (stepOf s t c .list)
+step-line s t (calls.Data time number message location stamp) = refl
+step-line s t (calls.Pop time) = refl
+step-line s t (calls.Report time) = refl
+step-line s t (calls.FullAck time) = refl
+step-line s t (calls.Ack2 time number) = refl
+step-line s t (calls.Drop first last) = refl
+step-line s t (calls.Clock time stamp) = refl
+step-line s t calls.Clear = refl

@@ -1,0 +1,103 @@
+-- Show, in a run: of a number whose held place is received it shows the ledger's bytes, of any other nothing: 01, "Window", "can be shown where it lies". Assumes nothing.
+use mathlib.Core.Path.{_≡_, refl, ap, sym, _∙_, subst}
+use mathlib.Core.Bool.{Bool, true, false, _&&_, cond}
+use mathlib.Core.List.{List, [], _∷_, map}
+use Prim.Native.Nat.{ℕ, zero, suc, _+_, _^_, _<_, _≤_}
+use native.Mathlib.Nat.{mod-eq-of-lt}
+use native.Mathlib.Omega.{arith}
+use borrow.Author.Tests.{ltb-true, lt-ltb}
+use lib.Dec.{ltb}
+use lib.ListN.{length, take, drop, getD}
+use Rattle.numbers.specs.Circular.{distance, sum}
+use Rattle.numbers.proofs.Flags.{impossible, and-left, and-right, by-test}
+use Rattle.numbers.proofs.Circle.{stepped, distance-sum}
+use Rattle.slots.specs.Words as words
+use Rattle.slots.specs.Ring.{payloadAt, payloadStart}
+use Rattle.slots.specs.declared.entry.Entry.{Entry}
+use Rattle.slots.specs.declared.entry.Entry.the-variants.{Lost, Received, GivenUp}
+use Rattle.window.specs.Window as windows
+use Rattle.window.specs.Window.{slotIn, entryIn}
+use Rattle.window.specs.Ready.{InWindow}
+use Rattle.window.specs.Show.{nowhere, shownOf}
+use Rattle.window.specs.declared.Window.{Window}
+use Rattle.window.specs.declared.show.Part.{Part}
+use Rattle.views.specs.View as views
+use Rattle.views.specs.View.{Seen, seenOf, seenAt, entries}
+use Rattle.views.proofs.Lists.{entries-at}
+use Rattle.ledger.specs.Ledger.{Place, lost, received, givenUp, Ledger, numberOf, frontOf}
+use Rattle.ledger.specs.Runs.{placeOf}
+use Rattle.ledger.proofs.Moved.{Stands, window-count, place-number}
+
+-- what a part of the payload area shows is what the ledger has for the number
+pub record Shows (l : Ledger) (number : ℕ) (bs : List ℕ) (p : Part) : Type 0 where
+  pub found : p .received ≡ true → (i : ℕ) × (i < length (l .held)) × (numberOf l (frontOf l + i) ≡ number) × (getD (l .held) i lost ≡ received (take (p .len) (drop (p .at) bs)))
+  pub shown : (i : ℕ) (bytes : List ℕ) → i < length (l .held) → numberOf l (frontOf l + i) ≡ number → getD (l .held) i lost ≡ received bytes → (p .received ≡ true) × (take (p .len) (drop (p .at) bs) ≡ bytes)
+  pub empty : p .received ≡ false → p .len ≡ 0
+
+getD-map : {A B : Type 0} (f : A → B) (xs : List A) (i : ℕ) (d : A) → getD (map f xs) i (f d) ≡ f (getD xs i d)
+getD-map f [] i d = refl
+getD-map f (x ∷ xs) zero d = refl
+getD-map f (x ∷ xs) (suc i) d = getD-map f xs i d
+
+received-place : (bs : List ℕ) (s : ℕ) (e : Entry) → words.isReceived e ≡ true → placeOf (seenOf bs s e) ≡ received (payloadAt bs s (words.lengthIn e))
+received-place bs s (Lost k f) t = impossible (sym t)
+received-place bs s (Received n l m k) t = refl
+received-place bs s GivenUp t = impossible (sym t)
+
+place-received : (bs : List ℕ) (s : ℕ) (e : Entry) (bytes : List ℕ) → placeOf (seenOf bs s e) ≡ received bytes → words.isReceived e ≡ true
+place-received bs s (Lost k f) bytes t = absurd (let z : _≡_ {A = ℕ} 0 1 = cc in omega arith)
+place-received bs s (Received n l m k) bytes t = refl
+place-received bs s GivenUp bytes t = absurd (let z : _≡_ {A = ℕ} 0 1 = cc in omega arith)
+
+same-bytes : {xs ys : List ℕ} → received xs ≡ received ys → xs ≡ ys
+same-bytes e = cc
+
+module _ (S : ℕ → List ℕ → Type 0) (l : Ledger) (w : Window) (ws bs : List ℕ) (a : Stands S l w (entries w ws bs)) (r : InWindow w) (number : ℕ) (n : number < 2 ^ 31) where
+  abbrev at : ℕ
+  at = distance 31 number (w .seqno0)
+
+  place-is : (i : ℕ) → i < w .held → getD (l .held) i lost ≡ placeOf (seenAt ws bs (slotIn w i))
+  place-is i k =
+      let z : 0 + i ≡ i = omega arith in
+      ap (λ (x : List Place). getD x i lost) (sym (a .held))
+      ∙ getD-map placeOf (entries w ws bs) i (views.lost 0 0)
+      ∙ ap placeOf (entries-at (w .capacity) (w .start) ws bs 0 (w .held) i (views.lost 0 0) k ∙ ap (λ (x : ℕ). seenAt ws bs (slotIn w x)) z)
+
+  numbered : numberOf l (frontOf l + at) ≡ number
+  unfolding sum
+  numbered = sym (place-number a at) ∙ stepped 31 number (w .seqno0) ∙ mod-eq-of-lt n
+
+  index-is : (i : ℕ) → i < w .held → numberOf l (frontOf l + i) ≡ number → at ≡ i
+  index-is i k e =
+      ap (λ (x : ℕ). distance 31 x (w .seqno0)) (sym e ∙ sym (place-number a i)) ∙ distance-sum 31 (w .seqno0) {n = i} (omega (arith, r .holds, r .most))
+
+  abbrev test : Bool
+  test = ltb at (w .held) && words.isReceived (entryIn w ws at)
+
+  pub shows : Shows l number bs (shownOf w ws number)
+  unfolding shownOf
+  shows =
+      by-test (Shows l number bs) test (record { received = true; at = payloadStart (slotIn w at); len = words.lengthIn (entryIn w ws at) }) nowhere
+      (λ t.
+      let h = ltb-true at (w .held) (and-left (ltb at (w .held)) (words.isReceived (entryIn w ws at)) t) in
+      let u = and-right (ltb at (w .held)) (words.isReceived (entryIn w ws at)) t in
+      let p = place-is at h ∙ received-place bs (slotIn w at) (entryIn w ws at) u in
+      record {
+        found = λ e. (at, omega (arith, window-count ws bs a, h), numbered, p);
+        shown = λ i bytes k e q. (refl, same-bytes (sym p ∙ ap (λ (x : ℕ). getD (l .held) x lost) (index-is i (omega (arith, window-count ws bs a)) e) ∙ q));
+        empty = λ e. impossible e;
+      })
+      (λ t.
+      record {
+        found = λ e. impossible (sym e);
+        shown =
+            λ i bytes k e q.
+            let h : i < w .held = omega (arith, window-count ws bs a) in
+            let y = index-is i h e in
+            let v = place-received bs (slotIn w i) (entryIn w ws i) bytes (sym (place-is i h) ∙ q) in
+            let f : ltb at (w .held) ≡ true = lt-ltb at (w .held) (omega (arith, y, h)) in
+            let g : words.isReceived (entryIn w ws at) ≡ true = ap (λ (x : ℕ). words.isReceived (entryIn w ws x)) y ∙ v in
+            let c : test ≡ true = rw (f, g) in
+            impossible (sym c ∙ t);
+        empty = λ e. refl;
+      })

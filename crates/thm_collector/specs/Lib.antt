@@ -1,0 +1,2 @@
+-- A collector's calls.
+pub mod Collector
