@@ -149,10 +149,9 @@ module _ (S : ℕ → List ℕ → Type 0) (l : Ledger) (h : Head) (ws bs : List
         forLost = λ e. impossible (sym e);
         afterGap = λ e. impossible (sym e);
         gapNamed = tt;
-        tested = inl t;
         full = λ e. absurd (omega arith);
         early = λ e. absurd (omega arith);
-        room = tt;
+        room = λ e. absurd (omega arith);
         took = λ e. absurd (omega arith);
         late = λ e. absurd (omega arith);
         unplaced = λ b c i k e. omega arith;
@@ -169,10 +168,9 @@ module _ (S : ℕ → List ℕ → Type 0) (l : Ledger) (h : Head) (ws bs : List
         forLost = λ e. impossible (sym e);
         afterGap = λ e. impossible (sym e);
         gapNamed = tt;
-        tested = inr (d .tests, omega arith, omega arith);
         full = λ e. (q ∙ next-is, sym (window-count ws bs a) ∙ c);
         early = λ e. absurd (omega arith);
-        room = tt;
+        room = λ e. absurd (omega arith);
         took = λ e. absurd (omega arith);
         unplaced = λ b m. not-next (d .good) q;
         duplicate = λ e. absurd (omega arith);
@@ -191,7 +189,6 @@ module _ (S : ℕ → List ℕ → Type 0) (l : Ledger) (h : Head) (ws bs : List
         forLost = λ e. impossible (sym e);
         afterGap = λ e. impossible (sym e);
         gapNamed = tt;
-        tested = inr (d .tests, omega arith, omega arith);
         full = λ e. absurd (omega arith);
         early = λ e. (ap (after 31 (p .number)) (sym next-is) ∙ after-at 31 (p .number) (windows.nextOf w) some under, omega (arith, window-count ws bs a, n, r));
         room = (ap (λ (x : ℕ). w .capacity - x) (window-count ws bs a), ap (λ (x : ℕ). x + 1) n);
@@ -211,10 +208,9 @@ module _ (S : ℕ → List ℕ → Type 0) (l : Ledger) (h : Head) (ws bs : List
         forLost = λ e. impossible (sym e);
         afterGap = λ e. impossible (sym e);
         gapNamed = tt;
-        tested = inr (d .tests, omega arith, omega arith);
         full = λ e. absurd (omega arith);
         early = λ e. absurd (omega arith);
-        room = tt;
+        room = λ e. absurd (omega arith);
         took = λ e. absurd (omega arith);
         unplaced = λ c m i k e. not-late (d .good) b i (omega (arith, window-count ws bs a)) e;
         duplicate = λ e. absurd (omega arith);
@@ -234,10 +230,9 @@ module _ (S : ℕ → List ℕ → Type 0) (l : Ledger) (h : Head) (ws bs : List
         forLost = λ e. impossible (sym e);
         afterGap = λ e. impossible (sym e);
         gapNamed = tt;
-        tested = inr (d .tests, omega arith, omega arith);
         full = λ e. absurd (omega arith);
         early = λ e. absurd (omega arith);
-        room = tt;
+        room = λ e. absurd (omega arith);
         took = λ e. absurd (omega arith);
         unplaced = λ b m j k e. omega arith;
         duplicate =
@@ -269,7 +264,6 @@ module _ (S : ℕ → List ℕ → Type 0) (l : Ledger) (h : Head) (ws bs : List
         forLost = v;
         afterGap = g;
         gapNamed = n;
-        tested = inl (z ∙ sym (d .tests));
         full = λ e. absurd (omega (arith, z));
         early = λ e. absurd (omega (arith, z));
         room = rm;

@@ -17,6 +17,7 @@ use Rattle.acks.specs.declared.history.AckAnswer.{AckAnswer}
 use Rattle.acks.specs.declared.history.AckAnswer.the-variants as acks
 use Rattle.acks.specs.declared.history.Ack2Answer.{Ack2Answer}
 use Rattle.acks.specs.declared.history.Ack2Answer.the-variants as acks2
+use Rattle.acks.proofs.HistoryKept.{full-ack-length}
 use Rattle.clock.specs.Sync.{synchronized}
 use Rattle.clock.specs.declared.time.SynchronizedRemoteClock.{SynchronizedRemoteClock}
 use Rattle.clock.specs.declared.time.Synchronized.{Synchronized}
@@ -69,11 +70,17 @@ use Rattle.ledger.specs.Runs.{Desk, noted, Known}
 use Rattle.ledger.specs.Claims.{DataAcks, FullAcks, Acks}
 use Rattle.ledger.proofs.Moves.{by-refusal, push-cases, data-moves}
 
+-- the settings that a head has beside its capacity
+abbrev Settings : Head → Head → Type 0
+Settings h h₁ = (h₁ .latency ≡ h .latency) × (h₁ .dropping ≡ h .dropping)
+
 -- what a call leaves as it was
 pub record Same (s s₁ : State) (c : Call) (a : Answer) : Type 0 where
   pub capacity : s₁ .head .window .capacity ≡ s .head .window .capacity
+  pub settings : Settings (s .head) (s₁ .head)
   pub slots : length (s₁ .slots) ≡ length (s .slots)
   pub payloads : length (s₁ .payloads) ≡ length (s .payloads)
+  pub history : length (s₁ .history) ≡ length (s .history)
   pub latest : s₁ .head .latest ≡ cond (eqb (refusalIn a) 0) (readingIn c (s .head .latest)) (s .head .latest)
 
 -- the latest reading by the number of a refusal
@@ -135,6 +142,23 @@ module _ (h : Head) (ws bs : List ℕ) where
     after-latest v pushes.PacketTooLate size = refl
     after-latest v pushes.DiscardedDuplicate size = refl
 
+    after-settings : (v : Window) (a : PushAnswer) (size : ℕ) → Settings h (receiving.afterPush h v a now (p .number) size .head)
+    unfolding gotOf ackedOf receiving.ratedOf
+    after-settings v (pushes.Got lrsn true) size = (refl, refl)
+    after-settings v (pushes.Got lrsn false) size = (refl, refl)
+    after-settings v (pushes.Loss first last) size = (refl, refl)
+    after-settings v pushes.BufferFull size = (refl, refl)
+    after-settings v (pushes.PacketTooEarly room need) size = (refl, refl)
+    after-settings v pushes.PacketTooLate size = (refl, refl)
+    after-settings v pushes.DiscardedDuplicate size = (refl, refl)
+
+    pub data-settings : Settings h (dataCallOf h ws bs now p payload .handled .head)
+    unfolding dataCallOf takenOf
+    data-settings =
+        by-refusal (λ (o : DataOutcome). Settings h (o .handled .head)) tests _ _
+        (λ z. let o = pushOf w ws bs (natAbs now) p payload in after-settings (o .pushed .window) (o .pushed .answer) (length payload))
+        (λ z. (refl, refl))
+
     pub data-latest : dataCallOf h ws bs now p payload .handled .head .latest ≡ byNumber (dataLine (dataCallOf h ws bs now p payload .handled .answer) .refusal) now (h .latest)
     unfolding dataCallOf takenOf
     data-latest =
@@ -181,6 +205,19 @@ module _ (h : Head) (ws bs : List ℕ) where
         refl refl (λ some held fits. refl) (λ n stamp some held. refl))
         (λ z. refl)
 
+    answer-settings : (v : Window) (k : SynchronizedRemoteClock) (a : PopAnswer) → Settings h (message.headAfter h v k a now)
+    answer-settings v k pops.Nothing = (refl, refl)
+    answer-settings v k (pops.Message time bytes packets) = (refl, refl)
+    answer-settings v k (pops.Late first end delay) = (refl, refl)
+    answer-settings v k pops.OutShort = (refl, refl)
+
+    pub pop-settings : Settings h (popCallOf h ws bs out now .given .head)
+    unfolding popCallOf message.takenOf
+    pop-settings =
+        by-refusal (λ (o : MessageOutcome). Settings h (o .given .head)) popTests _ _
+        (λ z. let o = popOf (h .clock) (h .latency) (h .dropping) w ws now bs out in answer-settings (o .popped .window) (o .popped .clock) (o .popped .answer))
+        (λ z. (refl, refl))
+
     answer-latest : (v : Window) (k : SynchronizedRemoteClock) (a : PopAnswer) → message.headAfter h v k a now .latest ≡ byNumber (messageLine (message.answerOf a) .refusal) now (h .latest)
     answer-latest v k pops.Nothing = refl
     answer-latest v k (pops.Message time bytes packets) = refl
@@ -204,6 +241,11 @@ module _ (h : Head) (ws bs : List ℕ) where
     report-window (reports.Report words) = refl
     report-window reports.ListShort = refl
 
+    report-settings : (a : ReportAnswer) → Settings h (headAfter h a now)
+    report-settings reports.Nothing = (refl, refl)
+    report-settings (reports.Report words) = (refl, refl)
+    report-settings reports.ListShort = (refl, refl)
+
     report-read : (a : ReportAnswer) → headAfter h a now .latest ≡ byNumber (lossLine (answerOf a) [] .refusal) now (h .latest)
     report-read reports.Nothing = refl
     report-read (reports.Report words) = refl
@@ -211,7 +253,10 @@ module _ (h : Head) (ws bs : List ℕ) where
 
     abbrev Reported : LossOutcome → Type 0
     Reported o =
-        (o .reported .head .window .capacity ≡ w .capacity) × (length (o .slots) ≡ length ws) × (o .reported .head .latest ≡ byNumber (lossLine (o .reported .answer) [] .refusal) now (h .latest))
+        (o .reported .head .window .capacity ≡ w .capacity)
+        × Settings h (o .reported .head)
+        × (length (o .slots) ≡ length ws)
+        × (o .reported .head .latest ≡ byNumber (lossLine (o .reported .answer) [] .refusal) now (h .latest))
 
     pub report-same : Reported (reportCallOf h ws list now)
     unfolding reportCallOf reportedOf
@@ -220,10 +265,11 @@ module _ (h : Head) (ws bs : List ℕ) where
         (λ z.
         let o = reportOf w ws (natAbs now) (h .rtt .mean) list in (
           report-window (o .answer),
+          report-settings (o .answer),
           by-outcome w ws (natAbs now) (h .rtt .mean) list (λ (x : ReportOutcome). length (x .slots) ≡ length ws) refl refl (length-slots w ws (natAbs now) (h .rtt .mean) (w .held)),
           report-read (o .answer),
         ))
-        (λ z. (refl, refl, refused-latest reportTests now (h .latest) z))
+        (λ z. (refl, (refl, refl), refl, refused-latest reportTests now (h .latest) z))
 
   -- a drop request
   pub drop-long : (first last : ℕ) → length (dropCallOf h ws first last .slots) ≡ length ws
@@ -241,6 +287,8 @@ module _ (h : Head) (b : List ℕ) (now : ℤ) where
   abbrev Acked : FullAckOutcome → Type 0
   Acked o =
       (o .acked .head .window .capacity ≡ h .window .capacity)
+      × Settings h (o .acked .head)
+      × (length (o .area) ≡ length b)
       × (o .acked .head .latest ≡ byNumber (fullAckLine (o .acked .answer) .refusal) now (h .latest))
       × FullAcks (o .acked .head .window .lrsn) (o .acked .answer)
 
@@ -250,50 +298,64 @@ module _ (h : Head) (b : List ℕ) (now : ℤ) where
       by-refusal Acked ackTests _ _
       (λ z.
       by-test Acked (eqb (roomOf (h .window)) 0) (fullAckEnded (record { head = withLatest h now; answer = answered.Nothing }) b) (roomyAck h b now)
-      (λ t. (refl, refl, tt))
-      (λ t. let k = fullAckOf (h .history) b (natAbs now) (h .rtt .mean) (h .latency) (h .window .lrsn) in go (k .acked .history) (k .acked .answer) (k .area)))
-      (λ z. (refl, refused-latest ackTests now (h .latest) z, tt))
+      (λ t. (refl, (refl, refl), refl, refl, tt))
+      (λ t.
+      let k = fullAckOf (h .history) b (natAbs now) (h .rtt .mean) (h .latency) (h .window .lrsn) in
+      go (k .acked .history) (k .acked .answer) (k .area) (full-ack-length (h .history) b (natAbs now) (h .rtt .mean) (h .latency) (h .window .lrsn))))
+      (λ z. (refl, (refl, refl), refl, refused-latest ackTests now (h .latest) z, tt))
     where
-      go : (y : History) (x : AckAnswer) (area : List ℕ)
+      go : (y : History) (x : AckAnswer) (area : List ℕ) → length area ≡ length b
           → (afterAck h y x now .head .window .capacity ≡ h .window .capacity)
+          × Settings h (afterAck h y x now .head)
+          × (length area ≡ length b)
           × (afterAck h y x now .head .latest ≡ byNumber (fullAckLine (afterAck h y x now .answer) .refusal) now (h .latest))
           × FullAcks (afterAck h y x now .head .window .lrsn) (afterAck h y x now .answer)
-      go y acks.Nothing area = (refl, refl, tt)
-      go y acks.Worn area = (refl, refl, tt)
-      go y (acks.Ack n) area = (refl, refl, refl)
+      go y acks.Nothing area e = (refl, (refl, refl), e, refl, tt)
+      go y acks.Worn area e = (refl, (refl, refl), e, refl, tt)
+      go y (acks.Ack n) area e = (refl, (refl, refl), e, refl, refl)
 
   abbrev Acked2 : Ack2Outcome → Type 0
-  Acked2 o = (o .acked2 .head .window .capacity ≡ h .window .capacity) × (o .acked2 .head .latest ≡ byNumber (rttLine (o .acked2 .answer) .refusal) now (h .latest))
+  Acked2 o =
+      (o .acked2 .head .window .capacity ≡ h .window .capacity)
+      × Settings h (o .acked2 .head)
+      × (o .acked2 .head .latest ≡ byNumber (rttLine (o .acked2 .answer) .refusal) now (h .latest))
 
   pub ack2-same : (number : ℕ) → Acked2 (ack2CallOf h b now number)
   unfolding ack2CallOf heldAck2
   ack2-same number =
       by-refusal Acked2 ackTests _ _
       (λ z. let k = ack2Of (h .history) b (natAbs now) number in go (k .history) (k .answer))
-      (λ z. (refl, refused-latest ackTests now (h .latest) z))
+      (λ z. (refl, (refl, refl), refused-latest ackTests now (h .latest) z))
     where
       go : (y : History) (x : Ack2Answer)
-          → (afterAck2 h y x now .head .window .capacity ≡ h .window .capacity) × (afterAck2 h y x now .head .latest ≡ byNumber (rttLine (afterAck2 h y x now .answer) .refusal) now (h .latest))
-      go y acks2.NotHeld = (refl, refl)
-      go y (acks2.Held r) = (refl, refl)
+          → (afterAck2 h y x now .head .window .capacity ≡ h .window .capacity)
+          × Settings h (afterAck2 h y x now .head)
+          × (afterAck2 h y x now .head .latest ≡ byNumber (rttLine (afterAck2 h y x now .answer) .refusal) now (h .latest))
+      go y acks2.NotHeld = (refl, (refl, refl), refl)
+      go y (acks2.Held r) = (refl, (refl, refl), refl)
 
 module _ (h : Head) (now : ℤ) (stamp : ℕ) where
   abbrev Clocked : ClockOutcome → Type 0
-  Clocked o = (o .clocked .head .window .capacity ≡ h .window .capacity) × (o .clocked .head .latest ≡ byNumber (clockLine (o .clocked .answer) .refusal) now (h .latest))
+  Clocked o =
+      (o .clocked .head .window .capacity ≡ h .window .capacity)
+      × Settings h (o .clocked .head)
+      × (o .clocked .head .latest ≡ byNumber (clockLine (o .clocked .answer) .refusal) now (h .latest))
 
   pub clock-same : Clocked (clockCallOf h now stamp)
   unfolding clockCallOf syncOf
   clock-same =
       by-refusal Clocked (firstRefusal (clockRules (headOk h) now (h .latest))) _ _
       (λ z. let k = synchronized (h .clock) now stamp in go (k .clock) (k .answer))
-      (λ z. (refl, refused-latest (firstRefusal (clockRules (headOk h) now (h .latest))) now (h .latest) z))
+      (λ z. (refl, (refl, refl), refused-latest (firstRefusal (clockRules (headOk h) now (h .latest))) now (h .latest) z))
     where
       go : (k : SynchronizedRemoteClock) (x : Synchronized)
-          → (afterSync h k x now .head .window .capacity ≡ h .window .capacity) × (afterSync h k x now .head .latest ≡ byNumber (clockLine (afterSync h k x now .answer) .refusal) now (h .latest))
-      go k clocks.Nothing = (refl, refl)
-      go k (clocks.Adjusted mean deviation) = (refl, refl)
-      go k (clocks.Unsteady deviation v) = (refl, refl)
-      go k clocks.DriftRange = (refl, refl)
+          → (afterSync h k x now .head .window .capacity ≡ h .window .capacity)
+          × Settings h (afterSync h k x now .head)
+          × (afterSync h k x now .head .latest ≡ byNumber (clockLine (afterSync h k x now .answer) .refusal) now (h .latest))
+      go k clocks.Nothing = (refl, (refl, refl), refl)
+      go k (clocks.Adjusted mean deviation) = (refl, (refl, refl), refl)
+      go k (clocks.Unsteady deviation v) = (refl, (refl, refl), refl)
+      go k clocks.DriftRange = (refl, (refl, refl), refl)
 
 -- any call
 either : (n : ℕ) (z : ℤ) → z ≡ byNumber n z z
@@ -305,30 +367,53 @@ step-same s t (calls.Data time number message location stamp) k r =
     let l = data-long (s .head) (s .slots) (s .payloads) time p (t .payload) in
     record {
       capacity = data-capacity (s .head) (s .slots) (s .payloads) time p (t .payload) k r;
+      settings = data-settings (s .head) (s .slots) (s .payloads) time p (t .payload);
       slots = l .0;
       payloads = l .1;
+      history = refl;
       latest = data-latest (s .head) (s .slots) (s .payloads) time p (t .payload);
     }
 step-same s t (calls.Pop time) k r =
-    record { capacity = pop-capacity (s .head) (s .slots) (s .payloads) (t .output) time; slots = refl; payloads = refl; latest = pop-latest (s .head) (s .slots) (s .payloads) (t .output) time }
+    record {
+      capacity = pop-capacity (s .head) (s .slots) (s .payloads) (t .output) time;
+      settings = pop-settings (s .head) (s .slots) (s .payloads) (t .output) time;
+      slots = refl;
+      payloads = refl;
+      history = refl;
+      latest = pop-latest (s .head) (s .slots) (s .payloads) (t .output) time;
+    }
 step-same s t (calls.Report time) k r =
-    let x = report-same (s .head) (s .slots) (s .payloads) (t .list) time in record { capacity = x .0; slots = x .1; payloads = refl; latest = x .2 }
+    let x = report-same (s .head) (s .slots) (s .payloads) (t .list) time in
+    record { capacity = x .0; settings = x .1; slots = x .2; payloads = refl; history = refl; latest = x .3 }
 step-same s t (calls.FullAck time) k r =
-    let x = full-ack-same (s .head) (s .history) time in record { capacity = x .0; slots = refl; payloads = refl; latest = x .1 }
+    let x = full-ack-same (s .head) (s .history) time in
+    record { capacity = x .0; settings = x .1; slots = refl; payloads = refl; history = x .2; latest = x .3 }
 step-same s t (calls.Ack2 time number) k r =
-    let x = ack2-same (s .head) (s .history) time number in record { capacity = x .0; slots = refl; payloads = refl; latest = x .1 }
+    let x = ack2-same (s .head) (s .history) time number in
+    record { capacity = x .0; settings = x .1; slots = refl; payloads = refl; history = refl; latest = x .2 }
 step-same s t (calls.Drop first last) k r =
-    record { capacity = refl; slots = drop-long (s .head) (s .slots) (s .payloads) first last; payloads = refl; latest = either (dropLine (dropCallOf (s .head) (s .slots) first last .answer) .refusal) (s .head .latest) }
+    record {
+      capacity = refl;
+      settings = (refl, refl);
+      slots = drop-long (s .head) (s .slots) (s .payloads) first last;
+      payloads = refl;
+      history = refl;
+      latest = either (dropLine (dropCallOf (s .head) (s .slots) first last .answer) .refusal) (s .head .latest);
+    }
 step-same s t (calls.Clock time stamp) k r =
-    let x = clock-same (s .head) time stamp in record { capacity = x .0; slots = refl; payloads = refl; latest = x .1 }
+    let x = clock-same (s .head) time stamp in
+    record { capacity = x .0; settings = x .1; slots = refl; payloads = refl; history = refl; latest = x .2 }
 step-same s t calls.Clear k r = absurd k
 
 pub known-after : {d : Desk} {s s₁ : State} {c : Call} {a : Answer} → Known d s → Same s s₁ c a → Known (noted d c a) s₁
 known-after {c = c} {a = a} k q =
     record {
       capacity = q .capacity ∙ k .capacity;
+      latency = q .settings .0 ∙ k .latency;
+      dropping = q .settings .1 ∙ k .dropping;
       slots = q .slots ∙ k .slots;
       payloads = q .payloads ∙ k .payloads;
+      history = q .history ∙ k .history;
       latest = q .latest ∙ ap (λ (z : ℤ). cond (eqb (refusalIn a) 0) (readingIn c z) z) (k .latest);
     }
 
@@ -336,7 +421,7 @@ pub step-acks : (s : State) (t : Lent) (c : Call) → NotClear c → Acks (stepO
 step-acks s t (calls.Data time number message location stamp) k = data-acks (s .head) (s .slots) (s .payloads) time (packet number message location stamp) (t .payload)
 step-acks s t (calls.Pop time) k = tt
 step-acks s t (calls.Report time) k = tt
-step-acks s t (calls.FullAck time) k = full-ack-same (s .head) (s .history) time .2
+step-acks s t (calls.FullAck time) k = full-ack-same (s .head) (s .history) time .4
 step-acks s t (calls.Ack2 time number) k = tt
 step-acks s t (calls.Drop first last) k = tt
 step-acks s t (calls.Clock time stamp) k = tt

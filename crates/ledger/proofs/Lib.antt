@@ -10,6 +10,7 @@ pub mod Dropped
 pub mod Others
 pub mod Judged
 pub mod Knows
+pub mod Refusals
 pub mod Shown
 pub mod Theorem
 pub mod RuledOut

@@ -54,7 +54,7 @@ one-more l number bytes (datas.PacketTooEarly room need) e = impossible (sym e)
 
 module _ (step : State → Lent → Call → Ended) (demand : Demand3 step) (first : ℕ) (s : State) (f : Fresh first s) (past : List Event) (p : NoneClear past) where
   abbrev b : Book
-  b = bookAfter step (fresh first s) past
+  b = bookAfter step (fresh f) past
 
   abbrev l : Ledger
   l = b .ledger
@@ -73,17 +73,31 @@ module _ (step : State → Lent → Call → Ended) (demand : Demand3 step) (fir
   unfolding bookAfter
   held-then c t q = demand first s f (event c t ∷ past) (q, p) .holds .agrees .entries
 
-  -- a fresh packet: of the number next expected, refused by no test of 1 to 6, with room
-  module _ (time : ℤ) (number message location stamp : ℕ) (t : Lent) (k : stamp < 2 ^ 32) (e : number ≡ numberOf l (nextOf l)) where
+  -- a packet, and what its answer says
+  module _ (time : ℤ) (number message location stamp : ℕ) (t : Lent) (k : stamp < 2 ^ 32) where
     abbrev c : Call
     c = calls.Data time number message location stamp
 
-    told : (x : DataAnswer) → r t c .answer ≡ answers.Data x → Judges l (b .desk .capacity) (earlyRefusal (b .desk) t c) number x
+    abbrev earlier : ℕ
+    earlier = earlyRefusal (b .desk) t c
+
+    told : (x : DataAnswer) → r t c .answer ≡ answers.Data x → Judges l (b .desk .capacity) earlier number x
     told x q = subst (λ (a : Answer). Says l (b .desk) t c a (r t c .output)) q (demand first s f past p .told (event c t) k .says)
+
+    refuses : (x : DataAnswer) → r t c .answer ≡ answers.Data x → Refuses earlier c (answers.Data x)
+    refuses x q = subst (λ (a : Answer). Refuses earlier c a) q (demand first s f past p .told (event c t) k .refuses)
 
     pub answer-is : (x : DataAnswer) × (r t c .answer ≡ answers.Data x)
     answer-is = data-only (r t c .answer) (demand first s f past p .told (event c t) k .kind)
 
+    -- what it acknowledges is the ledger's number after it
+    acks-so : (x : DataAnswer) → r t c .answer ≡ answers.Data x → DataAcks (ackOf (enterData l number (t .payload) x)) x
+    acks-so x q = subst (λ (a : Answer). Acks (ackOf (enter l c (t .payload) a)) a) q (demand first s f past p .told (event c t) k .acks)
+
+  -- a fresh packet: of the number next expected, refused by no test of 1 to 6, with room
+  module _ (time : ℤ) (number message location stamp : ℕ) (t : Lent) (k : stamp < 2 ^ 32) (e : number ≡ numberOf l (nextOf l)) where
+    abbrev fresh-told : (x : DataAnswer) → r t (c time number message location stamp t k) .answer ≡ answers.Data x → Judges l (b .desk .capacity) (earlier time number message location stamp t k) number x
+    fresh-told = told time number message location stamp t k
     -- it is taken: so a program that refuses all is ruled out, and one that compares numbers as plain numbers
     pub must-append : earlyRefusal (b .desk) t c ≡ 0 → length (l .held) < b .desk .capacity → appends (answer-is .0) ≡ true
     must-append z m = told (answer-is .0) (answer-is .1) .next z e m

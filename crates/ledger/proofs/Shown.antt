@@ -5,11 +5,11 @@ use mathlib.Core.List.{List, [], _∷_, map}
 use Prim.Native.Nat.{ℕ, zero, suc, _+_, _^_, _<_, _≤_}
 use native.Mathlib.Nat.{mod-eq-of-lt}
 use native.Mathlib.Omega.{arith}
-use borrow.Author.Tests.{ltb-true, lt-ltb}
-use lib.Dec.{ltb}
+use borrow.Author.Tests.{ltb-true, lt-ltb, leb-false, eqb-true, eqb-false}
+use lib.Dec.{eqb, ltb, lit<}
 use lib.ListN.{length, take, drop, getD}
 use Rattle.numbers.specs.Circular.{distance, sum}
-use Rattle.numbers.proofs.Flags.{impossible, and-left, and-right, by-test}
+use Rattle.numbers.proofs.Flags.{impossible, and-left, and-right, by-bool, by-test}
 use Rattle.numbers.proofs.Circle.{stepped, distance-sum}
 use Rattle.slots.specs.Words as words
 use Rattle.slots.specs.Ring.{payloadAt, payloadStart}
@@ -21,18 +21,21 @@ use Rattle.window.specs.Ready.{InWindow}
 use Rattle.window.specs.Show.{nowhere, shownOf}
 use Rattle.window.specs.declared.Window.{Window}
 use Rattle.window.specs.declared.show.Part.{Part}
+use Rattle.window.proofs.Ranges.{in-window}
+use Rattle.head.specs.Rules.{showRules}
+use Rattle.head.specs.Head.{headOk}
+use Rattle.head.specs.declared.state.Head.{Head}
+use Rattle.head.proofs.Gates.{clear}
+use Rattle.head.proofs.Ready.{in-parts}
+use Rattle.upkeep.specs.Show.{refusalOf, placeCallOf, shownCallOf}
+use Rattle.upkeep.specs.declared.show.ShowAnswer.{ShowAnswer}
 use Rattle.views.specs.View as views
 use Rattle.views.specs.View.{Seen, seenOf, seenAt, entries}
 use Rattle.views.proofs.Lists.{entries-at}
 use Rattle.ledger.specs.Ledger.{Place, lost, received, givenUp, Ledger, numberOf, frontOf}
 use Rattle.ledger.specs.Runs.{placeOf}
+use Rattle.ledger.specs.Claims.{Shows}
 use Rattle.ledger.proofs.Moved.{Stands, window-count, place-number}
-
--- what a part of the payload area shows is what the ledger has for the number
-pub record Shows (l : Ledger) (number : ℕ) (bs : List ℕ) (p : Part) : Type 0 where
-  pub found : p .received ≡ true → (i : ℕ) × (i < length (l .held)) × (numberOf l (frontOf l + i) ≡ number) × (getD (l .held) i lost ≡ received (take (p .len) (drop (p .at) bs)))
-  pub shown : (i : ℕ) (bytes : List ℕ) → i < length (l .held) → numberOf l (frontOf l + i) ≡ number → getD (l .held) i lost ≡ received bytes → (p .received ≡ true) × (take (p .len) (drop (p .at) bs) ≡ bytes)
-  pub empty : p .received ≡ false → p .len ≡ 0
 
 getD-map : {A B : Type 0} (f : A → B) (xs : List A) (i : ℕ) (d : A) → getD (map f xs) i (f d) ≡ f (getD xs i d)
 getD-map f [] i d = refl
@@ -71,33 +74,90 @@ module _ (S : ℕ → List ℕ → Type 0) (l : Ledger) (w : Window) (ws bs : Li
   index-is i k e =
       ap (λ (x : ℕ). distance 31 x (w .seqno0)) (sym e ∙ sym (place-number a i)) ∙ distance-sum 31 (w .seqno0) {n = i} (omega (arith, r .holds, r .most))
 
+  abbrev Found : Part → Type 0
+  Found p = p .received ≡ true → (i : ℕ) × (i < length (l .held)) × (numberOf l (frontOf l + i) ≡ number) × (getD (l .held) i lost ≡ received (take (p .len) (drop (p .at) bs)))
+
+  abbrev ShownIn : Part → Type 0
+  ShownIn p =
+      (i : ℕ) (bytes : List ℕ) → i < length (l .held) → numberOf l (frontOf l + i) ≡ number → getD (l .held) i lost ≡ received bytes
+      → (p .received ≡ true) × (take (p .len) (drop (p .at) bs) ≡ bytes)
+
+  abbrev Blank : Part → Type 0
+  Blank p = p .received ≡ false → p .len ≡ 0
+
   abbrev test : Bool
   test = ltb at (w .held) && words.isReceived (entryIn w ws at)
 
-  pub shows : Shows l number bs (shownOf w ws number)
+  -- what the window shows is what the ledger has for the number
+  found-so : Found (shownOf w ws number)
   unfolding shownOf
-  shows =
-      by-test (Shows l number bs) test (record { received = true; at = payloadStart (slotIn w at); len = words.lengthIn (entryIn w ws at) }) nowhere
+  found-so =
+      by-test Found test (record { received = true; at = payloadStart (slotIn w at); len = words.lengthIn (entryIn w ws at) }) nowhere
+      (λ t.
+      let h = ltb-true at (w .held) (and-left (ltb at (w .held)) (words.isReceived (entryIn w ws at)) t) in
+      let u = and-right (ltb at (w .held)) (words.isReceived (entryIn w ws at)) t in
+      λ e. (at, omega (arith, window-count ws bs a, h), numbered, place-is at h ∙ received-place bs (slotIn w at) (entryIn w ws at) u))
+      (λ t e. impossible (sym e))
+
+  shown-so : ShownIn (shownOf w ws number)
+  unfolding shownOf
+  shown-so =
+      by-test ShownIn test (record { received = true; at = payloadStart (slotIn w at); len = words.lengthIn (entryIn w ws at) }) nowhere
       (λ t.
       let h = ltb-true at (w .held) (and-left (ltb at (w .held)) (words.isReceived (entryIn w ws at)) t) in
       let u = and-right (ltb at (w .held)) (words.isReceived (entryIn w ws at)) t in
       let p = place-is at h ∙ received-place bs (slotIn w at) (entryIn w ws at) u in
-      record {
-        found = λ e. (at, omega (arith, window-count ws bs a, h), numbered, p);
-        shown = λ i bytes k e q. (refl, same-bytes (sym p ∙ ap (λ (x : ℕ). getD (l .held) x lost) (index-is i (omega (arith, window-count ws bs a)) e) ∙ q));
-        empty = λ e. impossible e;
-      })
+      λ i bytes k e q. (refl, same-bytes (sym p ∙ ap (λ (x : ℕ). getD (l .held) x lost) (index-is i (omega (arith, window-count ws bs a)) e) ∙ q)))
+      (λ t i bytes k e q.
+      let h : i < w .held = omega (arith, window-count ws bs a) in
+      let y = index-is i h e in
+      let v = place-received bs (slotIn w i) (entryIn w ws i) bytes (sym (place-is i h) ∙ q) in
+      let f : ltb at (w .held) ≡ true = lt-ltb at (w .held) (omega (arith, y, h)) in
+      let g : words.isReceived (entryIn w ws at) ≡ true = ap (λ (x : ℕ). words.isReceived (entryIn w ws x)) y ∙ v in
+      let c : test ≡ true = rw (f, g) in
+      impossible (sym c ∙ t))
+
+  empty-so : Blank (shownOf w ws number)
+  unfolding shownOf
+  empty-so =
+      by-test Blank test (record { received = true; at = payloadStart (slotIn w at); len = words.lengthIn (entryIn w ws at) }) nowhere
+      (λ t e. impossible e)
+      (λ t e. refl)
+
+-- the call, with its second question
+module _ (S : ℕ → List ℕ → Type 0) (l : Ledger) (h : Head) (ws bs : List ℕ) (a : Stands S l (h .window) (entries (h .window) ws bs)) (ok : headOk h ≡ true) (number : ℕ) where
+  abbrev tests : ℕ
+  tests = refusalOf h ws (length bs) number
+
+  -- the number's range, from the test of it
+  in-number : tests ≡ 0 → number < 2 ^ 31
+  in-number z =
+      leb-false (2 ^ 31) number
+      (clear (showRules (headOk h) (h .window .capacity) (length ws) (length bs) number) (lit< tt, (lit< tt, (lit< tt, (lit< tt, tt)))) z .1 .1 .1 .0)
+
+  abbrev Right : Part → ShowAnswer → Type 0
+  Right p x = Shows l tests number bs p x
+
+  pub shows : Right (placeCallOf h ws (length bs) number) (shownCallOf h ws (length bs) number .answer)
+  unfolding placeCallOf shownCallOf
+  shows =
+      by-bool (eqb tests 0)
       (λ t.
-      record {
+      let z = eqb-true tests 0 t in
+      let n = in-number z in
+      let r = in-window (h .window) (in-parts h ok .window) in
+      rw t
+      (record {
+        found = found-so S l (h .window) ws bs a r number n;
+        shown = λ e. shown-so S l (h .window) ws bs a r number n;
+        empty = empty-so S l (h .window) ws bs a r number n;
+        answer = rw t;
+      }))
+      (λ t.
+      rw t
+      (record {
         found = λ e. impossible (sym e);
-        shown =
-            λ i bytes k e q.
-            let h : i < w .held = omega (arith, window-count ws bs a) in
-            let y = index-is i h e in
-            let v = place-received bs (slotIn w i) (entryIn w ws i) bytes (sym (place-is i h) ∙ q) in
-            let f : ltb at (w .held) ≡ true = lt-ltb at (w .held) (omega (arith, y, h)) in
-            let g : words.isReceived (entryIn w ws at) ≡ true = ap (λ (x : ℕ). words.isReceived (entryIn w ws x)) y ∙ v in
-            let c : test ≡ true = rw (f, g) in
-            impossible (sym c ∙ t);
+        shown = λ e. absurd (eqb-false tests 0 t e);
         empty = λ e. refl;
-      })
+        answer = rw t;
+      }))

@@ -7,11 +7,11 @@ use native.Mathlib.Omega.{arith}
 use borrow.Author.Tests.{leb-false}
 use lib.Dec.{lit<}
 use lib.IntN.{ℤ}
-use lib.ListN.{length, getD, take}
+use lib.ListN.{length, getD, take, length-map}
 use Rattle.numbers.specs.Circular.{distance, sum}
 use Rattle.numbers.proofs.Circle.{sum-zero}
 use Rattle.numbers.proofs.Places.{place-one}
-use Rattle.head.specs.Rules.{firstRefusal, makeRules, pushRules, headRules}
+use Rattle.head.specs.Rules.{firstRefusal, makeRules, showRules, headRules}
 use Rattle.head.specs.Head.{headOk, freshHead, madeOf}
 use Rattle.head.specs.declared.state.Head.{Head}
 use Rattle.head.specs.declared.state.Made.{Made}
@@ -19,13 +19,15 @@ use Rattle.head.proofs.Gates.{clear}
 use Rattle.head.proofs.Ready.{in-parts}
 use Rattle.window.proofs.Ranges.{in-window}
 use Rattle.receiver.specs.Data.{packet, dataCallOf}
-use Rattle.window.specs.declared.push.Packet.{Packet}
 use Rattle.receiver.specs.Paper.{dataLine}
 use Rattle.receiver.specs.declared.data.DataAnswer.{DataAnswer}
 use Rattle.receiver.specs.declared.data.DataAnswer.the-variants as datas
 use Rattle.receiver.specs.declared.message.MessageAnswer.{MessageAnswer}
 use Rattle.receiver.specs.declared.message.MessageAnswer.the-variants as messages
+use Rattle.window.specs.declared.show.Part.{Part}
 use Rattle.upkeep.specs.Request.{ClearOutcome, clearedOf, clearCallOf}
+use Rattle.upkeep.specs.Show.{refusalOf, placeCallOf, shownCallOf}
+use Rattle.upkeep.specs.declared.show.ShowAnswer.{ShowAnswer}
 use Rattle.upkeep.specs.declared.request.DropAnswer.{DropAnswer}
 use Rattle.upkeep.specs.declared.request.DropAnswer.the-variants as drops
 use Rattle.kept.proofs.DataKept.{made-kept, data-kept, loss-kept, cleared-kept}
@@ -41,13 +43,15 @@ use Rattle.ledger.specs.Runs.{placeOf}
 use Rattle.views.proofs.Lists.{entries-length}
 use Rattle.ledger.specs.Ledger.{Place, receivedRun, Fate, released, discarded, bytesOf, Ledger, opened, numberOf, frontOf, nextOf, enterData, enterPop, enterDrop, enter, releasedBytes}
 use Rattle.ledger.specs.Seen.{numberIn, lastIn, NotClear, outBytes, placesIn, kindOf, kindIn}
-use Rattle.ledger.specs.Runs.{Event, Desk, Known, Book, answered, turned, bookAfter, Fresh, fresh, NoneClear, handedOut, Sent, now, before, entered, Empty}
-use Rattle.ledger.specs.Claims.{Stretch, Holds, Judges, refusalBy, earlyRefusal, Acks, Says, Settled, Told, Demand3}
+use Rattle.ledger.specs.Runs.{Event, Desk, Known, Book, opening, answered, turned, bookAfter, Fresh, freshDesk, fresh, NoneClear, handedOut, Sent, now, before, entered, Empty}
+use Rattle.ledger.specs.Claims.{Holds, Judges, earlyRefusal, Acks, Says, Told, Demand3, Stretch, showRefusal, Shows, DemandShown}
 use Rattle.ledger.proofs.Owned.{nothing, empty}
 use Rattle.ledger.proofs.Moved.{Stands, Moved, held-count, window-count, lrsn-said}
 use Rattle.ledger.proofs.Moves.{by-refusal}
 use Rattle.ledger.proofs.Data.{data-stands}
 use Rattle.ledger.proofs.Knows.{step-same, known-after, step-acks, step-line}
+use Rattle.ledger.proofs.Refusals.{refusalNow, known-refusal, station-refuses}
+use Rattle.ledger.proofs.Shown.{shows}
 use Rattle.ledger.proofs.Pop.{pop-stands, pop-tells}
 use Rattle.ledger.proofs.Judged.{data-judged}
 use Rattle.ledger.proofs.Others.{report-stands, drop-stands, drop-counted, full-ack-stands, ack2-stands, clock-stands}
@@ -92,65 +96,21 @@ step-kind s t (calls.Clock time stamp) = refl
 step-kind s t calls.Clear = refl
 
 -- what its answer says is so
-module _ (l : Ledger) (number len : ℕ) (time : ℤ) (p : Packet) (a : DataAnswer) where
-  abbrev Judging : Bool → ℕ → ℕ → ℕ → ℤ → Type 0
-  Judging ok capacity slots payloads latest = Judges l capacity (firstRefusal (pushRules ok capacity slots payloads time latest p len)) number a
-
-  -- the tests, by what the station knows
-  by-station : (s : State) (d : Desk) → Known d s → headOk (s .head) ≡ true → Judging (headOk (s .head)) (s .head .window .capacity) (length (s .slots)) (length (s .payloads)) (s .head .latest)
-      → Judging true (d .capacity) (d .slots) (d .payloads) (d .latest)
-  by-station s d k o j =
-      subst (λ (x : ℤ). Judging true (d .capacity) (d .slots) (d .payloads) x) (k .latest)
-      (subst (λ (x : ℕ). Judging true (d .capacity) (d .slots) x (s .head .latest)) (k .payloads)
-      (subst (λ (x : ℕ). Judging true (d .capacity) x (length (s .payloads)) (s .head .latest)) (k .slots)
-      (subst (λ (x : ℕ). Judging true x (length (s .slots)) (length (s .payloads)) (s .head .latest)) (k .capacity)
-      (subst (λ (x : Bool). Judging x (s .head .window .capacity) (length (s .slots)) (length (s .payloads)) (s .head .latest)) o j))))
-
 step-says : (S : ℕ → List ℕ → Type 0) (l : Ledger) (d : Desk) (s : State) (t : Lent) (c : Call) → NotClear c → Stands S l (s .head .window) (seen s) → Known d s → headOk (s .head) ≡ true
     → Says l d t c (stepOf s t c .answer) (stepOf s t c .output)
 step-says S l d s t (calls.Data time number message location stamp) p a k o =
-    by-station l number (length (t .payload)) time (packet number message location stamp) (dataCallOf (s .head) (s .slots) (s .payloads) time (packet number message location stamp) (t .payload) .handled .answer) s d k o
-    (data-judged S l (s .head) (s .slots) (s .payloads) time (packet number message location stamp) (t .payload) p a)
-step-says S l d s t (calls.Pop time) p a k o = pop-tells S l (s .head) (s .slots) (s .payloads) (t .output) time a
+    let x = dataCallOf (s .head) (s .slots) (s .payloads) time (packet number message location stamp) (t .payload) .handled .answer in
+    let c = calls.Data time number message location stamp in
+    subst (λ (n : ℕ). Judges l (d .capacity) n number x) (known-refusal t c k o)
+    (subst (λ (n : ℕ). Judges l n (refusalNow s t c) number x) (k .capacity)
+    (data-judged S l (s .head) (s .slots) (s .payloads) time (packet number message location stamp) (t .payload) p a))
+step-says S l d s t (calls.Pop time) p a k o = pop-tells S l (s .head) (s .slots) (s .payloads) (t .output) time a d (k .dropping)
 step-says S l d s t (calls.Report time) p a k o = tt
 step-says S l d s t (calls.FullAck time) p a k o = tt
 step-says S l d s t (calls.Ack2 time number) p a k o = tt
 step-says S l d s t (calls.Drop first last) p a k o = drop-counted S l (s .head) (s .slots) (s .payloads) a first last
 step-says S l d s t (calls.Clock time stamp) p a k o = tt
 step-says S l d s t calls.Clear p a k o = absurd p
-
--- what is gone stays as it is
-kept-fate : (fs gs : List Fate) (p : ℕ) → p < length fs → getD (fs ++ gs) p discarded ≡ getD fs p discarded
-kept-fate [] gs p h = absurd (omega arith)
-kept-fate (f ∷ fs) gs zero h = refl
-kept-fate (f ∷ fs) gs (suc p) h = kept-fate fs gs p (omega arith)
-
-pop-settled : (l : Ledger) (a : MessageAnswer) → Settled l (enterPop l a)
-pop-settled l messages.Nothing p h = refl
-pop-settled l (messages.Message time bytes packets) p h = kept-fate (l .gone) (map (λ x. released (bytesOf x)) (take packets (l .held))) p h
-pop-settled l (messages.Late first end delay) p h = kept-fate (l .gone) (map (λ x. discarded) (take (distance 31 end first) (l .held))) p h
-pop-settled l (messages.Refused n) p h = refl
-
-data-settled : (l : Ledger) (number : ℕ) (bytes : List ℕ) (a : DataAnswer) → Settled l (enterData l number bytes a)
-data-settled l number bytes (datas.Got lrsn recovered) p h = refl
-data-settled l number bytes (datas.Light lrsn recovered) p h = refl
-data-settled l number bytes (datas.Loss x y) p h = refl
-data-settled l number bytes (datas.Refused n) p h = refl
-data-settled l number bytes (datas.PacketTooEarly room need) p h = refl
-
-drop-settled : (l : Ledger) (first last : ℕ) (a : DropAnswer) → Settled l (enterDrop l first last a)
-drop-settled l first last (drops.Gone n) p h = refl
-drop-settled l first last (drops.Refused n) p h = refl
-
-settled : (l : Ledger) (c : Call) (bytes : List ℕ) (a : Answer) → Settled l (enter l c bytes a)
-settled l c bytes (answers.Data a) p h = data-settled l (numberIn c) bytes a p h
-settled l c bytes (answers.Pop a) p h = pop-settled l a p h
-settled l c bytes (answers.Report a) p h = refl
-settled l c bytes (answers.FullAck a) p h = refl
-settled l c bytes (answers.Ack2 a) p h = refl
-settled l c bytes (answers.Drop a) p h = drop-settled l (numberIn c) (lastIn c) a p h
-settled l c bytes (answers.Clock a) p h = refl
-settled l c bytes (answers.Clear a) p h = refl
 
 -- a head in range stays there
 step-kept : (s : State) (t : Lent) (c : Call) → NotClear c → headOk (s .head) ≡ true → headOk (stepOf s t c .state .head) ≡ true
@@ -205,6 +165,28 @@ fresh-empty first s f =
     let e : s .head ≡ freshHead (f .start) (f .latency) (f .dropping) first (f .capacity) = f .head ∙ m .0 in
     record { kept = fresh-kept first s f; none = ap (λ (h : Head). h .window .held) e; begins = ap (λ (h : Head). h .window .seqno0) e; acked = ap (λ (h : Head). h .window .lrsn) e }
 
+fresh-known : (first : ℕ) (s : State) (f : Fresh first s) → Known (freshDesk f) s
+unfolding freshHead
+fresh-known first s f =
+    let m = made-fresh (f .start) (f .latency) (f .dropping) first (f .capacity) (f .made) in
+    let e : s .head ≡ freshHead (f .start) (f .latency) (f .dropping) first (f .capacity) = f .head ∙ m .0 in
+    record {
+      capacity = ap (λ (h : Head). h .window .capacity) e;
+      latency = ap (λ (h : Head). h .latency) e;
+      dropping = ap (λ (h : Head). h .dropping) e;
+      slots = refl;
+      payloads = refl;
+      history = refl;
+      latest = ap (λ (h : Head). h .latest) e;
+    }
+
+-- what show shows, and what its second question answers
+abbrev pub placeNow : State → ℕ → Part
+placeNow s number = placeCallOf (s .head) (s .slots) (length (s .payloads)) number
+
+abbrev pub questionNow : State → ℕ → ShowAnswer
+questionNow s number = shownCallOf (s .head) (s .slots) (length (s .payloads)) number .answer
+
 -- any calls, the newest first
 feeds : (c : Call) (t : Lent) (past : List Event) → Fed (Sent (record { call = c; lent = t } ∷ past)) c (t .payload)
 feeds (calls.Data time number message location stamp) t past = now time number message location stamp t past
@@ -226,9 +208,9 @@ older e past l s a =
       ownHeld = λ i bytes q. before e past (sum 31 (l .first) (frontOf l + i)) bytes (a .ownHeld i bytes q);
     }
 
-module _ (first : ℕ) (s : State) (f : Empty first s) where
+module _ (first : ℕ) (d : Desk) (s : State) (f : Empty first s) (g : Known d s) where
   abbrev b : Book
-  b = fresh first s
+  b = opening first d s
 
   abbrev at : List Event → Book
   at past = bookAfter stepOf b past
@@ -262,7 +244,7 @@ module _ (first : ℕ) (s : State) (f : Empty first s) where
 
   run-known : (past : List Event) → NoneClear past → Known (at past .desk) (at past .state)
   unfolding bookAfter
-  run-known [] p = record { capacity = refl; slots = refl; payloads = refl; latest = refl }
+  run-known [] p = g
   run-known (e ∷ past) p = known-after (run-known past (p .1)) (step-same (at past .state) (e .lent) (e .call) (p .0) (run-stands past (p .1) .right))
 
   run-handed : (past : List Event) → NoneClear past → handedOut stepOf b past ≡ releasedBytes (at past .ledger .gone)
@@ -313,59 +295,137 @@ module _ (first : ℕ) (s : State) (f : Empty first s) where
         kind = step-kind (at past .state) (e .lent) (e .call);
         line = step-line (at past .state) (e .lent) (e .call);
         acks = subst (λ (x : ℕ). Acks x (then e past .answer)) (lrsn-said (one-more e past q (run-stands past p) .stands)) (step-acks (at past .state) (e .lent) (e .call) q);
+        refuses = station-refuses (at past .state) (e .lent) (e .call) q (run-known past p) (run-kept past p);
         says = step-says (Sent past) (at past .ledger) (at past .desk) (at past .state) (e .lent) (e .call) q (run-stands past p) (run-known past p) (run-kept past p);
-        settled = settled (at past .ledger) (e .call) (e .lent .payload) (then e past .answer);
       }
 
--- demand 3, of the receiver
+  run-shows : (past : List Event) → NoneClear past → (number : ℕ)
+      → Shows (at past .ledger) (showRefusal (at past .desk) number) number (at past .state .payloads) (placeNow (at past .state) number) (questionNow (at past .state) number)
+  run-shows past p number =
+      let s₁ = at past .state in
+      let k = run-known past p in
+      let o = run-kept past p in
+      let e : refusalOf (s₁ .head) (s₁ .slots) (length (s₁ .payloads)) number ≡ showRefusal (at past .desk) number =
+      ap (λ (x : Bool). firstRefusal (showRules x (s₁ .head .window .capacity) (length (s₁ .slots)) (length (s₁ .payloads)) number)) o
+      ∙ ap (λ (x : ℕ). firstRefusal (showRules true x (length (s₁ .slots)) (length (s₁ .payloads)) number)) (k .capacity)
+      ∙ ap (λ (x : ℕ). firstRefusal (showRules true (at past .desk .capacity) x (length (s₁ .payloads)) number)) (k .slots)
+      ∙ ap (λ (x : ℕ). firstRefusal (showRules true (at past .desk .capacity) (at past .desk .slots) x number)) (k .payloads) in
+      subst (λ (n : ℕ). Shows (at past .ledger) n number (s₁ .payloads) (placeNow s₁ number) (questionNow s₁ number)) e
+      (shows (Sent past) (at past .ledger) (s₁ .head) (s₁ .slots) (s₁ .payloads) (run-stands past p) o number)
+
+-- demand 3, of the receiver: in a stretch, and from a fresh one on
 pub stretch-theorem : Stretch stepOf
-stretch-theorem first s f past p = record { holds = run-holds first s f past p; told = run-told first s f past p }
+stretch-theorem first d s f g past p = record { holds = run-holds first d s f g past p; told = run-told first d s f g past p }
 
 pub ledger-theorem : Demand3 stepOf
-ledger-theorem first s f past p = stretch-theorem first s (fresh-empty first s f) past p
+ledger-theorem first s f past p = stretch-theorem first (freshDesk f) s (fresh-empty first s f) (fresh-known first s f) past p
+
+-- what is shown after any calls
+pub show-theorem : DemandShown stepOf placeNow questionNow
+show-theorem first s f past p number = run-shows first (freshDesk f) s (fresh-empty first s f) (fresh-known first s f) past p number
 
 -- the fault that lost three passes: a fresh packet, of the number next expected after any number of wraps, is never refused as a duplicate
-pub fresh-never-duplicate : (first : ℕ) (s : State) → Fresh first s → (past : List Event) → NoneClear past → (time : ℤ) (number message location stamp : ℕ) (t : Lent) → stamp < 2 ^ 32
-    → number ≡ numberOf (bookAfter stepOf (fresh first s) past .ledger) (nextOf (bookAfter stepOf (fresh first s) past .ledger))
-    → (a : DataAnswer) → stepOf (bookAfter stepOf (fresh first s) past .state) t (calls.Data time number message location stamp) .answer ≡ answers.Data a
+pub fresh-never-duplicate : (first : ℕ) (s : State) (f : Fresh first s) (past : List Event) → NoneClear past → (time : ℤ) (number message location stamp : ℕ) (t : Lent) → stamp < 2 ^ 32
+    → number ≡ numberOf (bookAfter stepOf (fresh f) past .ledger) (nextOf (bookAfter stepOf (fresh f) past .ledger))
+    → (a : DataAnswer) → stepOf (bookAfter stepOf (fresh f) past .state) t (calls.Data time number message location stamp) .answer ≡ answers.Data a
     → dataLine a .refusal ≡ 10 → ⊥
-fresh-never-duplicate first s g past p time number message location stamp t k e a x q =
-    let f = fresh-empty first s g in
-    let b = bookAfter stepOf (fresh first s) past in
-    let u = run-told first s f past p (record { call = calls.Data time number message location stamp; lent = t }) k .says in
-    let v : Judges (b .ledger) (b .desk .capacity) (earlyRefusal (b .desk) t (calls.Data time number message location stamp)) number a =
-    subst (λ (y : Answer). Says (b .ledger) (b .desk) t (calls.Data time number message location stamp) y (stepOf (b .state) t (calls.Data time number message location stamp) .output)) x u in
+fresh-never-duplicate first s f past p time number message location stamp t k e a x q =
+    let b = bookAfter stepOf (fresh f) past in
+    let c = calls.Data time number message location stamp in
+    let h = ledger-theorem first s f past p .holds in
+    let u = ledger-theorem first s f past p .told (record { call = c; lent = t }) k .says in
+    let v : Judges (b .ledger) (b .desk .capacity) (earlyRefusal (b .desk) t c) number a =
+    subst (λ (y : Answer). Says (b .ledger) (b .desk) t c y (stepOf (b .state) t c .output)) x u in
     let d = v .duplicate q in
-    let r = in-window (b .state .head .window) (in-parts (b .state .head) (run-kept first s f past p) .window) in
-    let n = held-count (run-stands first s f past p) in
-    let m = entries-length (b .state .head .window .capacity) (b .state .head .window .start) (b .state .slots) (b .state .payloads) 0 (b .state .head .window .held) in
+    let w = b .state .head .window in
+    let r = in-window w (in-parts (b .state .head) (h .inRange) .window) in
+    let n = sym (length-map (seen (b .state)) placeOf) ∙ ap length (h .agrees .entries) in
+    let m = entries-length (w .capacity) (w .start) (b .state .slots) (b .state .payloads) 0 (w .held) in
     let z = place-one 31 (b .ledger .first) (frontOf (b .ledger)) (frontOf (b .ledger) + d .0) (nextOf (b .ledger)) (omega arith) (omega (arith, n, m, r .holds, r .most, d .1)) (omega arith) (omega (arith, n, m, r .holds, r .most)) (d .2 ∙ e) in
     let y = d .1 in
     omega arith
 
--- a run that holds nothing is a new start, and so is a clear of it
-pub empty-again : (first : ℕ) (s : State) → Empty first s → (past : List Event) → NoneClear past
-    → length (bookAfter stepOf (fresh first s) past .ledger .held) ≡ 0
-    → Empty (numberOf (bookAfter stepOf (fresh first s) past .ledger) (frontOf (bookAfter stepOf (fresh first s) past .ledger))) (bookAfter stepOf (fresh first s) past .state)
-unfolding runOf
-empty-again first s f past p z =
-    let b = bookAfter stepOf (fresh first s) past in
-    let a = run-stands first s f past p in
-    let n = window-count (b .state .slots) (b .state .payloads) a in
-    let e : b .ledger .held ≡ [] = none-held (b .ledger .held) z in
-    let q : frontOf (b .ledger) + 0 ≡ frontOf (b .ledger) = omega arith in
-    record { kept = run-kept first s f past p; none = n ∙ z; begins = a .front; acked = lrsn-said a ∙ ap (λ (x : List Place). numberOf (b .ledger) (frontOf (b .ledger) + receivedRun x)) e ∙ ap (numberOf (b .ledger)) q }
-  where
-    none-held : (xs : List Place) → length xs ≡ 0 → xs ≡ []
-    none-held [] e = refl
-    none-held (x ∷ xs) e = absurd (omega arith)
+-- a run that holds nothing is a new start, and so is a clear of it; what the station knows goes on
+module _ (first : ℕ) (d : Desk) (s : State) (f : Empty first s) (g : Known d s) (past : List Event) (p : NoneClear past) where
+  abbrev last : Book
+  last = bookAfter stepOf (opening first d s) past
 
-pub clear-empty : (first : ℕ) (s : State) (t : Lent) → Empty first s → Empty first (stepOf s t calls.Clear .state)
+  pub empty-again : length (last .ledger .held) ≡ 0 → Empty (numberOf (last .ledger) (frontOf (last .ledger))) (last .state) × Known (last .desk) (last .state)
+  unfolding runOf
+  empty-again z =
+      let a = run-stands first d s f g past p in
+      let n = window-count (last .state .slots) (last .state .payloads) a in
+      let e : last .ledger .held ≡ [] = none-held (last .ledger .held) z in
+      let q : frontOf (last .ledger) + 0 ≡ frontOf (last .ledger) = omega arith in (
+        record {
+          kept = run-kept first d s f g past p;
+          none = n ∙ z;
+          begins = a .front;
+          acked =
+              lrsn-said a
+              ∙ ap (λ (x : List Place). numberOf (last .ledger) (frontOf (last .ledger) + receivedRun x)) e
+              ∙ ap (numberOf (last .ledger)) q;
+        },
+        run-known first d s f g past p,
+      )
+    where
+      none-held : (xs : List Place) → length xs ≡ 0 → xs ≡ []
+      none-held [] e = refl
+      none-held (x ∷ xs) e = absurd (omega arith)
+
+pub clear-empty : (first : ℕ) (d : Desk) (s : State) (t : Lent) → Empty first s → Known d s → Empty first (stepOf s t calls.Clear .state) × Known d (stepOf s t calls.Clear .state)
 unfolding clearCallOf clearedOf
-clear-empty first s t f =
-    record {
-      kept = cleared-kept (s .head) (f .kept);
-      none = by-refusal (λ (o : ClearOutcome). o .cleared .head .window .held ≡ 0) (firstRefusal (headRules (headOk (s .head)))) _ _ (λ z. refl) (λ z. f .none);
-      begins = by-refusal (λ (o : ClearOutcome). o .cleared .head .window .seqno0 ≡ first) (firstRefusal (headRules (headOk (s .head)))) _ _ (λ z. f .begins) (λ z. f .begins);
-      acked = by-refusal (λ (o : ClearOutcome). o .cleared .head .window .lrsn ≡ first) (firstRefusal (headRules (headOk (s .head)))) _ _ (λ z. f .acked) (λ z. f .acked);
-    }
+clear-empty first d s t f k =
+    let n = firstRefusal (headRules (headOk (s .head))) in (
+      record {
+        kept = cleared-kept (s .head) (f .kept);
+        none = by-refusal (λ (o : ClearOutcome). o .cleared .head .window .held ≡ 0) n _ _ (λ z. refl) (λ z. f .none);
+        begins = by-refusal (λ (o : ClearOutcome). o .cleared .head .window .seqno0 ≡ first) n _ _ (λ z. f .begins) (λ z. f .begins);
+        acked = by-refusal (λ (o : ClearOutcome). o .cleared .head .window .lrsn ≡ first) n _ _ (λ z. f .acked) (λ z. f .acked);
+      },
+      record {
+        capacity = by-refusal (λ (o : ClearOutcome). o .cleared .head .window .capacity ≡ d .capacity) n _ _ (λ z. k .capacity) (λ z. k .capacity);
+        latency = by-refusal (λ (o : ClearOutcome). o .cleared .head .latency ≡ d .latency) n _ _ (λ z. k .latency) (λ z. k .latency);
+        dropping = by-refusal (λ (o : ClearOutcome). o .cleared .head .dropping ≡ d .dropping) n _ _ (λ z. k .dropping) (λ z. k .dropping);
+        slots = k .slots;
+        payloads = k .payloads;
+        history = k .history;
+        latest = by-refusal (λ (o : ClearOutcome). o .cleared .head .latest ≡ d .latest) n _ _ (λ z. k .latest) (λ z. k .latest);
+      },
+    )
+
+-- of the ledger's own form, whatever the answers are: the fate of a place that is gone never changes
+abbrev Stays : Ledger → Ledger → Type 0
+Stays l l₁ = (p : ℕ) → p < frontOf l → getD (l₁ .gone) p discarded ≡ getD (l .gone) p discarded
+
+kept-fate : (fs gs : List Fate) (p : ℕ) → p < length fs → getD (fs ++ gs) p discarded ≡ getD fs p discarded
+kept-fate [] gs p h = absurd (omega arith)
+kept-fate (f ∷ fs) gs zero h = refl
+kept-fate (f ∷ fs) gs (suc p) h = kept-fate fs gs p (omega arith)
+
+pop-settled : (l : Ledger) (a : MessageAnswer) → Stays l (enterPop l a)
+pop-settled l messages.Nothing p h = refl
+pop-settled l (messages.Message time bytes packets) p h = kept-fate (l .gone) (map (λ x. released (bytesOf x)) (take packets (l .held))) p h
+pop-settled l (messages.Late first end delay) p h = kept-fate (l .gone) (map (λ x. discarded) (take (distance 31 end first) (l .held))) p h
+pop-settled l (messages.Refused n) p h = refl
+
+data-settled : (l : Ledger) (number : ℕ) (bytes : List ℕ) (a : DataAnswer) → Stays l (enterData l number bytes a)
+data-settled l number bytes (datas.Got lrsn recovered) p h = refl
+data-settled l number bytes (datas.Light lrsn recovered) p h = refl
+data-settled l number bytes (datas.Loss x y) p h = refl
+data-settled l number bytes (datas.Refused n) p h = refl
+data-settled l number bytes (datas.PacketTooEarly room need) p h = refl
+
+drop-settled : (l : Ledger) (first last : ℕ) (a : DropAnswer) → Stays l (enterDrop l first last a)
+drop-settled l first last (drops.Gone n) p h = refl
+drop-settled l first last (drops.Refused n) p h = refl
+
+pub settled : (l : Ledger) (c : Call) (bytes : List ℕ) (a : Answer) → Stays l (enter l c bytes a)
+settled l c bytes (answers.Data a) p h = data-settled l (numberIn c) bytes a p h
+settled l c bytes (answers.Pop a) p h = pop-settled l a p h
+settled l c bytes (answers.Report a) p h = refl
+settled l c bytes (answers.FullAck a) p h = refl
+settled l c bytes (answers.Ack2 a) p h = refl
+settled l c bytes (answers.Drop a) p h = drop-settled l (numberIn c) (lastIn c) a p h
+settled l c bytes (answers.Clock a) p h = refl
+settled l c bytes (answers.Clear a) p h = refl

@@ -1,14 +1,18 @@
 -- What is claimed: demand 3, "for a fresh receiver and any calls past any number of wraps, nothing is released twice, out of order, with other bytes, or
--- dropped unseen". The ledger is in Ledger, a run in Runs. Above each claim stands its phrase of the demand.
+-- dropped unseen". The ledger is in Ledger, a run in Runs. Above each claim is its phrase of the demand; docs/WHERE.md has the users' own words, phrase by phrase.
 use mathlib.Core.Path.{_≡_}
-use mathlib.Core.Bool.{Bool, true, _||_}
-use mathlib.Core.List.{List, map}
+use mathlib.Core.Bool.{Bool, true, false, _||_, cond}
+use mathlib.Core.List.{List, [], map}
 use mathlib.Core.Logic.{_⊎_}
-use Prim.Native.Nat.{ℕ, _+_, _-_, _^_, _<_, _≤_}
-use lib.ListN.{length, take, getD}
+use Prim.Native.Nat.{ℕ, _+_, _-_, _*_, _^_, _<_, _≤_}
+use lib.Dec.{eqb}
+use lib.IntN.{ℤ}
+use lib.ListN.{length, take, drop, getD}
 use Rattle.numbers.specs.Circular.{distance, before, after, sum}
+use Rattle.window.specs.declared.show.Part.{Part}
 use Rattle.head.specs.Head.{headOk}
-use Rattle.head.specs.Rules.{firstRefusal, pushRules}
+use Rattle.head.specs.Paper as paper
+use Rattle.head.specs.Rules.{firstRefusal, pushRules, popRules, timedRules, dropRules, showRules, clockRules, headRules}
 use Rattle.receiver.specs.Data.{packet}
 use Rattle.receiver.specs.Paper.{dataLine}
 use Rattle.receiver.specs.declared.data.DataAnswer.{DataAnswer}
@@ -19,18 +23,20 @@ use Rattle.receiver.specs.declared.message.MessageAnswer.{MessageAnswer}
 use Rattle.receiver.specs.declared.message.MessageAnswer.the-variants as messages
 use Rattle.upkeep.specs.declared.request.DropAnswer.{DropAnswer}
 use Rattle.upkeep.specs.declared.request.DropAnswer.the-variants as drops
+use Rattle.upkeep.specs.declared.show.ShowAnswer.{ShowAnswer}
+use Rattle.upkeep.specs.declared.show.ShowAnswer.the-variants as shows
 use Rattle.step.specs.Step.{State, Lent, Ended, lineOf}
 use Rattle.step.specs.declared.Call.{Call}
 use Rattle.step.specs.declared.Call.the-variants as calls
 use Rattle.step.specs.declared.Answer.{Answer}
 use Rattle.step.specs.declared.Answer.the-variants as answers
-use Rattle.ledger.specs.Seen.{NotClear, numberIn, lastIn, appends, recovers, isLoss, LossIs, EarlyIs, kindOf, kindIn}
+use Rattle.ledger.specs.Seen.{NotClear, numberIn, lastIn, appends, recovers, isLoss, LossIs, EarlyIs, kindOf, kindIn, refusalIn}
 use Rattle.ledger.specs.Ledger.{lost, received, givenUp, released, discarded, Ledger, numberOf, frontOf, nextOf, ackOf, bytesOf, receivedRun, lostCount, releasedBytes, enterDrop}
-use Rattle.ledger.specs.Runs.{Event, Desk, Book, Known, Fresh, Empty, fresh, NoneClear, answered, turned, bookAfter, handedOut, entered, Sent, Agrees}
+use Rattle.ledger.specs.Runs.{Event, Desk, Book, opening, Known, Fresh, fresh, Empty, NoneClear, answered, turned, bookAfter, handedOut, entered, Sent, Agrees}
 
 -- after any calls: past has them all, out is all that they handed out, count how many places they entered
 pub record Holds (l : Ledger) (d : Desk) (s : State) (past : List Event) (out : List ℕ) (count : ℕ) : Type 0 where
-  -- what the receiver holds is what the ledger says
+  -- what the receiver holds is what the ledger says, and its settings and latest reading are what the station knows
   pub agrees : Agrees l s
   pub known : Known d s
   -- nothing twice, nothing out of order: all that was handed out is the bytes of the places released, place by place
@@ -45,7 +51,7 @@ pub record Holds (l : Ledger) (d : Desk) (s : State) (past : List Event) (out : 
   -- no run is ever refused 1
   pub inRange : headOk (s .head) ≡ true
 
--- the answer to a packet, by its number and by the earlier refusal, the first of 1 to 6 (0 for none), whose tests look at no place
+-- the answer to a packet, by its number and by the earlier refusal, the first of 1 to 6 (0 for none), whose tests look at no place; the capacity is the station's
 pub record Judges (l : Ledger) (capacity earlier number : ℕ) (a : DataAnswer) : Type 0 where
   -- taken in order: its number is the next; for a lost place: a held place of its number is lost; after a gap: the gap is what lies between
   pub inOrder : appends a ≡ true → number ≡ numberOf l (nextOf l)
@@ -58,10 +64,9 @@ pub record Judges (l : Ledger) (capacity earlier number : ℕ) (a : DataAnswer) 
   pub taken : earlier ≡ 0 → (i : ℕ) → i < length (l .held) → numberOf l (frontOf l + i) ≡ number → getD (l .held) i givenUp ≡ lost → recovers a ≡ true
   -- .. and one after a gap, if there is room for both
   pub gap : earlier ≡ 0 → after 31 number (numberOf l (nextOf l)) ≡ true → length (l .held) + distance 31 number (numberOf l (nextOf l)) + 1 ≤ capacity → isLoss a ≡ true
-  -- refused by 1 to 6 just if a test holds, and by no number over 10
-  pub tested : (dataLine a .refusal ≡ earlier) ⊎ ((earlier ≡ 0) × (7 ≤ dataLine a .refusal) × (dataLine a .refusal ≤ 10))
+  -- one that is not refused is taken
   pub took : dataLine a .refusal ≡ 0 → (appends a || recovers a || isLoss a) ≡ true
-  -- 7 and 8: there is no room
+  -- 7 and 8: there is no room for it at the next expected number, or after it; 8 has both numbers, the room and the need
   pub full : dataLine a .refusal ≡ 7 → (number ≡ numberOf l (nextOf l)) × (length (l .held) ≡ capacity)
   pub early : dataLine a .refusal ≡ 8 → (after 31 number (numberOf l (nextOf l)) ≡ true) × (capacity < length (l .held) + distance 31 number (numberOf l (nextOf l)) + 1)
   pub room : EarlyIs a (capacity - length (l .held)) (distance 31 number (numberOf l (nextOf l)) + 1)
@@ -71,39 +76,67 @@ pub record Judges (l : Ledger) (capacity earlier number : ℕ) (a : DataAnswer) 
   -- 10, a duplicate: its held place is received or given up
   pub duplicate : dataLine a .refusal ≡ 10 → (i : ℕ) × (i < length (l .held)) × (numberOf l (frontOf l + i) ≡ number) × (getD (l .held) i lost ≡ lost → ⊥)
 
--- a pop: a message's places are all received and its output is their bytes, in order; a late drop names the places that it discards
-abbrev pub Tells : Ledger → MessageAnswer → List ℕ → Type 0
-Tells l messages.Nothing out = Unit
-Tells l (messages.Message time bytes packets) out =
-    (0 < packets) × (packets ≤ receivedRun (l .held)) × (take bytes out ≡ releasedBytes (map (λ x. released (bytesOf x)) (take packets (l .held)))) × (bytes ≡ length (releasedBytes (map (λ x. released (bytesOf x)) (take packets (l .held)))))
-Tells l (messages.Late first end delay) out =
-    (0 < distance 31 end first) × (distance 31 end first ≤ length (l .held)) × (first ≡ numberOf l (frontOf l)) × (end ≡ numberOf l (frontOf l + distance 31 end first))
-Tells l (messages.Refused n) out = Unit
+-- the bytes of the first held places, in order
+abbrev pub frontBytes : Ledger → (places : ℕ) → List ℕ
+frontBytes l n = releasedBytes (map (λ x. released (bytesOf x)) (take n (l .held)))
+
+-- a pop: a message's places are all received, its output is their bytes, in order, and their count is right; a late drop names the places that it discards, and
+-- there is none where the station turned dropping off; 11 comes only if the received places in front have more bytes than the output that was lent
+abbrev pub Tells : Ledger → Desk → MessageAnswer → (output : List ℕ) → Type 0
+Tells l d messages.Nothing out = Unit
+Tells l d (messages.Message time bytes packets) out =
+    (0 < packets) × (packets ≤ receivedRun (l .held)) × (take bytes out ≡ frontBytes l packets) × (bytes ≡ length (frontBytes l packets))
+Tells l d (messages.Late first end delay) out =
+    (d .dropping ≡ true)
+    × (0 < distance 31 end first)
+    × (distance 31 end first ≤ length (l .held))
+    × (first ≡ numberOf l (frontOf l))
+    × (end ≡ numberOf l (frontOf l + distance 31 end first))
+Tells l d (messages.Refused n) out = n ≡ 11 → (packets : ℕ) × (0 < packets) × (packets ≤ receivedRun (l .held)) × (length out < length (frontBytes l packets))
 
 -- a drop request counts the places that it gives up
 abbrev pub Counts : Ledger → ℕ → ℕ → DropAnswer → Type 0
 Counts l first last (drops.Gone n) = lostCount (l .held) ≡ lostCount (enterDrop l first last (drops.Gone n) .held) + n
 Counts l first last (drops.Refused n) = Unit
 
--- the first of the refusals 1 to 6 whose test holds for a call with a packet, else 0: by what the station knows
-abbrev pub refusalBy : Bool → Desk → Lent → Call → ℕ
-refusalBy ok d t (calls.Data time number message location stamp) =
-    firstRefusal (pushRules ok (d .capacity) (d .slots) (d .payloads) time (d .latest) (packet number message location stamp) (length (t .payload)))
-refusalBy ok d t (calls.Pop time) = 0
-refusalBy ok d t (calls.Report time) = 0
-refusalBy ok d t (calls.FullAck time) = 0
-refusalBy ok d t (calls.Ack2 time number) = 0
-refusalBy ok d t (calls.Drop first last) = 0
-refusalBy ok d t (calls.Clock time stamp) = 0
-refusalBy ok d t calls.Clear = 0
+-- the first of the refusals 1 to 6 whose test holds for a call, else 0: ok says that the head is in range; the other arguments are capacity, the lengths of
+-- the areas, and the latest reading
+module _ (ok : Bool) (capacity slots payloads history : ℕ) (latest : ℤ) (t : Lent) where
+  abbrev pub earlyBy : Call → ℕ
+  earlyBy (calls.Data time number message location stamp) =
+      firstRefusal (pushRules ok capacity slots payloads time latest (packet number message location stamp) (length (t .payload)))
+  earlyBy (calls.Pop time) = firstRefusal (popRules ok capacity slots payloads time latest)
+  earlyBy (calls.Report time) = firstRefusal (timedRules ok slots (3 * capacity) time latest)
+  earlyBy (calls.FullAck time) = firstRefusal (timedRules ok history 2048 time latest)
+  earlyBy (calls.Ack2 time number) = firstRefusal (timedRules ok history 2048 time latest)
+  earlyBy (calls.Drop first last) = firstRefusal (dropRules ok capacity slots first last)
+  earlyBy (calls.Clock time stamp) = firstRefusal (clockRules ok time latest)
+  earlyBy calls.Clear = firstRefusal (headRules ok)
 
+-- by what the station knows; a receiver that it made is never refused 1
 abbrev pub earlyRefusal : Desk → Lent → Call → ℕ
-earlyRefusal d t c = refusalBy true d t c
+earlyRefusal d t c = earlyBy true (d .capacity) (d .slots) (d .payloads) (d .history) (d .latest) t c
+
+-- the later refusals of each call
+abbrev pub Later : Call → ℕ → Type 0
+Later (calls.Data time number message location stamp) n = (7 ≤ n) × (n ≤ 10)
+Later (calls.Pop time) n = n ≡ 11
+Later (calls.Report time) n = n ≡ 12
+Later (calls.FullAck time) n = n ≡ 13
+Later (calls.Ack2 time number) n = ⊥
+Later (calls.Drop first last) n = ⊥
+Later (calls.Clock time stamp) n = n ≡ 14
+Later calls.Clear n = ⊥
+
+-- a call is refused by 1 to 6 just if a test holds, else by none or by a later number of its own; and a refusal never has the number 0
+pub record Refuses (earlier : ℕ) (c : Call) (a : Answer) : Type 0 where
+  pub tested : (refusalIn a ≡ earlier) ⊎ ((earlier ≡ 0) × Later c (refusalIn a))
+  pub numbered : lineOf a [] .word ≡ paper.refused → 0 < refusalIn a
 
 -- what an answer says is so
-abbrev pub Says : Ledger → Desk → Lent → Call → Answer → List ℕ → Type 0
+abbrev pub Says : Ledger → Desk → Lent → Call → Answer → (output : List ℕ) → Type 0
 Says l d t c (answers.Data a) out = Judges l (d .capacity) (earlyRefusal d t c) (numberIn c) a
-Says l d t c (answers.Pop a) out = Tells l a out
+Says l d t c (answers.Pop a) out = Tells l d a out
 Says l d t c (answers.Report a) out = Unit
 Says l d t c (answers.FullAck a) out = Unit
 Says l d t c (answers.Ack2 a) out = Unit
@@ -111,24 +144,20 @@ Says l d t c (answers.Drop a) out = Counts l (numberIn c) (lastIn c) a
 Says l d t c (answers.Clock a) out = Unit
 Says l d t c (answers.Clear a) out = Unit
 
--- each place leaves once: the fate of a place that is gone never changes
-abbrev pub Settled : Ledger → Ledger → Type 0
-Settled l l₁ = (p : ℕ) → p < frontOf l → getD (l₁ .gone) p discarded ≡ getD (l .gone) p discarded
-
 -- the acknowledgement number that an answer tells is the ledger's, after the call
-abbrev pub DataAcks : ℕ → DataAnswer → Type 0
+abbrev pub DataAcks : (lrsn : ℕ) → DataAnswer → Type 0
 DataAcks n (datas.Got lrsn recovered) = lrsn ≡ n
 DataAcks n (datas.Light lrsn recovered) = lrsn ≡ n
 DataAcks n (datas.Loss a b) = Unit
 DataAcks n (datas.Refused k) = Unit
 DataAcks n (datas.PacketTooEarly room need) = Unit
 
-abbrev pub FullAcks : ℕ → FullAckAnswer → Type 0
+abbrev pub FullAcks : (lrsn : ℕ) → FullAckAnswer → Type 0
 FullAcks n acks.Nothing = Unit
 FullAcks n (acks.Ack number lrsn mean variance places speed link) = lrsn ≡ n
 FullAcks n (acks.Refused k) = Unit
 
-abbrev pub Acks : ℕ → Answer → Type 0
+abbrev pub Acks : (lrsn : ℕ) → Answer → Type 0
 Acks n (answers.Data a) = DataAcks n a
 Acks n (answers.Pop a) = Unit
 Acks n (answers.Report a) = Unit
@@ -138,22 +167,46 @@ Acks n (answers.Drop a) = Unit
 Acks n (answers.Clock a) = Unit
 Acks n (answers.Clear a) = Unit
 
--- one call more
+-- one call more: the answer is of its call's kind, its line is its own, the number it acknowledges is the ledger's after it, and what it says is so
 pub record Told (b b₁ : Book) (e : Event) (r : Ended) : Type 0 where
   pub kind : kindIn (r .answer) ≡ kindOf (e .call)
   pub line : r .line ≡ lineOf (r .answer) (r .list)
   pub acks : Acks (ackOf (b₁ .ledger)) (r .answer)
+  pub refuses : Refuses (earlyRefusal (b .desk) (e .lent) (e .call)) (e .call) (r .answer)
   pub says : Says (b .ledger) (b .desk) (e .lent) (e .call) (r .answer) (r .output)
-  pub settled : Settled (b .ledger) (b₁ .ledger)
 
--- demand 3, of what makes a call
-pub record Demanded (step : State → Lent → Call → Ended) (first : ℕ) (s : State) (past : List Event) : Type 0 where
-  pub holds : Holds (bookAfter step (fresh first s) past .ledger) (bookAfter step (fresh first s) past .desk) (bookAfter step (fresh first s) past .state) past (handedOut step (fresh first s) past) (entered step (fresh first s) past)
-  pub told : (e : Event) → NotClear (e .call) → Told (bookAfter step (fresh first s) past) (turned step (bookAfter step (fresh first s) past) e) e (answered step (bookAfter step (fresh first s) past) e)
+-- demand 3, of what makes a call, from a book just opened
+pub record Demanded (step : State → Lent → Call → Ended) (b : Book) (past : List Event) : Type 0 where
+  pub holds : Holds (bookAfter step b past .ledger) (bookAfter step b past .desk) (bookAfter step b past .state) past (handedOut step b past) (entered step b past)
+  pub told : (e : Event) → NotClear (e .call) → Told (bookAfter step b past) (turned step (bookAfter step b past) e) e (answered step (bookAfter step b past) e)
 
--- the same from any moment at which the receiver holds nothing and has acknowledged all
-abbrev pub Stretch : (State → Lent → Call → Ended) → Type 0
-Stretch step = (first : ℕ) (s : State) → Empty first s → (past : List Event) → NoneClear past → Demanded step first s past
+abbrev pub Demand3 : (step : State → Lent → Call → Ended) → Type 0
+Demand3 step = (first : ℕ) (s : State) (f : Fresh first s) (past : List Event) → NoneClear past → Demanded step (fresh f) past
 
-abbrev pub Demand3 : (State → Lent → Call → Ended) → Type 0
-Demand3 step = (first : ℕ) (s : State) → Fresh first s → (past : List Event) → NoneClear past → Demanded step first s past
+-- the same from any moment at which the receiver holds nothing and has acknowledged all, with what the station knows then
+abbrev pub Stretch : (step : State → Lent → Call → Ended) → Type 0
+Stretch step =
+    (first : ℕ) (d : Desk) (s : State) → Empty first s → Known d s → (past : List Event) → NoneClear past → Demanded step (opening first d s) past
+
+-- show, asked for a number: the tests are by what the station knows
+abbrev pub showRefusal : Desk → (number : ℕ) → ℕ
+showRefusal d number = firstRefusal (showRules true (d .capacity) (d .slots) (d .payloads) number)
+
+-- its second question, by the refusal and by whether a part was shown
+abbrev pub questioned : (refusal : ℕ) → (shown : Bool) → ShowAnswer
+questioned n shown = cond (eqb n 0) (cond shown shows.Received shows.Other) (shows.Refused n)
+
+-- what show shows is the ledger's bytes of a held received place, and they are shown exactly then
+pub record Shows (l : Ledger) (refusal number : ℕ) (payloads : List ℕ) (p : Part) (a : ShowAnswer) : Type 0 where
+  pub found : p .received ≡ true → (i : ℕ) × (i < length (l .held)) × (numberOf l (frontOf l + i) ≡ number) × (getD (l .held) i lost ≡ received (take (p .len) (drop (p .at) payloads)))
+  pub shown : refusal ≡ 0 → (i : ℕ) (bytes : List ℕ) → i < length (l .held) → numberOf l (frontOf l + i) ≡ number → getD (l .held) i lost ≡ received bytes
+      → (p .received ≡ true) × (take (p .len) (drop (p .at) payloads) ≡ bytes)
+  pub empty : p .received ≡ false → p .len ≡ 0
+  pub answer : a ≡ questioned refusal (p .received)
+
+-- after any calls, of what shows and what answers the second question
+abbrev pub DemandShown : (step : State → Lent → Call → Ended) → (place : State → ℕ → Part) → (question : State → ℕ → ShowAnswer) → Type 0
+DemandShown step place question =
+    (first : ℕ) (s : State) (f : Fresh first s) (past : List Event) → NoneClear past → (number : ℕ)
+    → let b = bookAfter step (fresh f) past in
+    Shows (b .ledger) (showRefusal (b .desk) number) number (b .state .payloads) (place (b .state) number) (question (b .state) number)

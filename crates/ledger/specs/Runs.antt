@@ -20,23 +20,39 @@ pub record Event : Type 0 where
   pub call : Call
   pub lent : Lent
 
--- what the station knows of its receiver beside the ledger: the capacity that it was made with, how long the areas are that it lends, and the latest reading of
--- a call that was not refused
+-- what the station knows of its receiver beside the ledger: the settings that it made it with, how long the areas are that it lends, and the latest reading
+-- of a call that was not refused, at first the start
 pub record Desk : Type 0 where
   pub capacity : ℕ
+  pub latency : ℕ
+  pub dropping : Bool
   pub slots : ℕ
   pub payloads : ℕ
+  pub history : ℕ
   pub latest : ℤ
 
+-- a call is noted with its answer, and with nothing else
 abbrev pub noted : Desk → Call → Answer → Desk
 noted d c a =
-    record { capacity = d .capacity; slots = d .slots; payloads = d .payloads; latest = cond (eqb (refusalIn a) 0) (readingIn c (d .latest)) (d .latest) }
+    record {
+      capacity = d .capacity;
+      latency = d .latency;
+      dropping = d .dropping;
+      slots = d .slots;
+      payloads = d .payloads;
+      history = d .history;
+      latest = cond (eqb (refusalIn a) 0) (readingIn c (d .latest)) (d .latest);
+    }
 
--- the station's ledger beside the receiver's state
+-- the station's ledger and desk beside the receiver's state
 pub record Book : Type 0 where
   pub ledger : Ledger
   pub desk : Desk
   pub state : State
+
+-- a new ledger, kept from here on
+abbrev pub opening : (first : ℕ) → Desk → State → Book
+opening first d s = record { ledger = opened first; desk = d; state = s }
 
 -- a fresh receiver: what new made, with areas of any length and any contents
 pub record Fresh (first : ℕ) (s : State) : Type 0 where
@@ -47,16 +63,28 @@ pub record Fresh (first : ℕ) (s : State) : Type 0 where
   pub made : madeOf start latency dropping first capacity .refusal ≡ 0
   pub head : s .head ≡ madeOf start latency dropping first capacity .head
 
+-- what the station knows when it has made it
+abbrev pub freshDesk : {first : ℕ} {s : State} → Fresh first s → Desk
+freshDesk {s = s} f =
+    record {
+      capacity = f .capacity;
+      latency = f .latency;
+      dropping = f .dropping;
+      slots = length (s .slots);
+      payloads = length (s .payloads);
+      history = length (s .history);
+      latest = f .start;
+    }
+
+abbrev pub fresh : {first : ℕ} {s : State} → Fresh first s → Book
+fresh {first = first} {s = s} f = opening first (freshDesk f) s
+
 -- a receiver that holds nothing and has acknowledged all: a fresh one, and any other between two messages, after a clear of an empty window too
 pub record Empty (first : ℕ) (s : State) : Type 0 where
   pub kept : headOk (s .head) ≡ true
   pub none : s .head .window .held ≡ 0
   pub begins : s .head .window .seqno0 ≡ first
   pub acked : s .head .window .lrsn ≡ first
-
-abbrev pub fresh : ℕ → State → Book
-fresh first s =
-    record { ledger = opened first; desk = record { capacity = s .head .window .capacity; slots = length (s .slots); payloads = length (s .payloads); latest = s .head .latest }; state = s }
 
 abbrev pub NoneClear : List Event → Type 0
 NoneClear [] = Unit
@@ -103,9 +131,12 @@ pub record Agrees (l : Ledger) (s : State) : Type 0 where
   pub entries : map placeOf (views.entries (s .head .window) (s .slots) (s .payloads)) ≡ l .held
   pub lrsn : s .head .window .lrsn ≡ ackOf l
 
--- what the station knows is so
+-- head and areas agree with what the station knows
 pub record Known (d : Desk) (s : State) : Type 0 where
   pub capacity : s .head .window .capacity ≡ d .capacity
+  pub latency : s .head .latency ≡ d .latency
+  pub dropping : s .head .dropping ≡ d .dropping
   pub slots : length (s .slots) ≡ d .slots
   pub payloads : length (s .payloads) ≡ d .payloads
+  pub history : length (s .history) ≡ d .history
   pub latest : s .head .latest ≡ d .latest

@@ -153,10 +153,10 @@ readingIn calls.Clear z = z
 abbrev pub refusalIn : Answer → ℕ
 refusalIn a = lineOf a [] .refusal
 
--- whether the room and the need of a packet that came too early are these
+-- 8 never comes without its two numbers, and they are these
 abbrev pub EarlyIs : DataAnswer → ℕ → ℕ → Type 0
 EarlyIs (datas.Got lrsn recovered) room need = Unit
 EarlyIs (datas.Light lrsn recovered) room need = Unit
 EarlyIs (datas.Loss a b) room need = Unit
-EarlyIs (datas.Refused n) room need = Unit
+EarlyIs (datas.Refused n) room need = n ≡ 8 → ⊥
 EarlyIs (datas.PacketTooEarly r n) room need = (r ≡ room) × (n ≡ need)

@@ -1,15 +1,19 @@
 -- What a pop does to the list of entries, which bytes a message has, and that lrsn stays right. Assumes nothing.
 use mathlib.Core.Path.{_≡_, refl, ap, sym, _∙_}
-use mathlib.Core.Bool.{Bool, true, cond}
+use mathlib.Core.Bool.{Bool, true, _&&_, cond}
 use mathlib.Core.List.{List, [], _∷_, _++_, append-assoc, append-nil}
 use Prim.Native.Nat.{ℕ, zero, suc, _+_, _-_, _*_, _<_, _≤_}
 use native.Mathlib.Omega.{arith}
+use borrow.Author.Tests.{ltb-true}
+use lib.Dec.{ltb}
 use lib.IntN.{ℤ}
 use lib.ListN.{length, getD, take, drop, length-append, length-drop}
 use lib.Seq.{paste, take-length, take-suc, take-at, drop-append-add, drop-drop, length-take-le}
+use lib.Signed.{ltZ}
 use Rattle.numbers.proofs.Flags.{impossible, by-test}
 use Rattle.numbers.proofs.Circle.{distance-sum, sum-sum}
 use Rattle.clock.specs.declared.time.SynchronizedRemoteClock.{SynchronizedRemoteClock}
+use Rattle.slots.specs.Words as words
 use Rattle.slots.specs.Words.{entryAt, lengthIn, isLast, inMessage, messageIn, isFirst}
 use Rattle.slots.specs.Ring.{slotOf, payloadAt}
 use Rattle.slots.specs.declared.entry.Entry.{Entry}
@@ -18,11 +22,12 @@ use Rattle.slots.proofs.Laws.{length-read, slot-lt}
 use Rattle.window.specs.Window.{slotIn, entryIn, numberIn, cut, firstGap}
 use Rattle.window.specs.Ready.{Good, Bytes}
 use Rattle.window.specs.declared.Window.{Window}
-use Rattle.window_pop.specs.Pop.{PopOutcome, Filled, runFrom, messageOf, filled, discardFront, popOf}
+use Rattle.window_pop.specs.Pop.{PopOutcome, popEnded, Filled, runFrom, messageOf, filled, dueOf, discardFront, frontOf, releasedOf, popOf}
 use Rattle.window_pop.specs.declared.pop.Message.{Message}
+use Rattle.window_pop.specs.declared.pop.Popped.{Popped}
 use Rattle.window_pop.specs.declared.pop.PopAnswer.the-variants as pops
 use Rattle.window_pop.proofs.Fills.{front-whole}
-use Rattle.window_pop.proofs.PopLaws.{pop-cases}
+use Rattle.window_pop.proofs.PopLaws.{late-cases, pop-cases}
 use Rattle.views.specs.Lists.{runOf}
 use Rattle.views.specs.View.{Seen, givenUp, seenOf, seenAt, isReceived, entriesFrom, entries, gapIn, LrsnRight, afterPop, bytesIn, joined, Handed}
 use Rattle.views.proofs.Lists.{entries-length, entries-at, entries-cut}
@@ -166,3 +171,34 @@ module _ (k : SynchronizedRemoteClock) (latency : ℕ) (late : Bool) (w : Window
         output = f .1 ∙ ap (λ (x : ℕ). joined (take (m .packets) es) ++ drop x out) (at ∙ b) ∙ ap (λ (x : ℕ). joined (take x es) ++ drop bytes out) n;
       })
       (λ n stamp some held e. absurd (let z : _≡_ {A = ℕ} 0 1 = cc in omega arith))
+
+  -- refusal 11: the message in front is longer than the output
+  abbrev TooLong : PopOutcome → Type 0
+  TooLong x = x .popped .answer ≡ pops.OutShort → (0 < messageOf w ws .packets) × (length out < messageOf w ws .bytes)
+
+  too-long : TooLong outcome
+  unfolding popOf frontOf releasedOf
+  too-long =
+      let m = messageOf w ws in
+      let late = late-cases k latency late w ws now (λ (r : Popped). TooLong (popEnded r out)) (λ e. absurd (let z : _≡_ {A = ℕ} 0 1 = cc in omega arith)) (λ n stamp some held e. absurd (let z : _≡_ {A = ℕ} 0 1 = cc in omega arith)) in
+      by-test TooLong (ltb 0 (w .held) && words.isReceived (entryIn w ws 0)) _ _
+      (λ t.
+      by-test TooLong (ltZ now (dueOf (k .base) latency (words.stampIn (entryIn w ws 0)))) _ _
+      (λ u e. absurd (let z : _≡_ {A = ℕ} 0 1 = cc in omega arith))
+      (λ u.
+      by-test TooLong (ltb 0 (m .packets)) _ _
+      (λ x.
+      by-test TooLong (ltb (length out) (m .bytes)) _ _
+      (λ y e. (ltb-true 0 (m .packets) x, ltb-true (length out) (m .bytes) y))
+      (λ y e. absurd (let z : _≡_ {A = ℕ} 0 1 = cc in omega arith)))
+      (λ x. late)))
+      (λ t. late)
+
+  pub pop-short : Bytes w bs → outcome .popped .answer ≡ pops.OutShort
+      → (0 < messageOf w ws .packets) × (messageOf w ws .packets ≤ gapIn es) × (length out < length (joined (take (messageOf w ws .packets) es)))
+  pop-short gb e =
+      let m = messageOf w ws in
+      let s = too-long e in
+      let at = front-whole w ws bs out refl (s .0) .1 in
+      let f = filled-joined w ws bs out g gb (m .packets) (front-whole w ws bs out refl (s .0) .0) in
+      (s .0, front-gap w ws bs (s .0), omega (arith, at, f .0, s .1))

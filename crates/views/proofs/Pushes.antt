@@ -1,6 +1,6 @@
 -- What a push does to the list of entries, to the ranges and to lrsn. Assumes nothing.
 use mathlib.Core.Path.{_≡_, refl, ap, sym, _∙_}
-use mathlib.Core.Bool.{true, false}
+use mathlib.Core.Bool.{true}
 use mathlib.Core.List.{List, [], _∷_, _++_, append-assoc, append-nil}
 use Prim.Native.Nat.{ℕ, zero, suc, _+_, _-_, _*_, _^_, _<_, _≤_}
 use native.Mathlib.Nat.{mod-eq-of-lt}
@@ -13,10 +13,8 @@ use Rattle.numbers.specs.Circular.{distance, before, sum}
 use Rattle.numbers.specs.Order.{order}
 use Rattle.numbers.specs.declared.seq.Order.{Order}
 use Rattle.numbers.specs.declared.seq.Order.the-variants.{Before, Equal, After}
-use Rattle.numbers.proofs.Flags.{impossible, by-test}
-use Rattle.numbers.proofs.Circle.{stepped, around, before-not, within, order-before}
-use Rattle.numbers.proofs.Places.{place-distance}
-use Rattle.numbers.proofs.Steps.{is-before}
+use Rattle.numbers.proofs.Flags.{by-test}
+use Rattle.numbers.proofs.Circle.{stepped, within, order-before}
 use Rattle.slots.specs.Words as words
 use Rattle.slots.specs.Words.{writeAt}
 use Rattle.slots.specs.Ready.{Fit}
@@ -27,10 +25,9 @@ use Rattle.slots.proofs.Laws.{read-same, payload-same, slot-lt, slot-apart}
 use Rattle.window.specs.Window.{slotIn, entryIn, nextOf, numberIn, roomOf}
 use Rattle.window.specs.Ready.{Good, Bytes, PacketRight}
 use Rattle.window.specs.Push as push
-use Rattle.window.specs.Push.{PushOutcome, withLost, appendNextOf, appendWithLossOf, recoveredOf, recoverOf, pushOf}
+use Rattle.window.specs.Push.{withLost, appendNextOf, appendWithLossOf, recoveredOf, recoverOf, pushOf}
 use Rattle.window.specs.declared.Window.{Window}
 use Rattle.window.specs.declared.push.Packet.{Packet}
-use Rattle.window.specs.declared.push.PushAnswer.the-variants as answers
 use Rattle.window.proofs.Pushes.{length-lost}
 use Rattle.views.specs.View.{Seen, lost, seenAt, entriesFrom, entries, packetSeen, SeenAfter}
 use Rattle.views.proofs.Lists.{seen-other, seen-words, one-more, one-changed}
@@ -136,67 +133,7 @@ module _ (w : Window) (ws bs : List ℕ) (time : ℕ) (p : Packet) (payload : Li
       go After q = loss-seen
       go Before q = recover-seen (order-before 31 (p .number) (nextOf w) q)
 
-  -- which of the held entries a number names, and what a push does there: it is taken if lost, and refused as a duplicate only if not
-  abbrev index : ℕ
-  index = distance 31 (p .number) (w .seqno0)
-
-  abbrev Judged : PushOutcome → Type 0
-  Judged o =
-      (o .pushed .answer ≡ answers.DiscardedDuplicate → (index < w .held) × (words.isLost (entryIn w ws index) ≡ false))
-      × (index < w .held → words.isLost (entryIn w ws index) ≡ true → o ≡ recoveredOf w ws bs time p payload index)
-
-  -- the number of a held entry is that of its place, and is before the next expected
-  pub number-is : p .number ≡ numberIn w index
+  -- a number is that of the place which lies its distance past the front
+  pub number-is : p .number ≡ numberIn w (distance 31 (p .number) (w .seqno0))
   unfolding sum
   number-is = sym (mod-eq-of-lt (r .number)) ∙ sym (stepped 31 (p .number) (w .seqno0))
-
-  held-before : index < w .held → order 31 (p .number) (nextOf w) ≡ Before
-  held-before h =
-      let n = w .held - index in
-      let z : index + n ≡ w .held = omega arith in
-      let d : distance 31 (nextOf w) (p .number) ≡ n =
-      ap (λ (x : ℕ). distance 31 (numberIn w x) (p .number)) (sym z)
-      ∙ ap (λ (x : ℕ). distance 31 (numberIn w (index + n)) x) number-is
-      ∙ place-distance 31 (w .seqno0) index n (omega arith) in
-      let o = around 31 (nextOf w) (p .number) (omega arith) in
-      sym (is-before 31 (p .number) (nextOf w) refl (omega arith) (omega arith))
-
-  not-late : index < w .held → before 31 (p .number) (w .seqno0) ≡ false
-  not-late h = before-not 31 (p .number) (w .seqno0) (omega arith)
-
-  -- a number that is not before the next expected names no held entry
-  not-named : (o : Order) → order 31 (p .number) (nextOf w) ≡ o → (o ≡ Before → ⊥) → {P : Type 0} → index < w .held → P
-  not-named o q ne h = absurd (ne (sym q ∙ held-before h))
-
-  next-judged : order 31 (p .number) (nextOf w) ≡ Equal → Judged (appendNextOf w ws bs time p payload)
-  unfolding appendNextOf
-  next-judged q =
-      by-test Judged (eqb (w .held) (w .capacity)) _ _
-      (λ t. ((λ d. absurd (let z : _≡_ {A = ℕ} 0 1 = cc in omega arith)), (λ h u. not-named Equal q (λ d. let z : _≡_ {A = ℕ} 0 1 = cc in omega arith) h)))
-      (λ t. ((λ d. absurd (let z : _≡_ {A = ℕ} 0 1 = cc in omega arith)), (λ h u. not-named Equal q (λ d. let z : _≡_ {A = ℕ} 0 1 = cc in omega arith) h)))
-
-  loss-judged : (gap : ℕ) → order 31 (p .number) (nextOf w) ≡ After → Judged (appendWithLossOf w ws bs time p payload gap)
-  unfolding appendWithLossOf
-  loss-judged gap q =
-      by-test Judged (ltb (roomOf w) (gap + 1)) _ _
-      (λ t. ((λ d. absurd (let z : _≡_ {A = ℕ} 0 1 = cc in omega arith)), (λ h u. not-named After q (λ d. let z : _≡_ {A = ℕ} 0 1 = cc in omega arith) h)))
-      (λ t. ((λ d. absurd (let z : _≡_ {A = ℕ} 0 1 = cc in omega arith)), (λ h u. not-named After q (λ d. let z : _≡_ {A = ℕ} 0 1 = cc in omega arith) h)))
-
-  recover-judged : before 31 (p .number) (nextOf w) ≡ true → Judged (recoverOf w ws bs time p payload)
-  unfolding recoverOf recoveredOf
-  recover-judged b =
-      by-test Judged (before 31 (p .number) (w .seqno0)) _ _
-      (λ t. ((λ d. absurd (let z : _≡_ {A = ℕ} 0 1 = cc in omega arith)), (λ h u. impossible (sym t ∙ not-late h))))
-      (λ t.
-      by-test Judged (words.isLost (entryIn w ws index)) _ _
-      (λ u. ((λ d. absurd (let z : _≡_ {A = ℕ} 0 1 = cc in omega arith)), (λ h v. refl)))
-      (λ u. ((λ d. (within 31 (p .number) (w .seqno0) (w .held) b t, u)), (λ h v. impossible (sym v ∙ u)))))
-
-  pub push-judged : Judged (pushOf w ws bs time p payload)
-  unfolding pushOf
-  push-judged = go (order 31 (p .number) (nextOf w)) refl
-    where
-      go : (o : Order) → order 31 (p .number) (nextOf w) ≡ o → Judged (push.byOrder w ws bs time p payload o)
-      go Equal q = next-judged q
-      go After q = loss-judged (distance 31 (p .number) (nextOf w)) q
-      go Before q = recover-judged (order-before 31 (p .number) (nextOf w) q)
