@@ -1,7 +1,7 @@
 -- The ledger by example, computed from its definitions: 01's worked example, a late drop over the wrap, a drop request. Assumes nothing.
 use mathlib.Core.Path.{_≡_, refl}
 use mathlib.Core.Bool.{true, false}
-use mathlib.Core.List.{[], _∷_}
+use mathlib.Core.List.{List, [], _∷_}
 use Prim.Native.Nat.{ℕ}
 use lib.IntN.{pos}
 use Rattle.numbers.specs.Circular.{distance, equal, after, before, saturating, sum}
@@ -12,7 +12,7 @@ use Rattle.step.specs.declared.Call.{Call}
 use Rattle.step.specs.declared.Call.the-variants as calls
 use Rattle.step.specs.declared.Answer.the-variants as answers
 use Rattle.views.specs.Lists.{changedIn}
-use Rattle.ledger.specs.Ledger.{lost, received, givenUp, released, discarded, Ledger, opened, numberOf, frontOf, nextOf, marked, enter}
+use Rattle.ledger.specs.Ledger.{Place, lost, received, givenUp, released, discarded, Ledger, opened, numberOf, frontOf, nextOf, marked, enter}
 
 abbrev sent : ℕ → Call
 sent number = calls.Data (pos 0) number 0 3 0
@@ -44,8 +44,41 @@ pub late-example : enter (record { first = 2147483647; gone = []; held = lost �
 unfolding distance
 late-example = refl
 
--- a drop request from 2147483647 to 0 gives up what is lost there, and nothing behind it
-pub drop-example : enter (record { first = 2147483647; gone = []; held = lost ∷ received (5 ∷ []) ∷ lost ∷ [] }) (calls.Drop 2147483647 0) [] (answers.Drop (drops.Gone 1))
-    ≡ record { first = 2147483647; gone = []; held = givenUp ∷ received (5 ∷ []) ∷ lost ∷ [] }
+-- three places are held over the wrap, 2147483647, 0 and 1, of which the one in the middle is received; a drop request from first to last leaves these
+abbrev over : List Place → Ledger
+over ps = record { first = 2147483647; gone = []; held = ps }
+
+abbrev dropped : ℕ → ℕ → Ledger
+dropped first last = enter (over (lost ∷ received (5 ∷ []) ∷ lost ∷ [])) (calls.Drop first last) [] (answers.Drop (drops.Gone 0))
+
+abbrev front : Ledger
+front = over (givenUp ∷ received (5 ∷ []) ∷ lost ∷ [])
+
+abbrev rear : Ledger
+rear = over (lost ∷ received (5 ∷ []) ∷ givenUp ∷ [])
+
+abbrev both : Ledger
+both = over (givenUp ∷ received (5 ∷ []) ∷ givenUp ∷ [])
+
+abbrev neither : Ledger
+neither = over (lost ∷ received (5 ∷ []) ∷ lost ∷ [])
+
+-- what is lost in the range is given up, and nothing after it
+pub drop-example : dropped 2147483647 0 ≡ front
 unfolding sum distance saturating before equal after changedIn
 drop-example = refl
+
+-- at the front: a request that ends just before it, and one that ends at it
+pub drop-front : (dropped 2147483640 2147483646 ≡ neither) × (dropped 2147483640 2147483647 ≡ front)
+unfolding sum distance saturating before equal after changedIn
+drop-front = (refl, refl)
+
+-- at the end: a request that begins at the last held place, one that begins just after it, one that ends far after it, and one that ends before it begins
+pub drop-end : (dropped 1 1 ≡ rear) × (dropped 2 9 ≡ neither) × (dropped 1 9999 ≡ rear) × (dropped 1 2147483647 ≡ neither)
+unfolding sum distance saturating before equal after changedIn
+drop-end = (refl, refl, refl, refl)
+
+-- at the tie, 2^30 from the front: a number there is before the front, so a request to it gives up nothing and one from it all; one nearer it is after all that is held
+pub drop-tie : (dropped 2147483647 1073741822 ≡ neither) × (dropped 2147483647 1073741821 ≡ both) × (dropped 1073741823 1 ≡ both) × (dropped 1073741822 1 ≡ neither)
+unfolding sum distance saturating before equal after changedIn
+drop-tie = (refl, refl, refl, refl)

@@ -14,3 +14,4 @@ pub mod Refusals
 pub mod Shown
 pub mod Theorem
 pub mod RuledOut
+pub mod Bent

@@ -1,17 +1,22 @@
 -- Wrong programs that demand 3 rules out: 01, "Each proof's duty". Each theorem speaks of any step that meets it. docs/RULED_OUT.md lists them. Assumes nothing.
 use mathlib.Core.Path.{_≡_, refl, ap, sym, _∙_, subst}
-use mathlib.Core.Bool.{true, false}
+use mathlib.Core.Bool.{true, false, _||_}
 use mathlib.Core.List.{List, [], _∷_, map}
 use mathlib.Core.Logic.{_⊎_, inl, inr}
 use Prim.Native.Nat.{ℕ, _+_, _-_, _^_, _<_, _≤_}
 use native.Mathlib.Omega.{arith}
+use borrow.Author.Tests.{ltb-true}
+use lib.Dec.{ltb}
 use lib.IntN.{ℤ, pos}
-use lib.ListN.{length, getD, length-append, length-map, length-drop, replicate}
-use Rattle.numbers.specs.Circular.{distance, sum}
-use Rattle.numbers.proofs.Flags.{impossible}
-use Rattle.numbers.proofs.Places.{place-one}
+use lib.ListN.{length, length-append, length-map, length-drop, replicate}
+use Rattle.numbers.specs.Circular.{distance, before, after, sum}
+use Rattle.numbers.proofs.Circle.{distance-self, before-not}
+use Rattle.numbers.proofs.Flags.{impossible, and-left, by-bool, by-order}
+use Rattle.numbers.proofs.Places.{place-one, place-distance}
+use Rattle.window.proofs.Ranges.{in-window}
 use Rattle.head.specs.Rules.{thenOf}
 use Rattle.head.specs.Head.{freshHead, madeOf}
+use Rattle.head.proofs.Ready.{in-parts}
 use Rattle.receiver.specs.Paper.{dataLine}
 use Rattle.receiver.specs.declared.data.DataAnswer.{DataAnswer}
 use Rattle.receiver.specs.declared.data.DataAnswer.the-variants as datas
@@ -23,10 +28,11 @@ use Rattle.step.specs.declared.Call.the-variants as calls
 use Rattle.step.specs.declared.Answer.{Answer}
 use Rattle.step.specs.declared.Answer.the-variants as answers
 use Rattle.views.specs.View.{Seen, entries}
-use Rattle.ledger.specs.Seen.{numberIn, NotClear, appends, kindIn}
-use Rattle.ledger.specs.Ledger.{Place, lost, received, Ledger, opened, numberOf, frontOf, nextOf, lostCount, enterData, enter}
-use Rattle.ledger.specs.Runs.{Event, Book, bookAfter, Fresh, fresh, NoneClear, Sent, now, before, placeOf}
-use Rattle.ledger.specs.Claims.{Judges, earlyRefusal, Says, Demand3}
+use Rattle.views.proofs.Lists.{entries-length}
+use Rattle.ledger.specs.Seen.{NotClear, appends, recovers, isLoss, kindIn, refusalIn}
+use Rattle.ledger.specs.Ledger.{Place, received, Ledger, numberOf, frontOf, nextOf, ackOf, lostCount, enterData, enter}
+use Rattle.ledger.specs.Runs.{Event, Book, bookAfter, Fresh, freshDesk, fresh, NoneClear, placeOf}
+use Rattle.ledger.specs.Claims.{DataAcks, Acks, Judges, Later, Refuses, earlyRefusal, Says, Demand3}
 
 abbrev sight : State → List Seen
 sight s = entries (s .head .window) (s .slots) (s .payloads)
@@ -51,6 +57,18 @@ one-more l number bytes (datas.Light lrsn false) e = length-append (l .held) (re
 one-more l number bytes (datas.Loss a b) e = impossible (sym e)
 one-more l number bytes (datas.Refused n) e = impossible (sym e)
 one-more l number bytes (datas.PacketTooEarly room need) e = impossible (sym e)
+
+-- what is held fits the capacity that the station knows
+fits : (step : State → Lent → Call → Ended) → Demand3 step → (first : ℕ) (s : State) (f : Fresh first s) (past : List Event) → NoneClear past
+    → (length (bookAfter step (fresh f) past .ledger .held) ≤ bookAfter step (fresh f) past .desk .capacity) × (length (bookAfter step (fresh f) past .ledger .held) ≤ 8192)
+fits step demand first s f past p =
+    let b = bookAfter step (fresh f) past in
+    let h = demand first s f past p .holds in
+    let w = b .state .head .window in
+    let r = in-window w (in-parts (b .state .head) (h .inRange) .window) in
+    let n = sym (length-map (sight (b .state)) placeOf) ∙ ap length (h .agrees .entries) in
+    let m = entries-length (w .capacity) (w .start) (b .state .slots) (b .state .payloads) 0 (w .held) in
+    (omega (arith, n, m, r .holds, h .known .capacity), omega (arith, n, m, r .holds, r .most))
 
 module _ (step : State → Lent → Call → Ended) (demand : Demand3 step) (first : ℕ) (s : State) (f : Fresh first s) (past : List Event) (p : NoneClear past) where
   abbrev b : Book
@@ -81,46 +99,107 @@ module _ (step : State → Lent → Call → Ended) (demand : Demand3 step) (fir
     abbrev earlier : ℕ
     earlier = earlyRefusal (b .desk) t c
 
-    told : (x : DataAnswer) → r t c .answer ≡ answers.Data x → Judges l (b .desk .capacity) earlier number x
+    pub told : (x : DataAnswer) → r t c .answer ≡ answers.Data x → Judges l (b .desk .capacity) earlier number x
     told x q = subst (λ (a : Answer). Says l (b .desk) t c a (r t c .output)) q (demand first s f past p .told (event c t) k .says)
 
-    refuses : (x : DataAnswer) → r t c .answer ≡ answers.Data x → Refuses earlier c (answers.Data x)
+    pub refuses : (x : DataAnswer) → r t c .answer ≡ answers.Data x → Refuses earlier c (answers.Data x)
     refuses x q = subst (λ (a : Answer). Refuses earlier c a) q (demand first s f past p .told (event c t) k .refuses)
+
+    pub acks-so : (x : DataAnswer) → r t c .answer ≡ answers.Data x → DataAcks (ackOf (enterData l number (t .payload) x)) x
+    acks-so x q = subst (λ (a : Answer). Acks (ackOf (enter l c (t .payload) a)) a) q (demand first s f past p .told (event c t) k .acks)
 
     pub answer-is : (x : DataAnswer) × (r t c .answer ≡ answers.Data x)
     answer-is = data-only (r t c .answer) (demand first s f past p .told (event c t) k .kind)
 
-    -- what it acknowledges is the ledger's number after it
-    acks-so : (x : DataAnswer) → r t c .answer ≡ answers.Data x → DataAcks (ackOf (enterData l number (t .payload) x)) x
-    acks-so x q = subst (λ (a : Answer). Acks (ackOf (enter l c (t .payload) a)) a) q (demand first s f past p .told (event c t) k .acks)
+    -- a fresh packet, of the number next expected, that no test of 1 to 6 refuses and that has room, is taken: so a program that refuses all is ruled out, and
+    -- one that compares numbers as plain numbers
+    pub must-append : number ≡ numberOf l (nextOf l) → earlier ≡ 0 → length (l .held) < b .desk .capacity → appends (answer-is .0) ≡ true
+    must-append e z m = told (answer-is .0) (answer-is .1) .next z e m
 
-  -- a fresh packet: of the number next expected, refused by no test of 1 to 6, with room
-  module _ (time : ℤ) (number message location stamp : ℕ) (t : Lent) (k : stamp < 2 ^ 32) (e : number ≡ numberOf l (nextOf l)) where
-    abbrev fresh-told : (x : DataAnswer) → r t (c time number message location stamp t k) .answer ≡ answers.Data x → Judges l (b .desk .capacity) (earlier time number message location stamp t k) number x
-    fresh-told = told time number message location stamp t k
-    -- it is taken: so a program that refuses all is ruled out, and one that compares numbers as plain numbers
-    pub must-append : earlyRefusal (b .desk) t c ≡ 0 → length (l .held) < b .desk .capacity → appends (answer-is .0) ≡ true
-    must-append z m = told (answer-is .0) (answer-is .1) .next z e m
+    pub grown : appends (answer-is .0) ≡ true → length (enter l c (t .payload) (r t c .answer) .held) ≡ length (l .held) + 1
+    grown m =
+        ap (λ (a : Answer). length (enter l c (t .payload) a .held)) (answer-is .1)
+        ∙ one-more l number (t .payload) (answer-is .0) m
 
     -- it is held: so a program that does nothing is ruled out whatever it answers, and one that works on the first call only and then echoes
-    pub must-hold : earlyRefusal (b .desk) t c ≡ 0 → length (l .held) < b .desk .capacity → length (sight (r t c .state)) ≡ length (sight (b .state)) + 1
-    must-hold z m =
+    pub must-hold : number ≡ numberOf l (nextOf l) → earlier ≡ 0 → length (l .held) < b .desk .capacity → length (sight (r t c .state)) ≡ length (sight (b .state)) + 1
+    must-hold e z m =
         sym (length-map (sight (r t c .state)) placeOf)
         ∙ ap length (held-then c t k)
-        ∙ ap (λ (a : Answer). length (enter l c (t .payload) a .held)) (answer-is .1)
-        ∙ one-more l number (t .payload) (answer-is .0) (must-append z m)
+        ∙ grown (must-append e z m)
         ∙ ap (λ (x : ℕ). x + 1) (sym held-now)
 
-    pub idle : earlyRefusal (b .desk) t c ≡ 0 → length (l .held) < b .desk .capacity → r t c .state ≡ b .state → ⊥
-    idle z m q = let x = must-hold z m in let y = ap (λ (a : State). length (sight a)) q in omega arith
+    pub idle : number ≡ numberOf l (nextOf l) → earlier ≡ 0 → length (l .held) < b .desk .capacity → r t c .state ≡ b .state → ⊥
+    idle e z m q = let x = must-hold e z m in let y = ap (λ (a : State). length (sight a)) q in omega arith
+
+    -- the next expected number is that of no held place
+    no-place : number ≡ numberOf l (nextOf l) → (i : ℕ) → i < length (l .held) → numberOf l (frontOf l + i) ≡ number → ⊥
+    no-place e i h q =
+        let m = fits step demand first s f past p .1 in
+        let z = place-one 31 (l .first) (frontOf l) (frontOf l + i) (nextOf l) (omega arith) (omega (arith, h, m)) (omega arith) (omega (arith, m)) (q ∙ e) in
+        omega arith
 
     -- and it is no duplicate
-    pub no-duplicate : (x : DataAnswer) → r t c .answer ≡ answers.Data x → dataLine x .refusal ≡ 10 → length (l .held) ≤ 8192 → ⊥
-    no-duplicate x q d m =
-        let u = told x q .duplicate d in
-        let z = place-one 31 (l .first) (frontOf l) (frontOf l + u .0) (nextOf l) (omega arith) (omega (arith, u .1, m)) (omega arith) (omega (arith, m)) (u .2 ∙ e) in
-        let y = u .1 in
+    pub no-duplicate : number ≡ numberOf l (nextOf l) → (x : DataAnswer) → r t c .answer ≡ answers.Data x → dataLine x .refusal ≡ 10 → ⊥
+    no-duplicate e x q d = let u = told x q .duplicate d in no-place e (u .0) (u .1) (u .2)
+
+    -- nor is it after itself
+    not-after : number ≡ numberOf l (nextOf l) → after 31 number (numberOf l (nextOf l)) ≡ true → ⊥
+    unfolding after
+    not-after e q =
+        let n = distance 31 number (numberOf l (nextOf l)) in
+        let z : n ≡ 0 = ap (λ (x : ℕ). distance 31 x (numberOf l (nextOf l))) e ∙ distance-self 31 (numberOf l (nextOf l)) in
+        let y = ltb-true 0 n (and-left (ltb 0 n) (ltb n (2 ^ 30)) q) in
         omega arith
+
+    -- nor before the front
+    not-before : number ≡ numberOf l (nextOf l) → before 31 number (numberOf l (frontOf l)) ≡ true → ⊥
+    not-before e q =
+        let m = fits step demand first s f past p .1 in
+        let d : distance 31 number (numberOf l (frontOf l)) ≡ length (l .held) =
+        ap (λ (x : ℕ). distance 31 x (numberOf l (frontOf l))) e ∙ place-distance 31 (l .first) (frontOf l) (length (l .held)) (omega arith) in
+        impossible (sym q ∙ before-not 31 number (numberOf l (frontOf l)) (omega (arith, d, m)))
+
+    -- where there is no room it is refused 7, and by no other number
+    module _ (e : number ≡ numberOf l (nextOf l)) (z : earlier ≡ 0) (m : length (l .held) ≡ b .desk .capacity) where
+      abbrev x : DataAnswer
+      x = answer-is .0
+
+      abbrev y : ℕ
+      y = dataLine x .refusal
+
+      says-so : Judges l (b .desk .capacity) earlier number x
+      says-so = told x (answer-is .1)
+
+      too-many : appends x ≡ true → ⊥
+      unfolding bookAfter
+      too-many g = let u = fits step demand first s f (event c t ∷ past) (k, p) .0 in omega (arith, u, grown g, m)
+
+      taken : (appends x || recovers x || isLoss x) ≡ true → ⊥
+      taken g =
+          by-bool (appends x)
+          too-many
+          (λ n₁.
+          by-bool (recovers x)
+          (λ n₂. let u = says-so .forLost n₂ in no-place e (u .0) (u .1) (u .2))
+          (λ n₂. by-bool (isLoss x) (λ n₃. not-after e (says-so .afterGap n₃)) (λ n₃. impossible (sym (rw (n₁, n₂, n₃) at g)))))
+
+      by-number : 7 ≤ y → y ≤ 10 → y ≡ 7
+      by-number low high =
+          by-order y 8
+          (λ h. omega arith)
+          (λ h.
+          absurd
+          (by-order y 9
+          (λ i. not-after e (says-so .early (omega arith) .0))
+          (λ i. by-order y 10 (λ j. not-before e (says-so .late (omega arith))) (λ j. no-duplicate e x (answer-is .1) (omega arith)))))
+
+      pub must-be-full : dataLine (answer-is .0) .refusal ≡ 7
+      must-be-full = go (refuses x (answer-is .1) .tested)
+        where
+          go : (refusalIn (answers.Data x) ≡ earlier) ⊎ ((earlier ≡ 0) × Later c (refusalIn (answers.Data x))) → y ≡ 7
+          go (inl u) = absurd (taken (says-so .took (u ∙ z)))
+          go (inr u) = by-number (u .1 .0) (u .1 .1)
 
   -- counts are not made up: a message's packets, a late drop's range and a drop request's count are what the receiver no longer holds
   pub message-count : (time : ℤ) (t : Lent) (at : ℤ) (bytes packets : ℕ) → r t (calls.Pop time) .answer ≡ answers.Pop (messages.Message at bytes packets)
@@ -147,56 +226,38 @@ module _ (step : State → Lent → Call → Ended) (demand : Demand3 step) (fir
       let v = held-then c t tt ∙ ap (λ (a : Answer). enter l c (t .payload) a .held) q in
       ap lostCount (demand first s f past p .holds .agrees .entries) ∙ u ∙ ap (λ (x : List Place). lostCount x + n) (sym v)
 
--- a packet that was handed in
-abbrev Has : List Event → ℕ → List ℕ → Type 0
-Has [] number bytes = ⊥
-Has (e ∷ past) number bytes = ((numberIn (e .call) ≡ number) × (e .lent .payload ≡ bytes)) ⊎ Has past number bytes
-
-sent-has : (past : List Event) (number : ℕ) (bytes : List ℕ) → Sent past number bytes → Has past number bytes
-sent-has _ _ _ (now time number message location stamp t past) = inl (refl, refl)
-sent-has _ _ _ (before e past number bytes h) = inr (sent-has past number bytes h)
-
 -- got every time: the first packet of a run is taken in order only if it has the first number
 pub got-in-order : (step : State → Lent → Call → Ended) → Demand3 step → (first : ℕ) (s : State) → Fresh first s → (time : ℤ) (number message location stamp : ℕ) (t : Lent) → stamp < 2 ^ 32
     → (lrsn : ℕ) → step s t (calls.Data time number message location stamp) .answer ≡ answers.Data (datas.Got lrsn false) → number ≡ sum 31 first 0
 unfolding bookAfter
 got-in-order step demand first s f time number message location stamp t k lrsn q =
-    let c = calls.Data time number message location stamp in
-    let e : Event = record { call = c; lent = t } in
-    let h = demand first s f (e ∷ []) (k, tt) .holds in
-    let g = subst (λ (a : Answer). (i : ℕ) (bytes : List ℕ) → getD (enter (opened first) c (t .payload) a .held) i lost ≡ received bytes
-    → Sent (e ∷ []) (numberOf (enter (opened first) c (t .payload) a) (frontOf (enter (opened first) c (t .payload) a) + i)) bytes) q (h .held) in
-    only (sent-has (e ∷ []) (sum 31 first 0) (t .payload) (g 0 (t .payload) refl))
-  where
-    only : {n : ℕ} {bytes : List ℕ} → ((number ≡ n) × (t .payload ≡ bytes)) ⊎ ⊥ → number ≡ n
-    only (inl x) = x .0
-    only (inr x) = absurd x
+    told step demand first s f [] tt time number message location stamp t k (datas.Got lrsn false) q .inOrder refl
 
 -- a receiver of one slot, fresh, and a packet that no test of 1 to 6 refuses: so these theorems speak of something
-abbrev small : State
+abbrev pub small : State
 small = record { head = madeOf (pos 0) 0 false 0 1 .head; slots = replicate 3 0; payloads = replicate 1456 0; history = [] }
 
-small-fresh : Fresh 0 small
+unfoldable pub small-fresh : Fresh 0 small
 unfolding madeOf thenOf
 small-fresh = record { start = pos 0; latency = 0; dropping = false; capacity = 1; made = refl; head = refl }
 
-abbrev packet : Lent
+abbrev pub packet : Lent
 packet = record { payload = 7 ∷ []; output = []; list = [] }
 
-small-tests : earlyRefusal (fresh 0 small .desk) packet (calls.Data (pos 0) 0 0 3 0) ≡ 0
-unfolding madeOf thenOf freshHead
+pub small-tests : earlyRefusal (freshDesk small-fresh) packet (calls.Data (pos 0) 0 0 3 0) ≡ 0
+unfolding small-fresh thenOf
 small-tests = refl
 
 -- doing nothing, whatever it answers
 pub doing-nothing : (step : State → Lent → Call → Ended) → Demand3 step → ((s : State) (t : Lent) (c : Call) → step s t c .state ≡ s) → ⊥
-unfolding bookAfter madeOf thenOf freshHead sum
+unfolding small-fresh bookAfter sum
 doing-nothing step demand still =
     idle step demand 0 small small-fresh [] tt (pos 0) 0 0 3 0 packet (omega arith) refl small-tests (omega arith) (still small packet (calls.Data (pos 0) 0 0 3 0))
 
 -- refusing all, by whatever number
 pub refusing-all : (step : State → Lent → Call → Ended) → Demand3 step → (n : ℕ)
     → ((s : State) (t : Lent) (time : ℤ) (number message location stamp : ℕ) → step s t (calls.Data time number message location stamp) .answer ≡ answers.Data (datas.Refused n)) → ⊥
-unfolding bookAfter madeOf thenOf freshHead sum
+unfolding small-fresh bookAfter sum
 refusing-all step demand n all =
-    let u = told step demand 0 small small-fresh [] tt (pos 0) 0 0 3 0 packet (omega arith) refl (datas.Refused n) (all small packet (pos 0) 0 0 3 0) in
+    let u = told step demand 0 small small-fresh [] tt (pos 0) 0 0 3 0 packet (omega arith) (datas.Refused n) (all small packet (pos 0) 0 0 3 0) in
     impossible (sym (u .next small-tests refl (omega arith)))
