@@ -3,12 +3,11 @@ use mathlib.Core.Path.{_≡_, refl, ap, sym, _∙_, subst}
 use mathlib.Core.Bool.{Bool, true, false, cond}
 use mathlib.Core.List.{List, [], _∷_}
 use mathlib.Core.Logic.{_⊎_, inl, inr}
-use Prim.Native.Nat.{ℕ, _+_, _<_, _≤_}
+use Prim.Native.Nat.{ℕ, _<_, _≤_}
 use native.Mathlib.Omega.{arith}
-use borrow.Author.Tests.{eqb-true, eqb-false, le-leb}
+use borrow.Author.Tests.{eqb-false, le-leb}
 use lib.Dec.{eqb, leb}
-use lib.IntN.{ℤ, pos, natAbs}
-use lib.ListN.{length}
+use lib.IntN.{pos, natAbs}
 use Rattle.numbers.specs.Circular.{distance, after, before, sum}
 use Rattle.numbers.proofs.Flags.{impossible, by-bool}
 use Rattle.head.specs.Parts.{withLatest}
@@ -18,8 +17,6 @@ use Rattle.receiver.specs.Data as receiving
 use Rattle.receiver.specs.Paper.{dataLine}
 use Rattle.receiver.specs.declared.data.DataAnswer.{DataAnswer}
 use Rattle.receiver.specs.declared.data.DataAnswer.the-variants as datas
-use Rattle.feedback.specs.declared.acking.FullAckAnswer.{FullAckAnswer}
-use Rattle.feedback.specs.declared.acking.FullAckAnswer.the-variants as acks
 use Rattle.step.specs.Step.{State, stateOf, Lent, Ended, stepOf}
 use Rattle.step.specs.declared.Call.{Call}
 use Rattle.step.specs.declared.Call.the-variants as calls
@@ -27,7 +24,7 @@ use Rattle.step.specs.declared.Answer.{Answer}
 use Rattle.step.specs.declared.Answer.the-variants as answers
 use Rattle.views.specs.Lists.{runOf}
 use Rattle.ledger.specs.Seen.{appends, refusalIn}
-use Rattle.ledger.specs.Ledger.{Ledger, opened, numberOf, nextOf, ackOf, enterData, enter}
+use Rattle.ledger.specs.Ledger.{opened, numberOf, nextOf, ackOf, enterData, enter}
 use Rattle.ledger.specs.Runs.{Event, noted, bookAfter, freshDesk}
 use Rattle.ledger.specs.Claims.{DataAcks, Judges, Later, Refuses, earlyRefusal, Demand3}
 use Rattle.ledger.proofs.Theorem.{ledger-theorem}

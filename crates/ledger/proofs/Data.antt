@@ -6,7 +6,7 @@ use Prim.Native.Nat.{ℕ, _+_, _-_, _*_, _^_, _<_, _≤_}
 use native.Mathlib.Nat.{mod-eq-of-lt}
 use native.Mathlib.Omega.{arith}
 use lib.IntN.{ℤ, natAbs}
-use lib.ListN.{length, length-append, length-set, length-replicate, set, replicate}
+use lib.ListN.{length, length-append, length-replicate, set, replicate}
 use Rattle.numbers.specs.Circular.{distance, sum}
 use Rattle.numbers.proofs.Circle.{stepped, sum-sum, distance-sum}
 use Rattle.numbers.proofs.Places.{place-turns}
@@ -22,7 +22,6 @@ use Rattle.receiver.specs.declared.data.DataAnswer.{DataAnswer}
 use Rattle.views.specs.View as views
 use Rattle.views.specs.View.{Seen, entries, LrsnRight, packetSeen}
 use Rattle.ledger.specs.Ledger.{Place, lost, received, Ledger, numberOf, frontOf, nextOf, holding, marked, tookIn, enterData, releasedBytes}
-use Rattle.ledger.specs.Seen.{dataPlaces}
 use Rattle.ledger.specs.Runs.{placeOf}
 use Rattle.ledger.proofs.Places.{map-append, map-set, map-replicate, marked-one}
 use Rattle.ledger.proofs.Owned.{held-append, held-packet, held-gaps, held-marked}
@@ -48,7 +47,7 @@ module _ (S : ℕ → List ℕ → Type 0) (l : Ledger) (h : Head) (ws bs : List
 
   -- in order
   took : p .number ≡ windows.nextOf w → LrsnRight (grown w p 1) (es ++ (packetSeen p payload ∷ []))
-      → Moved S l (tookIn l (p .number) payload false) (grown w p 1) (es ++ (packetSeen p payload ∷ [])) 1 []
+      → Moved S l (tookIn l (p .number) payload false) (grown w p 1) (es ++ (packetSeen p payload ∷ [])) []
   took q r =
       let own : S (numberOf l (nextOf l)) payload =
       subst (λ (x : ℕ). S x payload) (q ∙ place-number a (w .held) ∙ ap (λ (x : ℕ). numberOf l (frontOf l + x)) (window-count ws bs a)) s in
@@ -63,13 +62,12 @@ module _ (S : ℕ → List ℕ → Type 0) (l : Ledger) (h : Head) (ws bs : List
                   held-append S (l .first) (l .held) (received payload ∷ []) (frontOf l) (a .ownHeld) (held-packet S (l .first) (nextOf l) payload own);
             };
         handed = sym (append-nil (releasedBytes (l .gone)));
-        all = let n = length-append (l .held) (received payload ∷ []) in omega arith;
       }
 
   -- for a place that was lost
   filled : (lrsn : ℕ) → w .held ≤ 8192 → p .number < 2 ^ 31 → distance 31 (p .number) (w .seqno0) < w .held
       → LrsnRight (withLrsn w lrsn) (set es (distance 31 (p .number) (w .seqno0)) (packetSeen p payload))
-      → Moved S l (tookIn l (p .number) payload true) (withLrsn w lrsn) (set es (distance 31 (p .number) (w .seqno0)) (packetSeen p payload)) 0 []
+      → Moved S l (tookIn l (p .number) payload true) (withLrsn w lrsn) (set es (distance 31 (p .number) (w .seqno0)) (packetSeen p payload)) []
   unfolding sum
   filled lrsn m n i r =
       let at = distance 31 (p .number) (w .seqno0) in
@@ -86,7 +84,6 @@ module _ (S : ℕ → List ℕ → Type 0) (l : Ledger) (h : Head) (ws bs : List
               ownHeld = held-marked S (l .first) (p .number) payload s (l .held) (frontOf l) (a .ownHeld);
             };
         handed = sym (append-nil (releasedBytes (l .gone)));
-        all = let n = ap length one ∙ length-set (l .held) at (received payload) in omega arith;
       }
 
   -- after a gap
@@ -95,7 +92,7 @@ module _ (S : ℕ → List ℕ → Type 0) (l : Ledger) (h : Head) (ws bs : List
       (es ++ replicate (distance 31 (p .number) (windows.nextOf w)) (views.lost 2 time) ++ (packetSeen p payload ∷ []))
       → (named : ℕ) → named + 1 ≡ distance 31 (p .number) (windows.nextOf w)
       → Moved S l (holding l (l .held ++ replicate (named + 1) lost ++ (received payload ∷ []))) (grown w p (distance 31 (p .number) (windows.nextOf w) + 1))
-      (es ++ replicate (distance 31 (p .number) (windows.nextOf w)) (views.lost 2 time) ++ (packetSeen p payload ∷ [])) (named + 2) []
+      (es ++ replicate (distance 31 (p .number) (windows.nextOf w)) (views.lost 2 time) ++ (packetSeen p payload ∷ [])) []
   unfolding sum
   gapped time n some under r named e =
       let gap = distance 31 (p .number) (windows.nextOf w) in
@@ -125,7 +122,6 @@ module _ (S : ℕ → List ℕ → Type 0) (l : Ledger) (h : Head) (ws bs : List
                   (held-packet S (l .first) (frontOf l + length gaps) payload (subst (λ (x : ℕ). S x payload) number s));
             };
         handed = sym (append-nil (releasedBytes (l .gone)));
-        all = let n = length-append gaps (received payload ∷ []) in omega arith;
       }
 
   beyond : Admitted h ws bs now p payload → p .number ≡ sum 31 (windows.nextOf w) (distance 31 (p .number) (windows.nextOf w))
@@ -134,7 +130,7 @@ module _ (S : ℕ → List ℕ → Type 0) (l : Ledger) (h : Head) (ws bs : List
 
   -- the call, by its answer
   abbrev pub Kept : Window → List Seen → DataAnswer → Type 0
-  Kept v fs answer = Moved S l (enterData l (p .number) payload answer) v fs (dataPlaces answer) []
+  Kept v fs answer = Moved S l (enterData l (p .number) payload answer) v fs []
 
   pub data-stands : Said h ws bs now p payload hs (a .right) Kept (dataCallOf h ws bs now p payload)
   data-stands =

@@ -1,6 +1,6 @@
 -- What the station knows stays so: no call moves the capacity or the length of an area, and the latest reading is that of the last call that was not refused.
 -- And the acknowledgement number that an answer tells is the head's. Assumes nothing.
-use mathlib.Core.Path.{_≡_, refl, ap, sym, _∙_, subst}
+use mathlib.Core.Path.{_≡_, refl, ap, _∙_}
 use mathlib.Core.Bool.{Bool, true, false, cond}
 use mathlib.Core.List.{List, []}
 use Prim.Native.Nat.{ℕ, _+_, _-_, _*_, _^_, _<_}
@@ -46,7 +46,6 @@ use Rattle.head.specs.Head.{headOk}
 use Rattle.head.specs.declared.state.Head.{Head}
 use Rattle.head.specs.Parts.{withLatest}
 use Rattle.feedback.specs.declared.acking.FullAckAnswer.the-variants as answered
-use Rattle.head.specs.Ready.{PushReady}
 use Rattle.head.proofs.Ready.{push-ready}
 use Rattle.receiver.specs.Data as receiving
 use Rattle.receiver.specs.Data.{DataOutcome, packet, gotAnswer, ackedOf, gotOf, takenOf, dataCallOf}
@@ -60,7 +59,7 @@ use Rattle.feedback.specs.Sync.{ClockOutcome, afterSync, syncOf, clockCallOf}
 use Rattle.upkeep.specs.Request.{DropOutcome, dropCallOf}
 use Rattle.upkeep.specs.Paper.{dropLine}
 use Rattle.kept.proofs.Says.{Says, push-says}
-use Rattle.step.specs.Step.{State, Lent, Ended, lineOf, stepOf}
+use Rattle.step.specs.Step.{State, Lent, lineOf, stepOf}
 use Rattle.step.specs.declared.Call.{Call}
 use Rattle.step.specs.declared.Call.the-variants as calls
 use Rattle.step.specs.declared.Answer.{Answer}

@@ -1,5 +1,6 @@
 -- The proofs of the claims.
 pub mod Examples
+pub mod Form
 pub mod Places
 pub mod Owned
 pub mod Moves

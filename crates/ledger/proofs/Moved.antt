@@ -3,7 +3,7 @@ use mathlib.Core.Path.{_≡_, ap, sym, _∙_, subst}
 use mathlib.Core.List.{List, [], _++_, map, append-nil}
 use Prim.Native.Nat.{ℕ, _+_, _-_, _≤_}
 use native.Mathlib.Omega.{arith}
-use lib.ListN.{length, length-append, length-map, length-drop, take, drop}
+use lib.ListN.{length, length-append, length-map, take, drop}
 use lib.Seq.{length-take-le}
 use Rattle.numbers.specs.Circular.{sum}
 use Rattle.numbers.proofs.Circle.{sum-sum}
@@ -11,7 +11,7 @@ use Rattle.window.specs.Window.{numberIn}
 use Rattle.window.specs.declared.Window.{Window}
 use Rattle.views.specs.View.{Seen, gapIn, LrsnRight, entries}
 use Rattle.views.proofs.Lists.{entries-length}
-use Rattle.ledger.specs.Ledger.{Place, Fate, Ledger, numberOf, frontOf, nextOf, leave, receivedRun, releasedBytes}
+use Rattle.ledger.specs.Ledger.{Place, Fate, Ledger, numberOf, frontOf, leave, receivedRun, releasedBytes}
 use Rattle.ledger.specs.Runs.{placeOf}
 use Rattle.ledger.proofs.Places.{map-drop, run-gap}
 use Rattle.ledger.proofs.Owned.{OwnHeld, OwnGone, gone-append, held-drop}
@@ -24,14 +24,13 @@ pub record Stands (S : ℕ → List ℕ → Type 0) (l : Ledger) (w : Window) (e
   pub ownGone : OwnGone S (l .first) 0 (l .gone)
   pub ownHeld : OwnHeld S (l .first) (frontOf l) (l .held)
 
--- after a call: so many places more, and these bytes handed out
-pub record Moved (S : ℕ → List ℕ → Type 0) (l l₁ : Ledger) (w : Window) (es : List Seen) (places : ℕ) (out : List ℕ) : Type 0 where
+-- after a call: these bytes were handed out
+pub record Moved (S : ℕ → List ℕ → Type 0) (l l₁ : Ledger) (w : Window) (es : List Seen) (out : List ℕ) : Type 0 where
   pub stands : Stands S l₁ w es
   pub handed : releasedBytes (l₁ .gone) ≡ releasedBytes (l .gone) ++ out
-  pub all : nextOf l₁ ≡ nextOf l + places
 
-pub still : {S : ℕ → List ℕ → Type 0} {l : Ledger} {w : Window} {es : List Seen} → Stands S l w es → Moved S l l w es 0 []
-still {l = l} a = record { stands = a; handed = sym (append-nil (releasedBytes (l .gone))); all = omega arith }
+pub still : {S : ℕ → List ℕ → Type 0} {l : Ledger} {w : Window} {es : List Seen} → Stands S l w es → Moved S l l w es []
+still {l = l} a = record { stands = a; handed = sym (append-nil (releasedBytes (l .gone))) }
 
 -- how many are held
 pub held-count : {S : ℕ → List ℕ → Type 0} {l : Ledger} {w : Window} {es : List Seen} → Stands S l w es → length es ≡ length (l .held)
@@ -55,9 +54,6 @@ module _ (S : ℕ → List ℕ → Type 0) (l : Ledger) (w : Window) (es : List 
   front-after =
       length-append (l .gone) (map f (take n (l .held)))
       ∙ ap (λ (x : ℕ). frontOf l + x) (length-map (take n (l .held)) f ∙ length-take-le n (l .held) h)
-
-  pub left-all : nextOf (leave l n f) ≡ nextOf l + 0
-  left-all = let x = front-after in let y = length-drop n (l .held) in omega arith
 
   pub left-stands : (v : Window) (fs : List Seen)
       → v .seqno0 ≡ numberIn w n → fs ≡ drop n es → LrsnRight v fs → OwnGone S (l .first) (frontOf l) (map f (take n (l .held))) → Stands S (leave l n f) v fs

@@ -2,7 +2,6 @@
 use mathlib.Core.Path.{_≡_, refl, ap, sym, _∙_, subst}
 use mathlib.Core.List.{List, [], map, append-nil}
 use Prim.Native.Nat.{ℕ, _+_, _*_}
-use native.Mathlib.Omega.{arith}
 use lib.Dec.{eqb}
 use lib.IntN.{ℤ, natAbs}
 use lib.ListN.{length}
@@ -55,7 +54,7 @@ module _ (S : ℕ → List ℕ → Type 0) (l : Ledger) (h : Head) (ws bs : List
 
   -- a loss report moves no place
   abbrev pub Reported : LossOutcome → Type 0
-  Reported o = Moved S l l (o .reported .head .window) (entries (o .reported .head .window) (o .slots) bs) 0 []
+  Reported o = Moved S l l (o .reported .head .window) (entries (o .reported .head .window) (o .slots) bs) []
 
   report-places : (time mean : ℕ) (x : ReportAnswer) → map placeOf (views.afterReport time mean es x) ≡ map placeOf es
   report-places time mean reports.Nothing = refl
@@ -76,7 +75,7 @@ module _ (S : ℕ → List ℕ → Type 0) (l : Ledger) (h : Head) (ws bs : List
       let g = good w ws (t .0 .head .window) (t .1) in
       let u = reading-size now (t .0 .reading) .1 in
       let o = reportOf w ws (natAbs now) (h .rtt .mean) list in
-      subst (λ (v : Window). Moved S l l v (entries v (o .slots) bs) 0 []) (sym (report-window now (o .answer)))
+      subst (λ (v : Window). Moved S l l v (entries v (o .slots) bs) []) (sym (report-window now (o .answer)))
       (still
       (record {
         front = a .front;
@@ -89,7 +88,7 @@ module _ (S : ℕ → List ℕ → Type 0) (l : Ledger) (h : Head) (ws bs : List
 
   -- a drop request gives up lost places
   abbrev pub Requested : ℕ → ℕ → DropOutcome → Type 0
-  Requested first last o = Moved S l (enterDrop l first last (o .answer)) w (entries w (o .slots) bs) 0 []
+  Requested first last o = Moved S l (enterDrop l first last (o .answer)) w (entries w (o .slots) bs) []
 
   end-is : (number : ℕ) → dropping.endIn w number ≡ endIn l number
   unfolding dropping.endIn
@@ -119,7 +118,6 @@ module _ (S : ℕ → List ℕ → Type 0) (l : Ledger) (h : Head) (ws bs : List
               ownHeld = held-given S (l .first) (endIn l first) (endIn l (sum 31 last 1)) 0 (l .held) (frontOf l) (a .ownHeld);
             };
         handed = sym (append-nil (releasedBytes (l .gone)));
-        all = omega (arith, long);
       })
       (λ z. still a)
 
@@ -137,7 +135,7 @@ module _ (S : ℕ → List ℕ → Type 0) (l : Ledger) (h : Head) (ws bs : List
 
   -- ACKs and the clock leave the window
   abbrev Alike : Window → Type 0
-  Alike v = Moved S l l v (entries v ws bs) 0 []
+  Alike v = Moved S l l v (entries v ws bs) []
 
   alike : (v : Window) → v ≡ w → Alike v
   alike v e = subst Alike (sym e) (still a)

@@ -15,7 +15,7 @@ use Rattle.window_report.specs.Report.{isDue}
 use Rattle.views.specs.Lists.{runOf, changedIn}
 use Rattle.views.specs.View as views
 use Rattle.views.specs.View.{Seen, gapIn}
-use Rattle.ledger.specs.Ledger.{Place, lost, received, givenUp, Fate, released, discarded, bytesOf, gaveUp, givenIn, marked, receivedRun, releasedBytes}
+use Rattle.ledger.specs.Ledger.{Place, received, Fate, released, discarded, bytesOf, gaveUp, givenIn, marked, receivedRun, releasedBytes}
 use Rattle.ledger.specs.Runs.{placeOf}
 
 module _ {A B : Type 0} (f : A → B) where

@@ -37,7 +37,7 @@ use Rattle.ledger.specs.Runs.{Desk, placeOf}
 use Rattle.ledger.specs.Claims.{Tells}
 use Rattle.ledger.proofs.Places.{map-take, run-gap, released-append, released-joined, discarded-none}
 use Rattle.ledger.proofs.Owned.{gone-released, gone-discarded}
-use Rattle.ledger.proofs.Moved.{Stands, Moved, still, window-count, place-number, left-stands, left-all}
+use Rattle.ledger.proofs.Moved.{Stands, Moved, still, window-count, place-number, left-stands}
 use Rattle.ledger.proofs.Moves.{by-refusal}
 
 -- how many places an answer of the window takes off the front
@@ -60,7 +60,7 @@ module _ (S : ℕ → List ℕ → Type 0) (l : Ledger) (h : Head) (ws bs out : 
   -- what the call leaves
   abbrev pub Kept : MessageOutcome → Type 0
   Kept g =
-      Moved S l (enterPop l (g .given .answer)) (g .given .head .window) (entries (g .given .head .window) ws bs) 0 (popBytes (g .given .answer) (g .output))
+      Moved S l (enterPop l (g .given .answer)) (g .given .head .window) (entries (g .given .head .window) ws bs) (popBytes (g .given .answer) (g .output))
 
   abbrev pub Told : Desk → MessageOutcome → Type 0
   Told k g = Tells l k (g .given .answer) (g .output)
@@ -125,7 +125,7 @@ module _ (S : ℕ → List ℕ → Type 0) (l : Ledger) (h : Head) (ws bs out : 
     right = pop-right (h .clock) (h .latency) (h .dropping) w ws now bs out (d .good) (a .right)
 
     -- nothing leaves
-    stays : o .popped .answer ≡ pops.Nothing → Moved S l l (o .popped .window) (entries (o .popped .window) ws bs) 0 []
+    stays : o .popped .answer ≡ pops.Nothing → Moved S l l (o .popped .window) (entries (o .popped .window) ws bs) []
     stays e =
         still
         (record {
@@ -138,7 +138,7 @@ module _ (S : ℕ → List ℕ → Type 0) (l : Ledger) (h : Head) (ws bs out : 
 
     -- a message: its places are all received, and the output has their bytes
     given : (time : ℤ) (bytes packets : ℕ) → o .popped .answer ≡ pops.Message time bytes packets
-        → Moved S l (leave l packets (λ x. released (bytesOf x))) (o .popped .window) (entries (o .popped .window) ws bs) 0 (take bytes (o .output))
+        → Moved S l (leave l packets (λ x. released (bytesOf x))) (o .popped .window) (entries (o .popped .window) ws bs) (take bytes (o .output))
     given time bytes packets e =
         let f : Place → Fate = λ x. released (bytesOf x) in
         let m = pop-handed (h .clock) (h .latency) (h .dropping) w ws now bs out (d .good) (d .payloads) time bytes packets e in
@@ -158,12 +158,11 @@ module _ (S : ℕ → List ℕ → Type 0) (l : Ledger) (h : Head) (ws bs out : 
               right
               own;
           handed = released-append (l .gone) (map f (take packets (l .held))) ∙ ap (λ (x : List ℕ). releasedBytes (l .gone) ++ x) bytes-of;
-          all = left-all S l w es a packets f some;
         }
 
     -- a late drop
     dropped : (first end : ℕ) (delay : ℤ) → o .popped .answer ≡ pops.Late first end delay
-        → Moved S l (leave l (distance 31 end first) (λ x. discarded)) (o .popped .window) (entries (o .popped .window) ws bs) 0 []
+        → Moved S l (leave l (distance 31 end first) (λ x. discarded)) (o .popped .window) (entries (o .popped .window) ws bs) []
     dropped first end delay e =
         let n = distance 31 end first in
         let f : Place → Fate = λ x. discarded in
@@ -176,7 +175,6 @@ module _ (S : ℕ → List ℕ → Type 0) (l : Ledger) (h : Head) (ws bs out : 
               right
               (gone-discarded S (l .first) (frontOf l) (take n (l .held)));
           handed = released-append (l .gone) (map f (take n (l .held))) ∙ ap (λ (x : List ℕ). releasedBytes (l .gone) ++ x) (discarded-none (take n (l .held)));
-          all = left-all S l w es a n f some;
         }
 
     by-answer : (x : PopAnswer) → o .popped .answer ≡ x → Kept (popped h now o)

@@ -15,7 +15,7 @@ use Rattle.numbers.proofs.Flags.{impossible, and-left, by-bool, by-order}
 use Rattle.numbers.proofs.Places.{place-one, place-distance}
 use Rattle.window.proofs.Ranges.{in-window}
 use Rattle.head.specs.Rules.{thenOf}
-use Rattle.head.specs.Head.{freshHead, madeOf}
+use Rattle.head.specs.Head.{madeOf}
 use Rattle.head.proofs.Ready.{in-parts}
 use Rattle.receiver.specs.Paper.{dataLine}
 use Rattle.receiver.specs.declared.data.DataAnswer.{DataAnswer}

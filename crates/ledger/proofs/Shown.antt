@@ -1,8 +1,8 @@
 -- Show, in a run: of a number whose held place is received it shows the ledger's bytes, of any other nothing: 01, "Window", "can be shown where it lies". Assumes nothing.
-use mathlib.Core.Path.{_≡_, refl, ap, sym, _∙_, subst}
-use mathlib.Core.Bool.{Bool, true, false, _&&_, cond}
+use mathlib.Core.Path.{_≡_, refl, ap, sym, _∙_}
+use mathlib.Core.Bool.{Bool, true, false, _&&_}
 use mathlib.Core.List.{List, [], _∷_, map}
-use Prim.Native.Nat.{ℕ, zero, suc, _+_, _^_, _<_, _≤_}
+use Prim.Native.Nat.{ℕ, zero, suc, _+_, _^_, _<_}
 use native.Mathlib.Nat.{mod-eq-of-lt}
 use native.Mathlib.Omega.{arith}
 use borrow.Author.Tests.{ltb-true, lt-ltb, leb-false, eqb-true, eqb-false}
@@ -15,7 +15,6 @@ use Rattle.slots.specs.Words as words
 use Rattle.slots.specs.Ring.{payloadAt, payloadStart}
 use Rattle.slots.specs.declared.entry.Entry.{Entry}
 use Rattle.slots.specs.declared.entry.Entry.the-variants.{Lost, Received, GivenUp}
-use Rattle.window.specs.Window as windows
 use Rattle.window.specs.Window.{slotIn, entryIn}
 use Rattle.window.specs.Ready.{InWindow}
 use Rattle.window.specs.Show.{nowhere, shownOf}
@@ -30,9 +29,9 @@ use Rattle.head.proofs.Ready.{in-parts}
 use Rattle.upkeep.specs.Show.{refusalOf, placeCallOf, shownCallOf}
 use Rattle.upkeep.specs.declared.show.ShowAnswer.{ShowAnswer}
 use Rattle.views.specs.View as views
-use Rattle.views.specs.View.{Seen, seenOf, seenAt, entries}
+use Rattle.views.specs.View.{seenOf, seenAt, entries}
 use Rattle.views.proofs.Lists.{entries-at}
-use Rattle.ledger.specs.Ledger.{Place, lost, received, givenUp, Ledger, numberOf, frontOf}
+use Rattle.ledger.specs.Ledger.{Place, lost, received, Ledger, numberOf, frontOf}
 use Rattle.ledger.specs.Runs.{placeOf}
 use Rattle.ledger.specs.Claims.{Shows}
 use Rattle.ledger.proofs.Moved.{Stands, window-count, place-number}

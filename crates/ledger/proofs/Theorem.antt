@@ -2,13 +2,13 @@
 use mathlib.Core.Path.{_≡_, refl, ap, sym, _∙_, subst}
 use mathlib.Core.Bool.{Bool, true}
 use mathlib.Core.List.{List, [], _∷_, _++_, map}
-use Prim.Native.Nat.{ℕ, zero, suc, _+_, _^_, _<_}
+use Prim.Native.Nat.{ℕ, _+_, _^_, _<_}
 use native.Mathlib.Omega.{arith}
 use borrow.Author.Tests.{leb-false}
 use lib.Dec.{lit<}
 use lib.IntN.{ℤ}
-use lib.ListN.{length, getD, take, length-map}
-use Rattle.numbers.specs.Circular.{distance, sum}
+use lib.ListN.{length, length-map}
+use Rattle.numbers.specs.Circular.{sum}
 use Rattle.numbers.proofs.Circle.{sum-zero}
 use Rattle.numbers.proofs.Places.{place-one}
 use Rattle.head.specs.Rules.{firstRefusal, makeRules, showRules, headRules}
@@ -21,15 +21,10 @@ use Rattle.window.proofs.Ranges.{in-window}
 use Rattle.receiver.specs.Data.{packet, dataCallOf}
 use Rattle.receiver.specs.Paper.{dataLine}
 use Rattle.receiver.specs.declared.data.DataAnswer.{DataAnswer}
-use Rattle.receiver.specs.declared.data.DataAnswer.the-variants as datas
-use Rattle.receiver.specs.declared.message.MessageAnswer.{MessageAnswer}
-use Rattle.receiver.specs.declared.message.MessageAnswer.the-variants as messages
 use Rattle.window.specs.declared.show.Part.{Part}
 use Rattle.upkeep.specs.Request.{ClearOutcome, clearedOf, clearCallOf}
 use Rattle.upkeep.specs.Show.{refusalOf, placeCallOf, shownCallOf}
 use Rattle.upkeep.specs.declared.show.ShowAnswer.{ShowAnswer}
-use Rattle.upkeep.specs.declared.request.DropAnswer.{DropAnswer}
-use Rattle.upkeep.specs.declared.request.DropAnswer.the-variants as drops
 use Rattle.kept.proofs.DataKept.{made-kept, data-kept, loss-kept, cleared-kept}
 use Rattle.kept.proofs.TimedKept.{ack2-kept, full-ack-kept, clock-kept, message-kept}
 use Rattle.step.specs.Step.{State, Lent, Ended, stepOf}
@@ -41,9 +36,9 @@ use Rattle.views.specs.Lists.{runOf}
 use Rattle.views.specs.View.{Seen, entriesFrom, entries, gapIn}
 use Rattle.ledger.specs.Runs.{placeOf}
 use Rattle.views.proofs.Lists.{entries-length}
-use Rattle.ledger.specs.Ledger.{Place, receivedRun, Fate, released, discarded, bytesOf, Ledger, opened, numberOf, frontOf, nextOf, enterData, enterPop, enterDrop, enter, releasedBytes}
-use Rattle.ledger.specs.Seen.{numberIn, lastIn, NotClear, outBytes, placesIn, kindOf, kindIn}
-use Rattle.ledger.specs.Runs.{Event, Desk, Known, Book, opening, answered, turned, bookAfter, Fresh, freshDesk, fresh, NoneClear, handedOut, Sent, now, before, entered, Empty}
+use Rattle.ledger.specs.Ledger.{Place, receivedRun, Ledger, opened, numberOf, frontOf, nextOf, enter, releasedBytes}
+use Rattle.ledger.specs.Seen.{NotClear, outBytes, kindOf, kindIn}
+use Rattle.ledger.specs.Runs.{Event, Desk, Known, Book, opening, answered, turned, bookAfter, Fresh, freshDesk, fresh, NoneClear, handedOut, Sent, now, before, Empty}
 use Rattle.ledger.specs.Claims.{Holds, Judges, earlyRefusal, Acks, Says, Told, Demand3, Stretch, showRefusal, Shows, DemandShown}
 use Rattle.ledger.proofs.Owned.{nothing, empty}
 use Rattle.ledger.proofs.Moved.{Stands, Moved, held-count, window-count, lrsn-said}
@@ -72,7 +67,7 @@ seen s = entries (s .head .window) (s .slots) (s .payloads)
 
 step-stands : (S : ℕ → List ℕ → Type 0) (l : Ledger) (s : State) (t : Lent) (c : Call)
     → NotClear c → Stands S l (s .head .window) (seen s) → Fed S c (t .payload)
-    → Moved S l (enter l c (t .payload) (stepOf s t c .answer)) (stepOf s t c .state .head .window) (seen (stepOf s t c .state)) (placesIn (stepOf s t c .answer))
+    → Moved S l (enter l c (t .payload) (stepOf s t c .answer)) (stepOf s t c .state .head .window) (seen (stepOf s t c .state))
     (outBytes (stepOf s t c .answer) (stepOf s t c .output))
 step-stands S l s t (calls.Data time number message location stamp) p a f =
     data-stands S l (s .head) (s .slots) (s .payloads) time (packet number message location stamp) (t .payload) p a f
@@ -222,7 +217,6 @@ module _ (first : ℕ) (d : Desk) (s : State) (f : Empty first s) (g : Known d s
   abbrev Next : Event → List Event → Type 0
   Next e past =
       Moved (Sent (e ∷ past)) (at past .ledger) (turned stepOf (at past) e .ledger) (turned stepOf (at past) e .state .head .window) (seen (turned stepOf (at past) e .state))
-      (placesIn (then e past .answer))
       (outBytes (then e past .answer) (then e past .output))
 
   abbrev At : List Event → Type 0
@@ -254,12 +248,6 @@ module _ (first : ℕ) (d : Desk) (s : State) (f : Empty first s) (g : Known d s
       ap (λ (x : List ℕ). x ++ outBytes (then e past .answer) (then e past .output)) (run-handed past (p .1))
       ∙ sym (one-more e past (p .0) (run-stands past (p .1)) .handed)
 
-  run-all : (past : List Event) → NoneClear past → nextOf (at past .ledger) ≡ entered stepOf b past
-  unfolding bookAfter entered
-  run-all [] p = refl
-  run-all (e ∷ past) p =
-      one-more e past (p .0) (run-stands past (p .1)) .all ∙ ap (λ (x : ℕ). x + placesIn (then e past .answer)) (run-all past (p .1))
-
   run-apart : (past : List Event) → NoneClear past → (i j : ℕ) → i < length (at past .ledger .held) → j < length (at past .ledger .held)
       → numberOf (at past .ledger) (frontOf (at past .ledger) + i) ≡ numberOf (at past .ledger) (frontOf (at past .ledger) + j) → i ≡ j
   run-apart past p i j hi hj e =
@@ -271,7 +259,7 @@ module _ (first : ℕ) (d : Desk) (s : State) (f : Empty first s) (g : Known d s
       let q = place-one 31 (l .first) (frontOf l) (frontOf l + i) (frontOf l + j) (omega arith) (omega (arith, n, m, r .holds, r .most)) (omega arith) (omega (arith, n, m, r .holds, r .most)) e in
       omega arith
 
-  run-holds : (past : List Event) → NoneClear past → Holds (at past .ledger) (at past .desk) (at past .state) past (handedOut stepOf b past) (entered stepOf b past)
+  run-holds : (past : List Event) → NoneClear past → Holds (at past .ledger) (at past .desk) (at past .state) past (handedOut stepOf b past)
   run-holds past p =
       let a = run-stands past p in
       let l = at past .ledger in
@@ -281,7 +269,6 @@ module _ (first : ℕ) (d : Desk) (s : State) (f : Empty first s) (g : Known d s
         handed = run-handed past p;
         own = λ i bytes q. subst (λ (x : ℕ). Sent past (sum 31 (l .first) x) bytes) (zero-add i) (a .ownGone i bytes q);
         held = a .ownHeld;
-        all = run-all past p;
         apart = run-apart past p;
         inRange = run-kept past p;
       }
@@ -393,39 +380,3 @@ clear-empty first d s t f k =
         latest = by-refusal (λ (o : ClearOutcome). o .cleared .head .latest ≡ d .latest) n _ _ (λ z. k .latest) (λ z. k .latest);
       },
     )
-
--- of the ledger's own form, whatever the answers are: the fate of a place that is gone never changes
-abbrev Stays : Ledger → Ledger → Type 0
-Stays l l₁ = (p : ℕ) → p < frontOf l → getD (l₁ .gone) p discarded ≡ getD (l .gone) p discarded
-
-kept-fate : (fs gs : List Fate) (p : ℕ) → p < length fs → getD (fs ++ gs) p discarded ≡ getD fs p discarded
-kept-fate [] gs p h = absurd (omega arith)
-kept-fate (f ∷ fs) gs zero h = refl
-kept-fate (f ∷ fs) gs (suc p) h = kept-fate fs gs p (omega arith)
-
-pop-settled : (l : Ledger) (a : MessageAnswer) → Stays l (enterPop l a)
-pop-settled l messages.Nothing p h = refl
-pop-settled l (messages.Message time bytes packets) p h = kept-fate (l .gone) (map (λ x. released (bytesOf x)) (take packets (l .held))) p h
-pop-settled l (messages.Late first end delay) p h = kept-fate (l .gone) (map (λ x. discarded) (take (distance 31 end first) (l .held))) p h
-pop-settled l (messages.Refused n) p h = refl
-
-data-settled : (l : Ledger) (number : ℕ) (bytes : List ℕ) (a : DataAnswer) → Stays l (enterData l number bytes a)
-data-settled l number bytes (datas.Got lrsn recovered) p h = refl
-data-settled l number bytes (datas.Light lrsn recovered) p h = refl
-data-settled l number bytes (datas.Loss x y) p h = refl
-data-settled l number bytes (datas.Refused n) p h = refl
-data-settled l number bytes (datas.PacketTooEarly room need) p h = refl
-
-drop-settled : (l : Ledger) (first last : ℕ) (a : DropAnswer) → Stays l (enterDrop l first last a)
-drop-settled l first last (drops.Gone n) p h = refl
-drop-settled l first last (drops.Refused n) p h = refl
-
-pub settled : (l : Ledger) (c : Call) (bytes : List ℕ) (a : Answer) → Stays l (enter l c bytes a)
-settled l c bytes (answers.Data a) p h = data-settled l (numberIn c) bytes a p h
-settled l c bytes (answers.Pop a) p h = pop-settled l a p h
-settled l c bytes (answers.Report a) p h = refl
-settled l c bytes (answers.FullAck a) p h = refl
-settled l c bytes (answers.Ack2 a) p h = refl
-settled l c bytes (answers.Drop a) p h = drop-settled l (numberIn c) (lastIn c) a p h
-settled l c bytes (answers.Clock a) p h = refl
-settled l c bytes (answers.Clear a) p h = refl

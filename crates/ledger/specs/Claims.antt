@@ -32,11 +32,11 @@ use Rattle.step.specs.declared.Answer.{Answer}
 use Rattle.step.specs.declared.Answer.the-variants as answers
 use Rattle.ledger.specs.Seen.{NotClear, numberIn, lastIn, appends, recovers, isLoss, LossIs, EarlyIs, kindOf, kindIn, refusalIn}
 use Rattle.ledger.specs.Ledger.{lost, received, givenUp, released, discarded, Ledger, numberOf, frontOf, nextOf, ackOf, bytesOf, receivedRun, lostCount, releasedBytes, enterDrop}
-use Rattle.ledger.specs.Runs.{Event, Desk, Book, opening, Known, Fresh, fresh, Empty, NoneClear, answered, turned, bookAfter, handedOut, entered, Sent, Agrees}
+use Rattle.ledger.specs.Runs.{Event, Desk, Book, opening, Known, Fresh, fresh, Empty, NoneClear, answered, turned, bookAfter, handedOut, Sent, Agrees}
 
--- after any calls: past has them all, out is all that they handed out, count how many places they entered
-pub record Holds (l : Ledger) (d : Desk) (s : State) (past : List Event) (out : List ℕ) (count : ℕ) : Type 0 where
-  -- what the receiver holds is what the ledger says, and its settings and latest reading are what the station knows
+-- after any calls: past has them all, out is all that they handed out
+pub record Holds (l : Ledger) (d : Desk) (s : State) (past : List Event) (out : List ℕ) : Type 0 where
+  -- nothing dropped unseen: what the receiver holds is what the ledger says, where a place leaves only by an answer that says so; and its settings and latest reading are what the station knows
   pub agrees : Agrees l s
   pub known : Known d s
   -- nothing twice, nothing out of order: all that was handed out is the bytes of the places released, place by place
@@ -44,8 +44,6 @@ pub record Holds (l : Ledger) (d : Desk) (s : State) (past : List Event) (out : 
   -- no other bytes: what a place was released with, or holds, came in a packet of its number
   pub own : (p : ℕ) (bytes : List ℕ) → getD (l .gone) p discarded ≡ released bytes → Sent past (numberOf l p) bytes
   pub held : (i : ℕ) (bytes : List ℕ) → getD (l .held) i lost ≡ received bytes → Sent past (numberOf l (frontOf l + i)) bytes
-  -- nothing dropped unseen: released, discarded and held are all places ever entered
-  pub all : nextOf l ≡ count
   -- two held places never share a number
   pub apart : (i j : ℕ) → i < length (l .held) → j < length (l .held) → numberOf l (frontOf l + i) ≡ numberOf l (frontOf l + j) → i ≡ j
   -- no run is ever refused 1
@@ -177,7 +175,7 @@ pub record Told (b b₁ : Book) (e : Event) (r : Ended) : Type 0 where
 
 -- demand 3, of what makes a call, from a book just opened
 pub record Demanded (step : State → Lent → Call → Ended) (b : Book) (past : List Event) : Type 0 where
-  pub holds : Holds (bookAfter step b past .ledger) (bookAfter step b past .desk) (bookAfter step b past .state) past (handedOut step b past) (entered step b past)
+  pub holds : Holds (bookAfter step b past .ledger) (bookAfter step b past .desk) (bookAfter step b past .state) past (handedOut step b past)
   pub told : (e : Event) → NotClear (e .call) → Told (bookAfter step b past) (turned step (bookAfter step b past) e) e (answered step (bookAfter step b past) e)
 
 abbrev pub Demand3 : (step : State → Lent → Call → Ended) → Type 0
