@@ -5,7 +5,7 @@ import re
 import sys
 
 text = open("docs/RULED_OUT.md").read()
-theorems = open("crates/ledger/proofs/RuledOut.antt").read()
+theorems = "".join(open(f"crates/ledger/proofs/{name}.antt").read() for name in ["RuledOut", "Bent"])
 named = set(re.findall(r"`(\w+/\w+)`", text))
 there = {re.sub(r"^crates/|must-fail/|\.edit$", "", path) for path in glob.glob("crates/*/must-fail/*.edit")}
 wrong = [f"no such wrong program: {name}" for name in sorted(named - there)]
