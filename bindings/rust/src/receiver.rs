@@ -44,6 +44,9 @@ pub struct Receiver {
     slots: Box<[u64]>,
     payloads: Box<[u8]>,
     history: Box<[u64]>,
+    /// The head from before the first pop since a packet was taken. A pop writes no slot and no payload, so it still
+    /// finds whatever the pops since then have discarded.
+    before: Option<raw::Head>,
 }
 
 /// A call's answer, or its refusal.
@@ -79,6 +82,7 @@ impl Receiver {
             slots: vec![0; raw::SLOT_WORDS * capacity].into_boxed_slice(),
             payloads: vec![0; raw::PAYLOAD_BYTES * capacity].into_boxed_slice(),
             history: vec![0; raw::HISTORY_WORDS].into_boxed_slice(),
+            before: None,
         })
     }
 
@@ -107,10 +111,15 @@ impl Receiver {
             packet.stamp,
             packet.payload,
         );
-        judged(refusal, &answer).map(answers::data)
+        let taken = judged(refusal, &answer).map(answers::data)?;
+        // The packet may lie where a discarded one lay.
+        self.before = None;
+        Ok(taken)
     }
 
     /// Releases the next message into `output`, if it is due; to be called until it answers `Nothing`. Refuses 3, 4 and 11.
+    ///
+    /// `Late` discards packets that had arrived, too: see [`rescued`](Receiver::rescued).
     ///
     /// ```
     /// # use pursethistle::*;
@@ -126,8 +135,41 @@ impl Receiver {
     /// ```
     pub fn pop_next_message<'a>(&mut self, now: i64, output: &'a mut [u8]) -> Result<MessageAnswer<'a>, Refusal> {
         let mut answer = NO_ANSWER;
+        self.before.get_or_insert(self.head);
         let refusal = raw::pop_next_message(&mut self.head, &mut answer, &self.slots, &self.payloads, output, now);
         Ok(answers::message(judged(refusal, &answer)?, output))
+    }
+
+    /// Rescues what a late drop discarded: of the numbers `first` to before `end`, as [`MessageAnswer::Late`] gives them,
+    /// each that had arrived, with its payload.
+    ///
+    /// To be called before the next packet: once one is taken, or after a [`clear`](Receiver::clear), there is nothing left
+    /// to rescue. Other calls, further pops among them, do no harm.
+    ///
+    /// ```
+    /// # use pursethistle::*;
+    /// # let settings = Settings { start: 0, latency: 500, late_drop: true, first: 2147483647, capacity: 4 };
+    /// # let mut receiver = Receiver::new(settings)?;
+    /// # let packet = DataPacket { number: 0, message: 1, location: FIRST | LAST, stamp: 10, payload: b"hello" };
+    /// # receiver.handle_data_packet(10, packet)?;
+    /// // 2147483647 is lost, and 0 is due at 510. At 5,510 both are given up, though 0 had arrived.
+    /// let mut output = [0; 4 * 1456];
+    /// match receiver.pop_next_message(5_510, &mut output)? {
+    ///     MessageAnswer::Late { first, end, .. } => {
+    ///         let rescued: Vec<(u32, &[u8])> = receiver.rescued(first, end).collect();
+    ///         assert_eq!(rescued, [(0, &b"hello"[..])]);
+    ///     }
+    ///     other => panic!("{other:?}"),
+    /// }
+    /// # Ok::<(), Refusal>(())
+    /// ```
+    pub fn rescued(&self, first: u32, end: u32) -> impl Iterator<Item = (u32, &[u8])> + '_ {
+        const LAST_NUMBER: u32 = (1 << 31) - 1;
+        // A late drop never has more numbers than there are slots.
+        let slots = self.slots.len() / raw::SLOT_WORDS;
+        let count = end.wrapping_sub(first) & LAST_NUMBER;
+        let numbers = (0..count).take(slots).map(move |i| first.wrapping_add(i) & LAST_NUMBER);
+        numbers.filter_map(|number| Some((number, self.shown_by(self.before.as_ref()?, number).ok()??)))
     }
 
     /// The loss report that is due, in the first of `words`: a number alone, or with [`LOSS_RUN`](crate::LOSS_RUN) the first of a run, whose last
@@ -196,6 +238,7 @@ impl Receiver {
     /// Forgets all that is held, and the ACKs that were sent. The counters stay.
     pub fn clear(&mut self) -> Result<(), Refusal> {
         let mut answer = NO_ANSWER;
+        self.before = None;
         match judged(raw::clear(&mut self.head, &mut answer), &answer)?[0] {
             word::CLEAR => Ok(()),
             _ => answers::unknown(&answer),
@@ -214,8 +257,13 @@ impl Receiver {
     /// # Ok::<(), Refusal>(())
     /// ```
     pub fn show(&self, number: u32) -> Result<Option<&[u8]>, Refusal> {
+        self.shown_by(&self.head, number)
+    }
+
+    /// What this head shows of a number.
+    fn shown_by(&self, head: &raw::Head, number: u32) -> Result<Option<&[u8]>, Refusal> {
         let mut answer = NO_ANSWER;
-        let refusal = raw::show(&self.head, &mut answer, &self.slots, &self.payloads, number);
+        let refusal = raw::show(head, &mut answer, &self.slots, &self.payloads, number);
         judged(refusal, &answer).map(|answer| answers::shown(answer, &self.payloads))
     }
 
