@@ -7,11 +7,12 @@ use std::fmt;
 /// How a receiver is made.
 #[derive(Debug, Clone, Copy, PartialEq, Eq)]
 pub struct Settings {
-    /// The reading at the start, 0 to 2^60 - 1. The sender's stamp 0 is this time, until the clock is adjusted.
+    /// The reading that belongs to the sender's stamp 0, 0 to 2^60 - 1: when the first packet comes, `now` minus its
+    /// stamp.
     pub start: i64,
     /// How long after its time a message is released, at most 65,535,000.
     pub latency: u32,
-    /// Whether a message that is late is given up.
+    /// Whether a message that is late is given up. If not, a packet that never comes stops the stream for good.
     pub late_drop: bool,
     /// The number of the first packet, under 2^31.
     pub first: u32,
@@ -19,16 +20,17 @@ pub struct Settings {
     pub capacity: usize,
 }
 
-/// A data packet as it came.
+/// A data packet as it came, decrypted if it was encrypted.
 #[derive(Debug, Clone, Copy, PartialEq, Eq)]
 pub struct DataPacket<'a> {
     /// Its sequence number, under 2^31.
     pub number: u32,
-    /// Its message number, under 2^26.
+    /// Its message number, under 2^26: the low 26 bits of the second word of SRT's header.
     pub message: u32,
-    /// Its place in the message: [`FIRST`](crate::FIRST), [`LAST`](crate::LAST), both or none.
+    /// Its place in the message: [`FIRST`](crate::FIRST), [`LAST`](crate::LAST), both or none. These are the high two
+    /// bits of that word, SRT's field PP.
     pub location: u32,
-    /// The sender's time.
+    /// The sender's time: the third word.
     pub stamp: u32,
     /// At most 1,456 bytes.
     pub payload: &'a [u8],
@@ -117,7 +119,8 @@ impl Receiver {
         Ok(taken)
     }
 
-    /// Releases the next message into `output`, if it is due; to be called until it answers `Nothing`. Refuses 3, 4 and 11.
+    /// Releases the next message into `output`, if it is due. Refuses 3, 4 and 11. To be called until it answers
+    /// `Nothing`, and again each 10 ms or so: no call says when the next message will be due.
     ///
     /// `Late` discards packets that had arrived, too: see [`rescued`](Receiver::rescued).
     ///
@@ -227,7 +230,30 @@ impl Receiver {
         judged(refusal, &answer).map(|answer| answers::count(answer, word::GONE))
     }
 
-    /// The sender's clock showed `stamp` at `now`. Refuses 3, 4 and 14.
+    /// Moves the clock's reference on, at the first call and then at each thousandth. To be called each second, with
+    /// the stamp `(now - start) as u32`. Refuses 3, 4 and 14.
+    ///
+    /// By the rules `stamp` is what the sender's clock showed at `now`. But an adjustment doubles a drift, so hand in
+    /// no stamp of the sender's: see "Where data is lost without a word" on the crate's first page.
+    ///
+    /// ```
+    /// # use pursethistle::*;
+    /// let start = 5_000;
+    /// let mut receiver = Receiver::new(Settings { start, latency: 0, late_drop: true, first: 0, capacity: 4 })?;
+    /// // A packet each 10 minutes, and a clock call each second.
+    /// let packet = |number, stamp| DataPacket { number, message: 1, location: FIRST | LAST, stamp, payload: b"" };
+    /// for second in 0..=4 * 3600 {
+    ///     let now = start + 1_000_000 * second;
+    ///     receiver.synchronize_clock(now, (now - start) as u32)?;
+    ///     if second % 600 == 0 {
+    ///         receiver.handle_data_packet(now, packet(second as u32 / 600, (now - start) as u32))?;
+    ///         // Its time is right after three turns of the stamp, too.
+    ///         let popped = receiver.pop_next_message(now, &mut [])?;
+    ///         assert_eq!(popped, MessageAnswer::Message { time: now, payload: b"", packets: 1 });
+    ///     }
+    /// }
+    /// # Ok::<(), Refusal>(())
+    /// ```
     pub fn synchronize_clock(&mut self, now: i64, stamp: u32) -> Result<ClockAnswer, Refusal> {
         let mut answer = NO_ANSWER;
         let counters = self.counters.cells();
