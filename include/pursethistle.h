@@ -13,8 +13,9 @@
  *    are given up too early. The stamp of 1. has no drift. So the receiver does not follow a sender whose clock
  *    drifts; if that matters, correct the stamps of its packets before you hand them in.
  * 3. start is the reading that belongs to the sender's stamp 0: when the first packet comes, now minus its stamp.
- * 4. A late drop (PT_WORD_LATE) discards packets that had arrived. To rescue them, copy the head before each pop. On
- *    LATE, call pt_show with that copy for each number of the range, before the next data packet.
+ * 4. A late drop (PT_WORD_LATE) discards packets that had arrived. If the first packet of a message is lost, the rest
+ *    of it is discarded even long before it is due. To rescue them, copy the head before each pop. On LATE, call
+ *    pt_show with that copy for each number of the range, before the next data packet.
  * 5. Without late_drop, a packet that never comes stops the stream for good. Once the window is full, what comes is
  *    refused 7 or 8, and neither a drop request nor a clear helps.
  *

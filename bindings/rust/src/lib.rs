@@ -22,8 +22,9 @@
 //!    whose clock drifts; if that matters, correct the stamps of its packets before you hand them in.
 //! 3. **[`start`](Settings::start) is the reading that belongs to the sender's stamp 0**: when the first packet
 //!    comes, `now` minus its stamp.
-//! 4. **A late drop ([`MessageAnswer::Late`]) discards packets that had arrived.** [`Receiver::rescued`] gives them
-//!    back, until the next packet is taken.
+//! 4. **A late drop ([`MessageAnswer::Late`]) discards packets that had arrived.** If the first packet of a message is
+//!    lost, the rest of it is discarded even long before it is due. [`Receiver::rescued`] gives them back, until the
+//!    next packet is taken.
 //! 5. **Without [`late_drop`](Settings::late_drop) a packet that never comes stops the stream for good.** Once the
 //!    window is full, what comes is refused 7 or 8, and neither a drop request nor a clear helps.
 //!
