@@ -18,6 +18,7 @@
  *    pt_show with that copy for each number of the range, before the next data packet.
  * 5. Without late_drop, a packet that never comes stops the stream for good. Once the window is full, what comes is
  *    refused 7 or 8, and neither a drop request nor a clear helps.
+ * And a recorded trace has 32 slots at most: a pass that was collected with more cannot be replayed.
  *
  * A receiver is a head and three areas, all of them the caller's memory, lent for the time of a call. The library allocates
  * nothing, keeps nothing between calls and starts no thread, so two receivers may be used by two threads at once. Head and areas

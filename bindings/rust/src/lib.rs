@@ -28,6 +28,8 @@
 //! 5. **Without [`late_drop`](Settings::late_drop) a packet that never comes stops the stream for good.** Once the
 //!    window is full, what comes is refused 7 or 8, and neither a drop request nor a clear helps.
 //!
+//! And a recorded trace has 32 slots at most: a pass that was collected with more cannot be replayed.
+//!
 //! # Building
 //!
 //! The library has to be built first: `rt staticlib exports` at the repository's root, or name an archive in PURSETHISTLE_LIB.

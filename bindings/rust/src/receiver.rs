@@ -176,7 +176,7 @@ impl Receiver {
     }
 
     /// The loss report that is due, in the first of `words`: a number alone, or with [`LOSS_RUN`](crate::LOSS_RUN) the first of a run, whose last
-    /// is the next word. As many words as slots are always enough. Refuses 3, 4 and 12.
+    /// is the next word. As many words as slots are always enough. SRT asks each 20 ms. Refuses 3, 4 and 12.
     ///
     /// ```
     /// # use pursethistle::*;
@@ -195,7 +195,7 @@ impl Receiver {
         Ok(answers::loss(judged(refusal, &answer)?, words))
     }
 
-    /// The full ACK that is due. Refuses 3, 4 and 13.
+    /// The full ACK that is due. SRT asks each 10 ms. Refuses 3, 4 and 13.
     pub fn on_full_ack_event(&mut self, now: i64) -> Result<Option<FullAck>, Refusal> {
         let mut answer = NO_ANSWER;
         let refusal = raw::on_full_ack_event(&mut self.head, &mut answer, &mut self.history, now);
