@@ -3,7 +3,11 @@
  * The recording stands for the network and the timers of a station (its format: docs/01-scope.md, "Trace, mark DLT"). Kinds 1, 5, 6
  * and 7 came off the wire; 2, 3, 4 and 8 are the moments at which the station asked for a message, a loss report, a full ACK, or
  * gave up. Each record is one call, and what came of it is one line, in 01's words; `got` and `none` are left out. At the end
- * stand the room and the counters. collector.rs is the same in Rust, and writes the same lines. */
+ * stand the room and the counters. collector.rs is the same in Rust, and writes the same lines.
+ *
+ * A late drop discards packets that had arrived; they are rescued here and shown. The clock calls are those of the
+ * recording: a station has to make them itself, or it loses data (include/pursethistle.h). long_pass.c has the loop of
+ * a live station. */
 #include <inttypes.h>
 #include <stdio.h>
 #include <string.h>
@@ -13,7 +17,8 @@
 #define CAPACITY 32
 #define SLOTS PT_SLOTS_LEN(CAPACITY)
 #define PAYLOADS PT_PAYLOADS_LEN(CAPACITY)
-static uint64_t head[PT_HEAD_WORDS], counters[PT_COUNTERS], slots[SLOTS], history[PT_HISTORY_WORDS];
+static uint64_t head[PT_HEAD_WORDS], before[PT_HEAD_WORDS]; /* the head, and that from before the last pop */
+static uint64_t counters[PT_COUNTERS], slots[SLOTS], history[PT_HISTORY_WORDS];
 static uint8_t payloads[PAYLOADS], output[PAYLOADS], payload[PT_PAYLOAD_BYTES];
 static uint32_t words[CAPACITY];
 static int64_t answer[PT_ANSWER_CELLS];
@@ -41,6 +46,7 @@ static uint32_t call(int kind, const uint64_t f[6]) {
         return pt_counted_handle_data_packet(head, counters, answer, slots, SLOTS, payloads, PAYLOADS, now, (uint32_t)f[1],
                                              (uint32_t)f[2], (uint32_t)f[3], (uint32_t)f[4], payload, f[5]);
     case 2:
+        memcpy(before, head, sizeof head);
         return pt_pop_next_message(head, answer, slots, SLOTS, payloads, PAYLOADS, output, PAYLOADS, now);
     case 3:
         return pt_on_nak_event(head, answer, slots, SLOTS, words, CAPACITY, now);
@@ -66,6 +72,24 @@ static void tell_repeat(uint32_t repeated, size_t length) {
         puts("  the same bytes are held");
     else
         puts("  other bytes are held");
+}
+
+/* Bytes as text, to the end of the line. */
+static void tell_text(const uint8_t *bytes, int64_t length) {
+    for (int64_t i = 0; i < length; i++)
+        putchar(bytes[i] >= ' ' && bytes[i] <= '~' ? bytes[i] : '.');
+    putchar('\n');
+}
+
+/* A late drop discarded these numbers. Those that had arrived are shown by the head from before the pop: a pop writes
+ * no area, so their bytes are there until the next data packet. */
+static void tell_rescued(uint32_t first, uint32_t end) {
+    int64_t shown[PT_ANSWER_CELLS];
+    for (uint32_t late = first; late != end; late = (late + 1) & 0x7fffffff)
+        if (pt_show(before, shown, slots, SLOTS, payloads, PAYLOADS, late) == 0 && shown[0] == PT_WORD_RECEIVED) {
+            printf("  rescued %" PRIu32 " ", late);
+            tell_text(payloads + shown[1], shown[2]);
+        }
 }
 
 /* What a call answered: 01's word and so many values. */
@@ -94,10 +118,10 @@ static void tell(int record, uint32_t refusal) {
         printf("  variance %.3f\n", pt_variance(answer));
     if (answer[0] == PT_WORD_MESSAGE) {
         printf("  ");
-        for (int i = 0; i < answer[2]; i++)
-            putchar(output[i] >= ' ' && output[i] <= '~' ? output[i] : '.');
-        putchar('\n');
+        tell_text(output, answer[2]);
     }
+    if (answer[0] == PT_WORD_LATE)
+        tell_rescued((uint32_t)answer[1], (uint32_t)answer[2]);
 }
 
 /* A file cannot be read or written. */

@@ -4,6 +4,10 @@
 //! and 7 came off the wire; 2, 3, 4 and 8 are the moments at which the station asked for a message, a loss report, a full ACK, or
 //! gave up. Each record is one call, and what came of it is one line, in 01's words; `got` and `none` are left out. At the end
 //! stand the room and the counters. collector.c is the same in C, and writes the same lines.
+//!
+//! A late drop discards packets that had arrived; they are rescued here and shown. The clock calls are those of the
+//! recording: a station has to make them itself, or it loses data (the crate's first page). long_pass.rs has the loop
+//! of a live station.
 use pursethistle::*;
 use std::io::{self, Write};
 use std::{env, fs, path::Path, process};
@@ -65,6 +69,11 @@ fn rate(rate: Option<u32>) -> String {
     rate.map_or("-".into(), |rate| rate.to_string())
 }
 
+/// Bytes as text.
+fn text(bytes: &[u8]) -> String {
+    bytes.iter().map(|&b| if (b' '..=b'~').contains(&b) { b as char } else { '.' }).collect()
+}
+
 /// One record: the call, and what came of it as a line; empty for `got` and `none`. None for a bad record.
 fn step(file: &mut Reader, receiver: &mut Receiver, output: &mut [u8], words: &mut [u32]) -> Option<Result<String, Refusal>> {
     Some(match file.number(1)? {
@@ -86,10 +95,14 @@ fn step(file: &mut Reader, receiver: &mut Receiver, output: &mut [u8], words: &m
         2 => receiver.pop_next_message(file.time()?, output).map(|popped| match popped {
             MessageAnswer::Nothing => String::new(),
             MessageAnswer::Message { time, payload, packets } => {
-                let text: String = payload.iter().map(|&b| if (b' '..=b'~').contains(&b) { b as char } else { '.' }).collect();
-                format!("message {time} {} {packets}\n  {text}", payload.len())
+                format!("message {time} {} {packets}\n  {}", payload.len(), text(payload))
             }
-            MessageAnswer::Late { first, end, delay } => format!("late {first} {end} {delay}"),
+            // What had arrived of the numbers given up can be had until the next data packet.
+            MessageAnswer::Late { first, end, delay } => {
+                let lines = format!("late {first} {end} {delay}");
+                let add = |lines, (number, bytes)| format!("{lines}\n  rescued {number} {}", text(bytes));
+                receiver.rescued(first, end).fold(lines, add)
+            }
         }),
         3 => receiver.on_nak_event(file.time()?, words).map(|report| match report {
             Some(words) => words.iter().fold("report".into(), |line, word| format!("{line} {word}")),

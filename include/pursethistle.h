@@ -1,6 +1,25 @@
 /* The receiver of Pursethistle for C99 and C++: link target/staticlib/libexports.a, which `rt staticlib exports` writes.
  * The rules are docs/01-scope.md ("01" below); times are microseconds.
  *
+ * WHERE DATA IS LOST WITHOUT A WORD. Five things to get right. docs/COLLECTING.md has the reasons and the figures;
+ * examples/long_pass.c is a loop that does them.
+ * 1. Make a clock call each second, from before the first packet on, and also while no packet comes:
+ *        pt_synchronize_clock(head, answer, now, (uint32_t)(now - start));
+ *    Only this call moves the receiver's idea of the time on. Without it nothing is recovered from 2^31 microseconds
+ *    (35 min 47 s) after the start on, or after the last adjustment: each packet is then due as soon as it comes, and
+ *    each gap is given up at once, with packets that had arrived.
+ * 2. Never hand the sender's stamps to that call. By 01's sign an adjustment doubles a drift, with the first sample
+ *    and again with each thousand: 100 microseconds are 102,400 after 9,001 samples. Then packets are refused, or gaps
+ *    are given up too early. The stamp of 1. has no drift. So the receiver does not follow a sender whose clock
+ *    drifts; if that matters, correct the stamps of its packets before you hand them in.
+ * 3. start is the reading that belongs to the sender's stamp 0: when the first packet comes, now minus its stamp.
+ * 4. A late drop (PT_WORD_LATE) discards packets that had arrived. If the first packet of a message is lost, the rest
+ *    of it is discarded even long before it is due. To rescue them, copy the head before each pop. On LATE, call
+ *    pt_show with that copy for each number of the range, before the next data packet.
+ * 5. Without late_drop, a packet that never comes stops the stream for good. Once the window is full, what comes is
+ *    refused 7 or 8, and neither a drop request nor a clear helps.
+ * And a recorded trace has 32 slots at most: a pass that was collected with more cannot be replayed.
+ *
  * A receiver is a head and three areas, all of them the caller's memory, lent for the time of a call. The library allocates
  * nothing, keeps nothing between calls and starts no thread, so two receivers may be used by two threads at once. Head and areas
  * are plain data: copied together they are a second receiver.
@@ -152,14 +171,16 @@ PT_CHECK(counters_end_at_9, PT_RX_CLOCK_ADJUSTMENTS == PT_COUNTERS - 1);
 extern "C" {
 #endif
 
-/* Makes a receiver: writes a fresh head. start is a reading, 0 .. 2^60 - 1; latency at most 65,535,000; first, the number of
- * the first packet, under 2^31; capacity 1 to 8,192 slots: at least what comes in during the latency, as a packet
- * without room is refused; many more take more time (docs/SPEED.md). With late_drop a message that is late is given up.
+/* Makes a receiver: writes a fresh head. start is the reading that belongs to the sender's stamp 0, 0 .. 2^60 - 1;
+ * latency at most 65,535,000; first, the number of the first packet, under 2^31; capacity 1 to 8,192 slots: at least
+ * what comes in during the latency, as a packet without room is refused; many more take more time (docs/SPEED.md). With
+ * late_drop a message that is late is given up; without it a packet that never comes stops the stream for good.
  * Refuses 15. Answers MADE. */
 uint32_t pt_new(uint64_t head[PT_HEAD_WORDS], int64_t answer[PT_ANSWER_CELLS], int64_t start, uint32_t latency, bool late_drop,
                 uint32_t first, size_t capacity);
 
-/* A data packet came at now. stamp is the sender's 32-bit time, message its message number, location its bits above.
+/* A data packet came at now. Of its SRT header: number is the sequence number, location the two bits PP (see PT_FIRST),
+ * message the low 26 bits of that word, stamp the 32-bit timestamp. An encrypted packet has to be decrypted before.
  * Refuses 1 to 10; for 8 answer[1] is the room and answer[2] the room that it needs, 2 or more.
  * Answers GOT: lrsn (the first number not received), 1 if it was lost before and is recovered; LIGHT: the same, and a light ACK
  * of lrsn is to be sent; LOSS: the first and the last number of the gap before it, which is to be reported at once. */
@@ -167,14 +188,17 @@ uint32_t pt_handle_data_packet(uint64_t head[PT_HEAD_WORDS], int64_t answer[PT_A
                                uint8_t *payloads, size_t payloads_len, int64_t now, uint32_t number, uint32_t message,
                                uint32_t location, uint32_t stamp, const uint8_t *payload, size_t payload_len);
 
-/* Releases the next message if it is due. Refuses 1 to 4 and 11. To be called until it answers NONE.
- * Answers MESSAGE: release time, bytes (the first of output), packets; LATE: first and end of the numbers given up (end is not
- * among them), and the delay; NONE: nothing is due. */
+/* Releases the next message if it is due. Refuses 1 to 4 and 11. To be called until it answers NONE, and again each
+ * 10 ms or so: no call says when the next message will be due.
+ * Answers MESSAGE: release time (the time of the first packet's stamp, without the latency; never before the last one),
+ * bytes (the first of output), packets; LATE: first and end of the numbers given up (end is not among them), and the
+ * delay; NONE: nothing is due. Packets given up may have arrived: pt_show finds them, by a copy of the head from before
+ * this call. */
 uint32_t pt_pop_next_message(uint64_t head[PT_HEAD_WORDS], int64_t answer[PT_ANSWER_CELLS], const uint64_t *slots,
                              size_t slots_len, const uint8_t *payloads, size_t payloads_len, uint8_t *output, size_t output_len,
                              int64_t now);
 
-/* Asks for the loss report that is due. Refuses 1 to 4 and 12.
+/* Asks for the loss report that is due; SRT asks each 20 ms. Refuses 1 to 4 and 12.
  * Answers REPORT: how many words it has, which are the first of words (see PT_LOSS_RUN); NONE. */
 uint32_t pt_on_nak_event(uint64_t head[PT_HEAD_WORDS], int64_t answer[PT_ANSWER_CELLS], uint64_t *slots, size_t slots_len,
                          uint32_t *words, size_t words_len, int64_t now);
@@ -196,7 +220,9 @@ uint32_t pt_handle_ack2_packet(uint64_t head[PT_HEAD_WORDS], int64_t answer[PT_A
 uint32_t pt_handle_drop_request(const uint64_t head[PT_HEAD_WORDS], int64_t answer[PT_ANSWER_CELLS], uint64_t *slots,
                                 size_t slots_len, uint32_t first, uint32_t last);
 
-/* The sender's clock showed stamp at now. Refuses 1, 3, 4 and 14.
+/* Moves the clock's reference on, at the first call and then at each thousandth. So call it each second, with the stamp
+ * (uint32_t)(now - start). By 01 stamp is what the sender's clock showed at now; but an adjustment doubles a drift, so
+ * hand in no stamp of the sender's (see the top, and docs/DIFFERENCES.md, 1). Refuses 1, 3, 4 and 14.
  * Answers ADJUSTED: mean drift and deviation of a thousand samples; UNSTEADY: deviation, and in answer[9] the bits of the
  * variance (pt_variance); NONE: the first drift, or one more sample. */
 uint32_t pt_synchronize_clock(uint64_t head[PT_HEAD_WORDS], int64_t answer[PT_ANSWER_CELLS], int64_t now, uint32_t stamp);
@@ -205,7 +231,9 @@ uint32_t pt_synchronize_clock(uint64_t head[PT_HEAD_WORDS], int64_t answer[PT_AN
 uint32_t pt_clear(uint64_t head[PT_HEAD_WORDS], int64_t answer[PT_ANSWER_CELLS]);
 
 /* Where the payload of a held number lies. Refuses 1, 2 and 5.
- * Answers RECEIVED: offset and length in payloads; OTHER: it is lost, given up or not held. */
+ * Answers RECEIVED: offset and length in payloads; OTHER: it is lost, given up or not held.
+ * A pop writes no area. So after a pop that answered LATE, a copy of the head from before it still finds each packet of
+ * the range that had arrived, until the next data packet is taken. */
 uint32_t pt_show(const uint64_t head[PT_HEAD_WORDS], int64_t answer[PT_ANSWER_CELLS], const uint64_t *slots, size_t slots_len,
                  const uint8_t *payloads, size_t payloads_len, uint32_t number);
 

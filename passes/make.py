@@ -1,6 +1,6 @@
 #!/usr/bin/env python3
-"""Makes the three recordings beside it, wrap.dlt, recovered.dlt and twice.dlt, and the copies that the gate replays, since a program there is run
-outside the repository. Format: document 01, "Trace, mark DLT"."""
+"""Makes the recordings beside it: wrap.dlt, recovered.dlt, twice.dlt, half_turn.dlt and half_turn_no_clock.dlt; and the
+copies that the gate replays, since a program there is run outside the repository. Format: 01, "Trace, mark DLT"."""
 import pathlib
 import struct
 
@@ -31,6 +31,10 @@ def ack(now):
 
 def ack2(now, number):
     return struct.pack(">BQI", 5, now, number)
+
+
+def clock(now, stamp):
+    return struct.pack(">BQI", 7, now, stamp)
 
 
 def frame(place):
@@ -70,6 +74,32 @@ twice += data(57001, first + 1, 1000, frame(1))
 twice += data(57002, first + 2, 2000, frame(2))
 twice += data(57003, first + 3, 57003, frame(3)) + data(57004, first + 3, 57003, frame(3))
 twice += pop(107003) + pop(107004)
+
+# Eight frames, 100 ms apart, over the stamp's half turn, 2^31 microseconds after the start. Frame 1, before it, and
+# frame 5, after it, are lost, and come again 30 ms after the gap is seen. The two recordings differ in the first record.
+HALF_TURN = 2**31
+
+
+def over_half_turn(before):
+    """The pass, with the record made from the reading 50 ms before it."""
+    time = [HALF_TURN - 350000 + 100000 * i for i in range(8)]
+    come = lambda now, i: data(now, i, time[i], frame(i))
+    recording = header(0, 120000, 1, 0, 8) + before(time[0] - 50000)
+    recording += come(time[0], 0) + come(time[2], 2) + come(time[2] + 30000, 1)
+    recording += 3 * pop(time[2] + 30000)
+    recording += come(time[3], 3) + pop(time[2] + 120000)
+    recording += come(time[4], 4) + 2 * pop(time[3] + 120000) + pop(time[4] + 120000)
+    recording += come(time[6], 6) + pop(time[6])
+    recording += come(time[6] + 30000, 5) + pop(time[6] + 30000)
+    recording += come(time[7], 7) + pop(time[6] + 120000) + pop(time[7] + 120000)
+    return recording
+
+
+half_turn = over_half_turn(lambda now: clock(now, now))
+half_turn_no_clock = over_half_turn(pop)
+
+for name, recording in (("half_turn", half_turn), ("half_turn_no_clock", half_turn_no_clock)):
+    (HERE / f"{name}.dlt").write_bytes(recording)
 
 CRATES = HERE.parent / "crates"
 for name, recording, case in (("wrap", wrap, "pursethistle"), ("recovered", recovered, "case_replay"), ("twice", twice, "case_replay")):

@@ -34,14 +34,15 @@ pub enum MessageAnswer<'a> {
     Nothing,
     /// A message.
     Message {
-        /// Its release time, never before that of the last one.
+        /// Its release time: that of the first packet's stamp, without the latency; never before that of the last one.
         time: i64,
         /// Its bytes, in the output that was lent.
         payload: &'a [u8],
         /// How many packets it came in.
         packets: usize,
     },
-    /// A message came too late, or not whole, and was given up.
+    /// A message came too late, or not whole, and was given up. Packets given up may have arrived:
+    /// [`Receiver::rescued`](crate::Receiver::rescued) gives them back.
     Late {
         /// The first number given up.
         first: u32,

@@ -7,11 +7,12 @@ use std::fmt;
 /// How a receiver is made.
 #[derive(Debug, Clone, Copy, PartialEq, Eq)]
 pub struct Settings {
-    /// The reading at the start, 0 to 2^60 - 1. The sender's stamp 0 is this time, until the clock is adjusted.
+    /// The reading that belongs to the sender's stamp 0, 0 to 2^60 - 1: when the first packet comes, `now` minus its
+    /// stamp.
     pub start: i64,
     /// How long after its time a message is released, at most 65,535,000.
     pub latency: u32,
-    /// Whether a message that is late is given up.
+    /// Whether a message that is late is given up. If not, a packet that never comes stops the stream for good.
     pub late_drop: bool,
     /// The number of the first packet, under 2^31.
     pub first: u32,
@@ -19,16 +20,17 @@ pub struct Settings {
     pub capacity: usize,
 }
 
-/// A data packet as it came.
+/// A data packet as it came, decrypted if it was encrypted.
 #[derive(Debug, Clone, Copy, PartialEq, Eq)]
 pub struct DataPacket<'a> {
     /// Its sequence number, under 2^31.
     pub number: u32,
-    /// Its message number, under 2^26.
+    /// Its message number, under 2^26: the low 26 bits of the second word of SRT's header.
     pub message: u32,
-    /// Its place in the message: [`FIRST`](crate::FIRST), [`LAST`](crate::LAST), both or none.
+    /// Its place in the message: [`FIRST`](crate::FIRST), [`LAST`](crate::LAST), both or none. These are the high two
+    /// bits of that word, SRT's field PP.
     pub location: u32,
-    /// The sender's time.
+    /// The sender's time: the third word.
     pub stamp: u32,
     /// At most 1,456 bytes.
     pub payload: &'a [u8],
@@ -44,6 +46,9 @@ pub struct Receiver {
     slots: Box<[u64]>,
     payloads: Box<[u8]>,
     history: Box<[u64]>,
+    /// The head from before the first pop since a packet was taken. A pop writes no slot and no payload, so it still
+    /// finds whatever the pops since then have discarded.
+    before: Option<raw::Head>,
 }
 
 /// A call's answer, or its refusal.
@@ -79,6 +84,7 @@ impl Receiver {
             slots: vec![0; raw::SLOT_WORDS * capacity].into_boxed_slice(),
             payloads: vec![0; raw::PAYLOAD_BYTES * capacity].into_boxed_slice(),
             history: vec![0; raw::HISTORY_WORDS].into_boxed_slice(),
+            before: None,
         })
     }
 
@@ -107,10 +113,16 @@ impl Receiver {
             packet.stamp,
             packet.payload,
         );
-        judged(refusal, &answer).map(answers::data)
+        let taken = judged(refusal, &answer).map(answers::data)?;
+        // The packet may lie where a discarded one lay.
+        self.before = None;
+        Ok(taken)
     }
 
-    /// Releases the next message into `output`, if it is due; to be called until it answers `Nothing`. Refuses 3, 4 and 11.
+    /// Releases the next message into `output`, if it is due. Refuses 3, 4 and 11. To be called until it answers
+    /// `Nothing`, and again each 10 ms or so: no call says when the next message will be due.
+    ///
+    /// `Late` discards packets that had arrived, too: see [`rescued`](Receiver::rescued).
     ///
     /// ```
     /// # use pursethistle::*;
@@ -126,12 +138,45 @@ impl Receiver {
     /// ```
     pub fn pop_next_message<'a>(&mut self, now: i64, output: &'a mut [u8]) -> Result<MessageAnswer<'a>, Refusal> {
         let mut answer = NO_ANSWER;
+        self.before.get_or_insert(self.head);
         let refusal = raw::pop_next_message(&mut self.head, &mut answer, &self.slots, &self.payloads, output, now);
         Ok(answers::message(judged(refusal, &answer)?, output))
     }
 
+    /// Rescues what a late drop discarded: of the numbers `first` to before `end`, as [`MessageAnswer::Late`] gives them,
+    /// each that had arrived, with its payload.
+    ///
+    /// To be called before the next packet: once one is taken, or after a [`clear`](Receiver::clear), there is nothing left
+    /// to rescue. Other calls, further pops among them, do no harm.
+    ///
+    /// ```
+    /// # use pursethistle::*;
+    /// # let settings = Settings { start: 0, latency: 500, late_drop: true, first: 2147483647, capacity: 4 };
+    /// # let mut receiver = Receiver::new(settings)?;
+    /// # let packet = DataPacket { number: 0, message: 1, location: FIRST | LAST, stamp: 10, payload: b"hello" };
+    /// # receiver.handle_data_packet(10, packet)?;
+    /// // 2147483647 is lost, and 0 is due at 510. At 5,510 both are given up, though 0 had arrived.
+    /// let mut output = [0; 4 * 1456];
+    /// match receiver.pop_next_message(5_510, &mut output)? {
+    ///     MessageAnswer::Late { first, end, .. } => {
+    ///         let rescued: Vec<(u32, &[u8])> = receiver.rescued(first, end).collect();
+    ///         assert_eq!(rescued, [(0, &b"hello"[..])]);
+    ///     }
+    ///     other => panic!("{other:?}"),
+    /// }
+    /// # Ok::<(), Refusal>(())
+    /// ```
+    pub fn rescued(&self, first: u32, end: u32) -> impl Iterator<Item = (u32, &[u8])> + '_ {
+        const LAST_NUMBER: u32 = (1 << 31) - 1;
+        // A late drop never has more numbers than there are slots.
+        let slots = self.slots.len() / raw::SLOT_WORDS;
+        let count = end.wrapping_sub(first) & LAST_NUMBER;
+        let numbers = (0..count).take(slots).map(move |i| first.wrapping_add(i) & LAST_NUMBER);
+        numbers.filter_map(|number| Some((number, self.shown_by(self.before.as_ref()?, number).ok()??)))
+    }
+
     /// The loss report that is due, in the first of `words`: a number alone, or with [`LOSS_RUN`](crate::LOSS_RUN) the first of a run, whose last
-    /// is the next word. As many words as slots are always enough. Refuses 3, 4 and 12.
+    /// is the next word. As many words as slots are always enough. SRT asks each 20 ms. Refuses 3, 4 and 12.
     ///
     /// ```
     /// # use pursethistle::*;
@@ -150,7 +195,7 @@ impl Receiver {
         Ok(answers::loss(judged(refusal, &answer)?, words))
     }
 
-    /// The full ACK that is due. Refuses 3, 4 and 13.
+    /// The full ACK that is due. SRT asks each 10 ms. Refuses 3, 4 and 13.
     pub fn on_full_ack_event(&mut self, now: i64) -> Result<Option<FullAck>, Refusal> {
         let mut answer = NO_ANSWER;
         let refusal = raw::on_full_ack_event(&mut self.head, &mut answer, &mut self.history, now);
@@ -185,7 +230,30 @@ impl Receiver {
         judged(refusal, &answer).map(|answer| answers::count(answer, word::GONE))
     }
 
-    /// The sender's clock showed `stamp` at `now`. Refuses 3, 4 and 14.
+    /// Moves the clock's reference on, at the first call and then at each thousandth. To be called each second, with
+    /// the stamp `(now - start) as u32`. Refuses 3, 4 and 14.
+    ///
+    /// By the rules `stamp` is what the sender's clock showed at `now`. But an adjustment doubles a drift, so hand in
+    /// no stamp of the sender's: see "Where data is lost without a word" on the crate's first page.
+    ///
+    /// ```
+    /// # use pursethistle::*;
+    /// let start = 5_000;
+    /// let mut receiver = Receiver::new(Settings { start, latency: 0, late_drop: true, first: 0, capacity: 4 })?;
+    /// // A packet each 10 minutes, and a clock call each second.
+    /// let packet = |number, stamp| DataPacket { number, message: 1, location: FIRST | LAST, stamp, payload: b"" };
+    /// for second in 0..=4 * 3600 {
+    ///     let now = start + 1_000_000 * second;
+    ///     receiver.synchronize_clock(now, (now - start) as u32)?;
+    ///     if second % 600 == 0 {
+    ///         receiver.handle_data_packet(now, packet(second as u32 / 600, (now - start) as u32))?;
+    ///         // Its time is right after three turns of the stamp, too.
+    ///         let popped = receiver.pop_next_message(now, &mut [])?;
+    ///         assert_eq!(popped, MessageAnswer::Message { time: now, payload: b"", packets: 1 });
+    ///     }
+    /// }
+    /// # Ok::<(), Refusal>(())
+    /// ```
     pub fn synchronize_clock(&mut self, now: i64, stamp: u32) -> Result<ClockAnswer, Refusal> {
         let mut answer = NO_ANSWER;
         let counters = self.counters.cells();
@@ -196,6 +264,7 @@ impl Receiver {
     /// Forgets all that is held, and the ACKs that were sent. The counters stay.
     pub fn clear(&mut self) -> Result<(), Refusal> {
         let mut answer = NO_ANSWER;
+        self.before = None;
         match judged(raw::clear(&mut self.head, &mut answer), &answer)?[0] {
             word::CLEAR => Ok(()),
             _ => answers::unknown(&answer),
@@ -214,8 +283,13 @@ impl Receiver {
     /// # Ok::<(), Refusal>(())
     /// ```
     pub fn show(&self, number: u32) -> Result<Option<&[u8]>, Refusal> {
+        self.shown_by(&self.head, number)
+    }
+
+    /// What this head shows of a number.
+    fn shown_by(&self, head: &raw::Head, number: u32) -> Result<Option<&[u8]>, Refusal> {
         let mut answer = NO_ANSWER;
-        let refusal = raw::show(&self.head, &mut answer, &self.slots, &self.payloads, number);
+        let refusal = raw::show(head, &mut answer, &self.slots, &self.payloads, number);
         judged(refusal, &answer).map(|answer| answers::shown(answer, &self.payloads))
     }
 
