@@ -1,2 +1,5 @@
--- The proofs.
+-- A collector's calls are a run.
+pub mod SaidR
+pub mod SaidF
+pub mod SaidU
 pub mod Collects
