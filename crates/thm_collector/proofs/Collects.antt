@@ -14,12 +14,15 @@ use Rattle.head.specs.Paper.{Line}
 use Rattle.head.specs.declared.state.Head.{Head}
 use Rattle.receiver.specs.Data.{packet, dataCallOf}
 use Rattle.receiver.specs.Message.{MessageOutcome, popCallOf}
+use Rattle.receiver.proofs.Answers.{data-line, data-head, message-line}
 use Rattle.receiver.proofs.Stays.{message-stays}
 use Rattle.feedback.specs.Acking.{fullAckCallOf, ack2CallOf}
 use Rattle.feedback.specs.Loss.{LossOutcome, reportCallOf}
 use Rattle.feedback.specs.Sync.{clockCallOf}
+use Rattle.feedback.proofs.Answers.{loss-line, full-ack-line, full-ack-head, ack2-line, ack2-head, clock-line, clock-head}
 use Rattle.feedback.proofs.Stays.{loss-stays}
 use Rattle.upkeep.specs.Request.{clearCallOf}
+use Rattle.upkeep.proofs.Answers.{drop-line, clear-line, clear-head}
 use Rattle.counts.specs.Counts as counting
 use Rattle.counts.specs.declared.Counters.{Counters}
 use Rattle.tally.specs.Tally.{countedOf}
@@ -35,9 +38,6 @@ use Rattle.ledger.specs.Runs.{Event, bookAfter, Fresh, Empty, NoneClear}
 use Rattle.ledger.specs.Claims.{Demanded}
 use Rattle.ledger.proofs.Theorem.{ledger-theorem, stretch-theorem, clear-empty}
 use Rattle.thm_collector.specs.Collector.{Kept, stateIn, Back, cellsIn, Started, Form, plain, counted, Promised, PromisedCounted, Gives, Turn, events, keptAfter, Ran, Same, runOf, answerTo, AllSame, raisedBy, countersAfter, Collected}
-use Rattle.thm_collector.proofs.SaidR.{data-line, data-head, message-line}
-use Rattle.thm_collector.proofs.SaidF.{loss-line, full-ack-line, full-ack-head, ack2-line, ack2-head, clock-line, clock-head}
-use Rattle.thm_collector.proofs.SaidU.{drop-line, clear-line, clear-head}
 
 -- the parts of what a call leaves
 abbrev returnedIn : Left → ℕ
@@ -195,11 +195,11 @@ module _ (x : Kept) (t : Lent) (r : Back) where
   counted-call (calls.Clock time stamp) g = ((ap uncounted (g .0), g .1, g .2, g .3, g .4, g .5), ap area₁ (g .0))
   counted-call calls.Clear g = absurd g
 
-  either-call : (f : Form) (c : Call) → Gives x t r f c → Same r (stepOf (stateIn x) t c)
+  pub either-call : (f : Form) (c : Call) → Gives x t r f c → Same r (stepOf (stateIn x) t c)
   either-call plain c g = one-call c (g .0)
   either-call counted c g = one-call c (counted-call c g .0)
 
-  either-counts : (f : Form) (c : Call) (n : Counters) → Gives x t r f c → x .counts ≡ countersWords n
+  pub either-counts : (f : Form) (c : Call) (n : Counters) → Gives x t r f c → x .counts ≡ countersWords n
       → k .counts ≡ countersWords (raisedBy f n (length (t .payload)) (stepOf (stateIn x) t c .answer))
   either-counts plain c n g e = g .1 ∙ e
   either-counts counted c n g e =

@@ -1,5 +1,3 @@
 -- A collector's calls are a run.
-pub mod SaidR
-pub mod SaidF
-pub mod SaidU
 pub mod Collects
+pub mod RuledOut

@@ -7,7 +7,6 @@ use native.Mathlib.Numerals.{add-one}
 use native.Mathlib.Omega.{arith}
 use borrow.Author.Tests.{eqb-true, eqb-false, not-true, not-false}
 use lib.Dec.{eqb, leb}
-use lib.IntN.{ℤ}
 use lib.ListN.{length, getD, drop, length-drop}
 use lib.Seq.{getD-drop}
 use Rattle.numbers.specs.Circular.{sum}
@@ -15,10 +14,7 @@ use Rattle.numbers.proofs.Circle.{sum-sum}
 use Rattle.numbers.proofs.Flags.{by-bool, and-left, impossible}
 use Rattle.head.specs.Head.{madeOf}
 use Rattle.head.specs.declared.state.Head.{Head}
-use Rattle.dlt.specs.Header.{headerOf}
 use Rattle.dlt.specs.Record.{recordOf, sizeOf}
-use Rattle.dlt.specs.declared.header.HeaderRead.{HeaderRead}
-use Rattle.dlt.specs.declared.header.HeaderRead.the-variants as headers
 use Rattle.dlt.specs.declared.record.RecordRead.{RecordRead}
 use Rattle.dlt.specs.declared.record.RecordRead.the-variants as records
 use Rattle.dlt.proofs.Laws.{AreBytes, RecordFit, record-fits, size-within}
@@ -31,9 +27,8 @@ use Rattle.trace.specs.Trace.{Areas, Replay, callIn, payloadIn, called, replaye
 use Rattle.trace.proofs.Laws.{madeIn, behind, lines-record, lines-close}
 use Rattle.ledger.specs.Seen.{NotClear}
 use Rattle.ledger.specs.Runs.{Event, Book, answered, bookAfter, Fresh, fresh, NoneClear}
-use Rattle.ledger.specs.Claims.{Demanded}
 use Rattle.ledger.proofs.Theorem.{ledger-theorem}
-use Rattle.thm_replay.specs.Replay.{restAfter, recordAt, payloadAt, offsetOf, replayAfter, isSound, isClear, SoundTo, NoClearTo, startOf, runOf, outputAfter, listAfter, eventOf, eventsOf, answerAt, lineAt, linesTo, tallyAfter, closingAt, IsRun, WritesRun, Replayed}
+use Rattle.thm_replay.specs.Replay.{Accepted, headIn, restAfter, recordAt, payloadAt, offsetOf, replayAfter, isSound, isClear, SoundTo, NoClearTo, startOf, runOf, outputAfter, listAfter, eventOf, eventsOf, answerAt, lineAt, linesTo, tallyAfter, closingAt, IsRun, BeginsAs, IsAll, Replayed}
 
 positive : (n : ℕ) → eqb n 0 ≡ false → 0 < n
 positive zero e = impossible e
@@ -140,41 +135,55 @@ none-clear a file first h small zero s c = tt
 none-clear a file first h small (suc n) s c =
     (not-clear (recordAt file n) (s .0) (c .0) (record-fits (restAfter file n) (rest-bytes file n small)), none-clear a file first h small n (s .1) (c .1))
 
--- a header that is accepted
-module _ (counting : Bool) (a : Areas) (file : List ℕ) (start : ℤ) (latency : ℕ) (dropping : Bool) (first capacity : ℕ)
-    (header : headerOf file ≡ headers.Header start latency dropping first capacity) (accepted : isRefused (madeOf start latency dropping first capacity) capacity ≡ false) where
-  abbrev made : Head
-  made = madeOf start latency dropping first capacity .head
-
-  abbrev replay : ℕ → Replay
-  replay n = at counting a file first made n
-
+-- a file whose header is accepted
+module _ (counting : Bool) (a : Areas) (file : List ℕ) (s : Accepted file) where
   abbrev left : ℕ → List ℕ
-  left n = linesOf (length (restAfter file n)) (replay n) (restAfter file n)
+  left n = linesOf (length (restAfter file n)) (at counting a file (s .first) (headIn s) n) (restAfter file n)
 
-  -- the lines of the first n records, and what the rest gives
-  lines-first : (n : ℕ) → SoundTo file n → outputOf counting a file ≡ linesTo a file first made n ++ left n
+  abbrev lines : ℕ → List ℕ
+  lines n = linesTo a file (s .first) (headIn s) n
+
+  -- the lines of the first n records, then what the rest gives
+  pub begins-as : (n : ℕ) → SoundTo file n → BeginsAs counting a file (s .first) (headIn s) n
   unfolding outputOf restAfter replayAfter linesTo
-  lines-first zero s = rw (header, accepted)
-  lines-first (suc n) s =
-      let ih = lines-first n (s .1) in
+  begins-as zero z = rw (s .header, s .taken)
+  begins-as (suc n) z =
       let rest = restAfter file n in
-      ih ∙ ap (λ (l : List ℕ). linesTo a file first made n ++ l) (lines-record (replay n) rest (not-true (eqb (sizeOf (recordOf rest)) 0) (s .0)) ∙ ap (λ (l : List ℕ). l ++ left (suc n)) (line-same counting a file first made n)) ∙ sym (append-assoc (linesTo a file first made n) (lineAt a file first made n) (left (suc n)))
+      let more = lines-record (at counting a file (s .first) (headIn s) n) rest (not-true (eqb (sizeOf (recordOf rest)) 0) (z .0)) in
+      begins-as n (z .1)
+      ∙ ap (λ (l : List ℕ). lines n ++ l) (more ∙ ap (λ (l : List ℕ). l ++ left (suc n)) (line-same counting a file (s .first) (headIn s) n))
+      ∙ sym (append-assoc (lines n) (lineAt a file (s .first) (headIn s) n) (left (suc n)))
 
-  -- all that a file gives, whose first n records are sound and no more
-  pub writes-run : (n : ℕ) → SoundTo file n → isSound (recordAt file n) ≡ false → WritesRun counting a file first made n
-  writes-run n s e =
-      lines-first n s
-      ∙ ap (λ (l : List ℕ). linesTo a file first made n ++ l)
-      (lines-close (replay n) (restAfter file n) (not-false (eqb (sizeOf (recordAt file n)) 0) e) ∙ closing-same counting a file first made n)
+  -- all that the file gives, clears or not: it has some number of sound records, the lines of their answers, and the last line
+  pub writes-run : (n : ℕ) × SoundTo file n × (isSound (recordAt file n) ≡ false) × IsAll counting a file (s .first) (headIn s) n
+  writes-run =
+      let c = sound-count file in
+      let n = c .0 in
+      let close =
+      lines-close (at counting a file (s .first) (headIn s) n) (restAfter file n) (not-false (eqb (sizeOf (recordAt file n)) 0) (c .2))
+      ∙ closing-same counting a file (s .first) (headIn s) n in
+      (n, c .1, c .2, begins-as n (c .1) ∙ ap (λ (l : List ℕ). lines n ++ l) close)
 
-  fresh-start : Fresh first (startOf a file first made)
-  fresh-start =
-      let m = madeOf start latency dropping first capacity in
-      let ok : (eqb (m .refusal) 0 && leb capacity 32) ≡ true = not-false (eqb (m .refusal) 0 && leb capacity 32) accepted in
-      record { start = start; latency = latency; dropping = dropping; capacity = capacity; made = eqb-true (m .refusal) 0 (and-left (eqb (m .refusal) 0) (leb capacity 32) ok); head = refl }
+  -- the receiver that the header makes is fresh
+  pub header-fresh : Fresh (s .first) (startOf a file (s .first) (headIn s))
+  header-fresh =
+      let m = madeOf (s .start) (s .latency) (s .dropping) (s .first) (s .capacity) in
+      let ok : (eqb (m .refusal) 0 && leb (s .capacity) 32) ≡ true = not-false (eqb (m .refusal) 0 && leb (s .capacity) 32) (s .taken) in
+      record {
+        start = s .start;
+        latency = s .latency;
+        dropping = s .dropping;
+        capacity = s .capacity;
+        made = eqb-true (m .refusal) 0 (and-left (eqb (m .refusal) 0) (leb (s .capacity) 32) ok);
+        head = refl;
+      }
 
-  -- demand 3 of a replay, after any n records
-  pub replay-demanded : AreBytes file → (n : ℕ) → SoundTo file n → NoClearTo file n → Replayed counting a file first made n
-  replay-demanded bytes n s c =
-      record { isRun = replay-runs counting a file first made n; demanded = ledger-theorem first (startOf a file first made) fresh-start (eventsOf a file first made n) (none-clear a file first made bytes n s c) }
+  -- so demand 3 holds of a replay, after each n records of which none is a clear
+  pub replays : AreBytes file → (n : ℕ) → SoundTo file n → NoClearTo file n → Replayed counting a file (s .first) (headIn s) n
+  replays small n z c =
+      record {
+        isRun = replay-runs counting a file (s .first) (headIn s) n;
+        lines = begins-as n z;
+        demanded =
+            ledger-theorem (s .first) (startOf a file (s .first) (headIn s)) header-fresh (eventsOf a file (s .first) (headIn s) n) (none-clear a file (s .first) (headIn s) small n z c);
+      }

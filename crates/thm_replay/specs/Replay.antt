@@ -5,9 +5,13 @@ use mathlib.Core.Bool.{Bool, true, false, not, cond}
 use mathlib.Core.List.{List, [], _∷_, _++_}
 use Prim.Native.Nat.{ℕ, zero, suc, _+_}
 use lib.Dec.{eqb}
+use lib.IntN.{ℤ}
 use lib.ListN.{length, drop}
 use Rattle.numbers.specs.Circular.{sum}
+use Rattle.head.specs.Head.{madeOf}
 use Rattle.head.specs.declared.state.Head.{Head}
+use Rattle.dlt.specs.Header.{headerOf}
+use Rattle.dlt.specs.declared.header.HeaderRead.the-variants as headers
 use Rattle.dlt.specs.Record.{recordOf, sizeOf}
 use Rattle.dlt.specs.declared.record.RecordRead.{RecordRead}
 use Rattle.dlt.specs.declared.record.RecordRead.the-variants as records
@@ -15,9 +19,22 @@ use Rattle.lines.specs.Lines.{lineBytes, endBytes, badBytes}
 use Rattle.step.specs.Step.{State, stateOf, lentFor, Ended, stepOf}
 use Rattle.tally.specs.Tally.{freshTally, tallied, tallyBytes}
 use Rattle.tally.specs.declared.Tally.{Tally}
-use Rattle.trace.specs.Trace.{Areas, Replay, callIn, payloadIn, called, replayed, freshReplay, outputOf}
+use Rattle.trace.specs.Trace.{Areas, Replay, callIn, payloadIn, called, replayed, isRefused, freshReplay, linesOf, outputOf}
 use Rattle.ledger.specs.Runs.{Event, Book, answered, bookAfter, fresh}
 use Rattle.ledger.specs.Claims.{Demanded}
+
+-- a header that is accepted: its settings make a receiver, and its capacity is at most 32
+pub record Accepted (file : List ℕ) : Type 0 where
+  pub start : ℤ
+  pub latency : ℕ
+  pub dropping : Bool
+  pub first : ℕ
+  pub capacity : ℕ
+  pub header : headerOf file ≡ headers.Header start latency dropping first capacity
+  pub taken : isRefused (madeOf start latency dropping first capacity) capacity ≡ false
+
+abbrev pub headIn : {file : List ℕ} → Accepted file → Head
+headIn s = madeOf (s .start) (s .latency) (s .dropping) (s .first) (s .capacity) .head
 
 module _ (file : List ℕ) where
   -- the file without its header of 24 bytes and its first n records
@@ -128,11 +145,17 @@ pub record IsRun (counting : Bool) (a : Areas) (file : List ℕ) (first : ℕ) (
   pub offset : t .offset ≡ sum 64 0 (offsetOf file n)
   pub tally : t .tally ≡ tallyAfter a file first h counting n
 
--- what the file gives: the lines of the run's answers, joined, and the last line
-abbrev pub WritesRun : Bool → Areas → List ℕ → ℕ → Head → ℕ → Type 0
-WritesRun counting a file first h n = outputOf counting a file ≡ linesTo a file first h n ++ closingAt a file first h counting n
+-- what the file gives: the lines of the run's first n answers, joined, then what the rest gives; and if that has no sound record, the last line
+abbrev pub BeginsAs : Bool → Areas → List ℕ → ℕ → Head → ℕ → Type 0
+BeginsAs counting a file first h n =
+    let rest = restAfter file n in
+    outputOf counting a file ≡ linesTo a file first h n ++ linesOf (length rest) (replayAfter file (freshReplay counting a h) n) rest
 
--- demand 3 of a replay, after each n records of which none is a clear
+abbrev pub IsAll : Bool → Areas → List ℕ → ℕ → Head → ℕ → Type 0
+IsAll counting a file first h n = outputOf counting a file ≡ linesTo a file first h n ++ closingAt a file first h counting n
+
+-- after n records, all sound and none a clear: the replay is the run, its lines are those of the run's answers, and demand 3 holds of it
 pub record Replayed (counting : Bool) (a : Areas) (file : List ℕ) (first : ℕ) (h : Head) (n : ℕ) : Type 0 where
   pub isRun : IsRun counting a file first h n (replayAfter file (freshReplay counting a h) n)
+  pub lines : BeginsAs counting a file first h n
   pub demanded : Demanded stepOf first (startOf a file first h) (eventsOf a file first h n)
