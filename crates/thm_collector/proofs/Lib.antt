@@ -1,2 +1,3 @@
--- The proofs.
+-- A collector's calls are a run.
 pub mod Collects
+pub mod RuledOut

@@ -1,2 +1,2 @@
--- A collector's calls.
+-- A collector, its calls, and what is shown of it.
 pub mod Collector

@@ -1,0 +1,2 @@
+-- A replay is a run.
+pub mod Replays

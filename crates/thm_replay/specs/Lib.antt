@@ -1,0 +1,2 @@
+-- The calls of a file, and what a replay of it is to be.
+pub mod Replay
