@@ -7,7 +7,7 @@ use Rattle.numbers.specs.Circular as circular
 use Rattle.numbers.specs.Instants as instants
 use Rattle.dlt.specs.Bytes as bytes
 use Rattle.dlt.specs.Header as header
-use Rattle.dlt.specs.Record as record
+use Rattle.dlt.specs.Record as records
 use Rattle.head.specs.Rules as rules
 use Rattle.head.specs.Head as head
 use Rattle.reason.specs.Reason.{isMarked, formReason, headerReason, needIn, cutReason, wrongReason, recordReason}
@@ -48,25 +48,25 @@ taken = refl
 
 -- a pop of 9 bytes, and a data packet of 10 bytes before its length is there and after
 cut-pop : recordReason (2 ∷ 0 ∷ []) ≡ reasons.Cut 2 9
-unfolding record.recordOf record.leastSize cutReason needIn
+unfolding records.recordOf records.leastSize cutReason needIn
 cut-pop = refl
 
 cut-before : recordReason (1 ∷ replicate 22 0) ≡ reasons.Cut 23 0
-unfolding record.recordOf record.leastSize cutReason needIn
+unfolding records.recordOf records.leastSize cutReason needIn
 cut-before = refl
 
 cut-payload : recordReason (1 ∷ replicate 21 0 ++ (0 ∷ 10 ∷ replicate 9 120)) ≡ reasons.Cut 33 34
-unfolding record.recordOf record.leastSize record.fieldsOf record.dataOf cutReason needIn bytes.field bytes.big bytes.bigFrom
+unfolding records.recordOf records.leastSize records.fieldsOf records.dataOf cutReason needIn bytes.field bytes.big bytes.bigFrom
 cut-payload = refl
 
 ninth-kind : recordReason (9 ∷ []) ≡ reasons.Kind 9
-unfolding record.recordOf record.leastSize record.fieldsOf wrongReason
+unfolding records.recordOf records.leastSize records.fieldsOf wrongReason
 ninth-kind = refl
 
 too-long : recordReason (1 ∷ replicate 21 0 ++ (5 ∷ 177 ∷ [])) ≡ reasons.Length 1457
-unfolding record.recordOf record.leastSize record.fieldsOf record.dataOf wrongReason bytes.field bytes.big bytes.bigFrom
+unfolding records.recordOf records.leastSize records.fieldsOf records.dataOf wrongReason bytes.field bytes.big bytes.bigFrom
 too-long = refl
 
 end : recordReason [] ≡ reasons.Nothing
-unfolding record.recordOf record.leastSize cutReason
+unfolding records.recordOf records.leastSize cutReason
 end = refl

@@ -1,12 +1,12 @@
 -- What the code of lib.rt does at each return, as laws over plain values. Assumes nothing.
 use mathlib.Core.Path.{_≡_, refl, sym, _∙_}
-use mathlib.Core.Bool.{Bool, true, false, cond}
+use mathlib.Core.Bool.{Bool, true, false, _&&_, cond}
 use mathlib.Core.List.{List, [], _∷_}
 use Prim.Native.Nat.{ℕ, _+_, _<_, _≤_}
 use native.Mathlib.Omega.{arith}
 use borrow.Author.Needs.{needs}
 use borrow.Author.Tests.{eq-eqb, ne-eqb, lt-ltb, le-ltb, ltb-false}
-use lib.Dec.{ltb}
+use lib.Dec.{eqb, ltb}
 use lib.IntN.{ℤ}
 use lib.ListN.{length}
 use Rattle.numbers.proofs.Flags.{by-test, by-order}
@@ -24,7 +24,10 @@ use Rattle.reason.specs.Reason.{isMarked, formReason, settingReason, hea
 use Rattle.reason.specs.declared.Reason.{Reason}
 use Rattle.reason.specs.declared.Reason.the-variants as reasons
 
--- form
+-- is_marked, form
+pub mark-is : (xs : List ℕ) → (eqb (byteAt xs 0) 68 && eqb (byteAt xs 1) 76 && eqb (byteAt xs 2) 84) ≡ isMarked xs
+unfolding isMarked
+mark-is xs = refl
 
 module _ (xs : List ℕ) {b : Bool} (e : b ≡ isMarked xs) where
   pub form-mark : b ≡ false → reasons.NoMark ≡ formReason xs
@@ -129,6 +132,7 @@ module _ (xs : List ℕ) {r : RecordRead} (e : r ≡ recordOf xs) where
   by-record f g = rw (← e, f) g
 
 pub ruleset reads = (
+  mark-is,
   form-mark,
   form-late,
   form-version,

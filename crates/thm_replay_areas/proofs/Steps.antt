@@ -44,7 +44,7 @@ use Rattle.head.specs.Head.{headOk}
 use Rattle.head.specs.Parts.{withLatest}
 use Rattle.head.specs.declared.state.Head.{Head}
 use Rattle.head.proofs.Ready.{timed-ready, pop-ready}
-use Rattle.receiver.specs.Data as data
+use Rattle.receiver.specs.Data as receiving
 use Rattle.receiver.specs.Data.{packet, dataCallOf}
 use Rattle.receiver.specs.Message as message
 use Rattle.receiver.specs.Message.{popCallOf}
@@ -57,6 +57,7 @@ use Rattle.feedback.specs.Paper.{lossLine, clockLine, fullAckLine, rttLine}
 use Rattle.feedback.specs.Sync as sync
 use Rattle.feedback.specs.Sync.{clockCallOf}
 use Rattle.feedback.specs.declared.acking.FullAckAnswer.the-variants as answered
+use Rattle.upkeep.specs.Paper.{dropLine, clearLine}
 use Rattle.upkeep.specs.Request as request
 use Rattle.upkeep.specs.Request.{dropCallOf, clearCallOf}
 use Rattle.step.specs.Step.{State, Lent, stepOf}
@@ -92,24 +93,24 @@ module _ (h : Head) (ws bs : List ℕ) (now : ℤ) (p : Packet) (payload : List 
   abbrev pushTests : List Rule
   pushTests = pushRules (headOk h) (h .window .capacity) (length ws) (length bs) now (h .latest) p (length payload)
 
-  got-enough : (light : Bool) (lrsn : ℕ) (recovered : Bool) → Enough (dataLine (data.gotAnswer light lrsn recovered) .refusal)
+  got-enough : (light : Bool) (lrsn : ℕ) (recovered : Bool) → Enough (dataLine (receiving.gotAnswer light lrsn recovered) .refusal)
   got-enough true lrsn recovered = refl
   got-enough false lrsn recovered = refl
 
-  push-enough : (w : Window) (a : PushAnswer) (number size : ℕ) → Enough (dataLine (data.afterPush h w a now number size .answer) .refusal)
-  unfolding data.gotOf data.ackedOf
+  push-enough : (w : Window) (a : PushAnswer) (number size : ℕ) → Enough (dataLine (receiving.afterPush h w a now number size .answer) .refusal)
+  unfolding receiving.gotOf receiving.ackedOf
   push-enough w (pushes.Got lrsn recovered) number size =
-      got-enough (lightAckOf (data.placedOf (cond recovered h (data.ratedOf h now number size)) w now .history) lrsn .light) lrsn recovered
+      got-enough (lightAckOf (receiving.placedOf (cond recovered h (receiving.ratedOf h now number size)) w now .history) lrsn .light) lrsn recovered
   push-enough w (pushes.Loss first last) number size = refl
   push-enough w pushes.BufferFull number size = refl
   push-enough w (pushes.PacketTooEarly places need) number size = refl
   push-enough w pushes.PacketTooLate number size = refl
   push-enough w pushes.DiscardedDuplicate number size = refl
 
-  data-enough : 3 * h .window .capacity ≤ length ws → 1456 * h .window .capacity ≤ length bs → Enough (dataCallOf h ws bs now p payload .line .refusal)
-  unfolding dataCallOf data.takenOf
+  data-enough : 3 * h .window .capacity ≤ length ws → 1456 * h .window .capacity ≤ length bs → Enough (dataLine (dataCallOf h ws bs now p payload .handled .answer) .refusal)
+  unfolding dataCallOf receiving.takenOf
   data-enough a b =
-      by-refusal (λ (o : data.DataOutcome). Enough (o .line .refusal)) (firstRefusal pushTests) _ _
+      by-refusal (λ (o : receiving.DataOutcome). Enough (dataLine (o .handled .answer) .refusal)) (firstRefusal pushTests) _ _
       (λ z. let o = pushOf (h .window) ws bs (natAbs now) p payload in push-enough (o .pushed .window) (o .pushed .answer) (p .number) (length payload))
       (λ z. first-enough 0 pushTests refl (
         λ e. refl,
@@ -119,12 +120,12 @@ module _ (h : Head) (ws bs : List ℕ) (now : ℤ) (p : Packet) (payload : List 
       ))
 
   data-capacity : dataCallOf h ws bs now p payload .handled .head .window .capacity ≡ h .window .capacity
-  unfolding dataCallOf data.takenOf data.gotOf data.ackedOf recoveredOf
+  unfolding dataCallOf receiving.takenOf receiving.gotOf receiving.ackedOf recoveredOf
   data-capacity =
-      by-refusal (λ (o : data.DataOutcome). o .handled .head .window .capacity ≡ h .window .capacity) (firstRefusal pushTests) _ _
+      by-refusal (λ (o : receiving.DataOutcome). o .handled .head .window .capacity ≡ h .window .capacity) (firstRefusal pushTests) _ _
       (λ z.
       push-cases (h .window) ws bs (natAbs now) p payload
-      (λ (o : PushOutcome). data.afterPush h (o .pushed .window) (o .pushed .answer) now (p .number) (length payload) .head .window .capacity ≡ h .window .capacity)
+      (λ (o : PushOutcome). receiving.afterPush h (o .pushed .window) (o .pushed .answer) now (p .number) (length payload) .head .window .capacity ≡ h .window .capacity)
       (λ q c. refl)
       (λ q. refl)
       (λ q c. refl)
@@ -175,10 +176,10 @@ module _ (h : Head) (ws bs out : List ℕ) (now : ℤ) where
       (λ t. late)
 
   pop-enough : h .window .capacity ≤ mostCapacity → 3 * h .window .capacity ≤ length ws → 1456 * h .window .capacity ≤ length bs → 1456 * mostCapacity ≤ length out
-      → Enough (popCallOf h ws bs out now .line .refusal)
+      → Enough (messageLine (popCallOf h ws bs out now .given .answer) .refusal)
   unfolding popCallOf message.takenOf
   pop-enough small a b c =
-      by-refusal (λ (o : message.MessageOutcome). Enough (o .line .refusal)) (firstRefusal popTests) _ _
+      by-refusal (λ (o : message.MessageOutcome). Enough (messageLine (o .given .answer) .refusal)) (firstRefusal popTests) _ _
       (λ z. let r = pop-ready h now ws bs z in let holds = r .good .ranges .holds in pop-fits (omega (arith, message-most (h .window) ws)))
       (λ z. first-enough 0 popTests refl (
         λ e. refl,
@@ -208,10 +209,10 @@ module _ (h : Head) (ws list : List ℕ) (now : ℤ) where
       let most : n ≤ length list = omega (arith, needed-held w ws (natAbs now) (h .rtt .mean)) in
       by-test ReportEnough (eqb n 0) _ _ (λ t. refl) (λ t. rw (le-ltb _ _ most))
 
-  report-enough : h .window .capacity ≤ length list → 3 * h .window .capacity ≤ length ws → Enough (reportCallOf h ws list now .line .refusal)
+  report-enough : h .window .capacity ≤ length list → 3 * h .window .capacity ≤ length ws → Enough (lossLine (reportCallOf h ws list now .reported .answer) (reportCallOf h ws list now .list) .refusal)
   unfolding reportCallOf loss.reportedOf
   report-enough small a =
-      by-refusal (λ (o : loss.LossOutcome). Enough (o .line .refusal)) (firstRefusal reportTests) _ _
+      by-refusal (λ (o : loss.LossOutcome). Enough (lossLine (o .reported .answer) (o .list) .refusal)) (firstRefusal reportTests) _ _
       (λ z.
       let r = timed-ready h now (length ws) (3 * h .window .capacity) z .0 .head in
       let holds = in-window (h .window) (r .window) .holds in
@@ -239,7 +240,7 @@ module _ (h : Head) (a : List ℕ) (now : ℤ) where
   after-ack y (acks.Ack n) = refl
 
   abbrev AckEnough : acking.FullAckOutcome → Type 0
-  AckEnough o = Enough (o .line .refusal)
+  AckEnough o = Enough (fullAckLine (o .acked .answer) .refusal)
 
   full-ack-enough : 2048 ≤ length a → AckEnough (fullAckCallOf h a now)
   unfolding fullAckCallOf acking.dueAck acking.roomyAck
@@ -264,19 +265,19 @@ module _ (h : Head) (a : List ℕ) (now : ℤ) where
   after-ack2 y acks2.NotHeld = refl
   after-ack2 y (acks2.Held r) = refl
 
-  ack2-enough : (number : ℕ) → 2048 ≤ length a → Enough (ack2CallOf h a now number .line .refusal)
+  ack2-enough : (number : ℕ) → 2048 ≤ length a → Enough (rttLine (ack2CallOf h a now number .acked2 .answer) .refusal)
   unfolding ack2CallOf acking.heldAck2
   ack2-enough number l =
-      by-refusal (λ (o : acking.Ack2Outcome). Enough (o .line .refusal)) (firstRefusal ackTests) _ _
+      by-refusal (λ (o : acking.Ack2Outcome). Enough (rttLine (o .acked2 .answer) .refusal)) (firstRefusal ackTests) _ _
       (λ z. let k = ack2Of (h .history) a (natAbs now) number in after-ack2 (k .history) (k .answer))
       (λ z. ack-tests l)
 
 -- a drop request, a clock sample and a clear
-drop-enough : (h : Head) (ws : List ℕ) (first last : ℕ) → 3 * h .window .capacity ≤ length ws → Enough (dropCallOf h ws first last .line .refusal)
+drop-enough : (h : Head) (ws : List ℕ) (first last : ℕ) → 3 * h .window .capacity ≤ length ws → Enough (dropLine (dropCallOf h ws first last .answer) .refusal)
 unfolding dropCallOf
 drop-enough h ws first last a =
     let tests = dropRules (headOk h) (h .window .capacity) (length ws) first last in
-    by-refusal (λ (o : request.DropOutcome). Enough (o .line .refusal)) (firstRefusal tests) _ _
+    by-refusal (λ (o : request.DropOutcome). Enough (dropLine (o .answer) .refusal)) (firstRefusal tests) _ _
     (λ z. refl)
     (λ z. first-enough 0 tests refl (λ e. refl, (long-enough (length ws) (3 * h .window .capacity) a, (λ e. refl, (λ e. refl, tt)))))
 
@@ -287,18 +288,18 @@ module _ (h : Head) (now : ℤ) (stamp : ℕ) where
   after-sync k (clocks.Unsteady deviation v) = refl
   after-sync k clocks.DriftRange = refl
 
-  clock-enough : Enough (clockCallOf h now stamp .line .refusal)
+  clock-enough : Enough (clockLine (clockCallOf h now stamp .clocked .answer) .refusal)
   unfolding clockCallOf sync.syncOf
   clock-enough =
       let tests = clockRules (headOk h) now (h .latest) in
-      by-refusal (λ (o : sync.ClockOutcome). Enough (o .line .refusal)) (firstRefusal tests) _ _
+      by-refusal (λ (o : sync.ClockOutcome). Enough (clockLine (o .clocked .answer) .refusal)) (firstRefusal tests) _ _
       (λ z. let k = synchronized (h .clock) now stamp in after-sync (k .clock) (k .answer))
       (λ z. first-enough 0 tests refl (λ e. refl, (λ e. refl, (λ e. refl, tt))))
 
-clear-enough : (h : Head) → Enough (clearCallOf h .line .refusal)
+clear-enough : (h : Head) → Enough (clearLine (clearCallOf h .cleared .answer) .refusal)
 unfolding clearCallOf
 clear-enough h =
-    by-refusal (λ (o : request.ClearOutcome). Enough (o .line .refusal)) (firstRefusal (headRules (headOk h))) _ _
+    by-refusal (λ (o : request.ClearOutcome). Enough (clearLine (o .cleared .answer) .refusal)) (firstRefusal (headRules (headOk h))) _ _
     (λ z. refl)
     (λ z. first-enough 0 (headRules (headOk h)) refl (λ e. refl, tt))
 
