@@ -1,5 +1,5 @@
 #!/usr/bin/env python3
-"""Writes data/*.dlt, args and stdout of case_replay, and data/worked.dlt of replay, beside it.
+"""Writes data/*.dlt, args and stdout of case_replay, and data/worked.dlt, stdin and stdout of replay, beside it.
 
 A trace is written as in docs/DECISIONS.md, "Notation". The lines and the counters were worked out by hand from docs/01-scope.md, "Trace, mark DLT" and
 "Counters follow 003", and stand here beside the records; none is copied from a run. The two passes that the program pursethistle does not replay in
@@ -88,6 +88,31 @@ def forms():
     return s
 
 
+def long():
+    """Over 128 KB of file and over 64 KB of lines, each by a rule, on a receiver that never holds anything: first 5, so 4 is before it."""
+    records = [
+        lambda now: (pop(now), "none"),
+        lambda now: (drop(5, 9), "gone 0"),
+        lambda now: (report(now), "none"),
+        lambda now: (full(now), "none"),                        # nothing to acknowledge
+        lambda now: (ack2(now, 9), "none"),                     # no ACK 9 was sent
+        lambda now: (CLEAR, "clear"),
+        lambda now: (data(now, 4, 0, 3, 0, 1456), "refused 9") if now % 140 == 6 else (drop(5, 5), "gone 0"),
+    ]
+    return [records[now % 7](now) for now in range(7700)]
+
+
+def runs():
+    """The longest report of 32 slots: ten runs of two and a single number, 21 words; the third run goes over the wrap."""
+    first = 2 ** 31 - 7
+    number = lambda entry: (first + entry) % 2 ** 31
+    s = [(data(0, number(e), 0, 3, 0, 0), f"loss {number(e - 2)} {number(e - 1)}") for e in range(2, 30, 3)]
+    s.append((data(0, number(31), 0, 3, 0, 0), f"loss {number(30)} {number(30)}"))
+    words = [w for e in range(0, 30, 3) for w in (2 ** 31 + number(e), number(e + 1))] + [number(30)]
+    s.append((report(20001), "report " + " ".join(map(str, words))))
+    return s
+
+
 NAMES = "data bytes unique_data unique_bytes retransmit_data dropped_data dropped_bytes ack2 ack2_errors clock_adjustments".split()
 
 
@@ -109,6 +134,7 @@ def recorded(name, counted):
 
 H = header(0, 0, 0, 5, 4)
 FORMS = forms()
+LONG = long()
 CASES = [
     case("worked", WORKED, WORKED_STEPS, "end 5 1 2147483647 2", (4, 104, 2, 52, 1, 0, 0, 0, 0, 0)),
     # unique: 26, 20, 81 of 26 and 32 of 1,472 bytes; one recovered; dropped: one given up, and 9, 8 and 7 of 20 bytes; 10 counts as data alone
@@ -131,6 +157,9 @@ CASES = [
     case("kind_9", H, [(CLEAR, "clear")], "bad 25", tail=b"\x09"),
     case("length_1457", H, [], "bad 24", tail=data(0, 5, 0, 3, 0, 1457)),
     case("length_1457_cut", H, [], "bad 24", tail=data(2 ** 60, 5, 0, 3, 0, 1457, 0)),
+    # 55 packets of 1,456 bytes, all too late; 1,100 ACK2s, none of an ACK that was sent, and only one that was would be an error (A6)
+    case("long", H, LONG, f"end {len(LONG)} 5 5 0", (55, 80960, 0, 0, 0, 55, 80960, 1100, 0, 0)),
+    case("runs", header(0, 0, 0, 2 ** 31 - 7, 32), runs(), f"end 12 {2 ** 31 - 7} {2 ** 31 - 7} 32", (11, 176, 11, 176, 0, 0, 0, 0, 0, 0)),
     recorded("recovered", (6, 144, 4, 96, 2, 0, 0, 0, 0, 0)),   # a frame has 8 bytes, so it counts 24
     recorded("twice", (9, 216, 3, 72, 0, 3, 72, 0, 0, 0)),
 ]
@@ -148,11 +177,12 @@ def main():
         f.write("--counters\n" + "".join(f"{name}.dlt\n" for name, _, _ in CASES))
     with open(f"{HERE}/stdout", "w") as f:
         f.write("\n".join(out) + "\n")
-    name, content, lines = CASES[0]
+    name, content, _ = CASES[0]
     with open(f"{HERE}/../replay/data/{name}.dlt", "wb") as f:
         f.write(content)
-    with open(f"{HERE}/../replay/args", "w") as f:
-        f.write(f"{name}.dlt\n")
+    content, lines = next((content, lines) for name, content, lines in CASES if name == "long")
+    with open(f"{HERE}/../replay/stdin", "wb") as f:
+        f.write(content)
     with open(f"{HERE}/../replay/stdout", "w") as f:
         f.write("\n".join(lines[:-1]) + "\n")
 

@@ -1,11 +1,12 @@
 -- What a reader of a file piece by piece may lean on: more bytes behind change nothing but a cut read, a record lies within its bytes and
 -- takes some, and its numbers are below their widths. Assumes nothing.
 use mathlib.Core.Path.{_≡_, refl, sym, _∙_, ap, subst}
+use mathlib.Core.Bool.{Bool, true, false, cond}
 use mathlib.Core.List.{List, [], _∷_, _++_}
 use Prim.Native.Nat.{ℕ, zero, suc, _+_, _-_, _*_, _^_, _<_, _≤_}
 use native.Mathlib.Nat.{mul-assoc, pow-succ', pow-le-pow-right}
 use native.Mathlib.Omega.{arith}
-use borrow.Author.Tests.{lt-ltb, le-ltb, ltb-false}
+use borrow.Author.Tests.{lt-ltb, le-ltb, ltb-true, ltb-false}
 use lib.Dec.{ltb}
 use lib.ListN.{length, getD, take, drop, length-append, length-drop, length-take, List·getD-append, List·getD-eq-default}
 use lib.Seq.{drop-append-le, take-append-le, getD-drop, getD-take}
@@ -16,12 +17,12 @@ use Rattle.numbers.proofs.Flags.{by-test, by-order}
 use Rattle.numbers.proofs.Signs.{signed-range}
 use Rattle.dlt.specs.Bytes.{bigFrom, big, byteAt, field, timeAt}
 use Rattle.dlt.specs.Header.{isHeader, settingsIn, headerOf}
-use Rattle.dlt.specs.Record.{leastSize, dataIn, dataOf, fieldsOf, recordOf, sizeOf}
+use Rattle.dlt.specs.Record.{leastSize, longestRecord, dataIn, dataOf, fieldsOf, recordOf, sizeOf}
 use Rattle.dlt.specs.declared.header.HeaderRead.{HeaderRead}
 use Rattle.dlt.specs.declared.header.HeaderRead.the-variants as header
 use Rattle.dlt.specs.declared.record.RecordRead.{RecordRead}
 use Rattle.dlt.specs.declared.record.RecordRead.the-variants.{Short, Bad, Data, Pop, Report, FullAck, Ack2, Drop, Clock, Clear}
-use Rattle.dlt.proofs.Steps.{data-bad, data-short, data-is, kind-none}
+use Rattle.dlt.proofs.Steps.{fixed-past, data-bad, data-short, data-is, kind-none}
 
 -- by cases on the kind byte: 0, the kinds from 1 to 8, and above
 by-kind : (P : ℕ → Type 0) → P 0 → P 1 → P 2 → P 3 → P 4 → P 5 → P 6 → P 7 → P 8 → ((k : ℕ) → 8 < k → P k) → (k : ℕ) → P k
@@ -209,6 +210,65 @@ short-payload xs =
 pub payload-short : (xs : List ℕ) {r : RecordRead} {time : ℤ} {number message location stamp n : ℕ}
     → r ≡ recordOf xs → r ≡ Data time number message location stamp n → n ≤ 1456
 payload-short xs e f = subst ShortPayload (sym e ∙ f) (short-payload xs)
+
+-- a record that is cut is shorter than the longest one, and a cut header than 24 bytes: who holds so many need not ask for more
+abbrev CutWithin : ℕ → RecordRead → Type 0
+CutWithin n Short = n < longestRecord
+CutWithin n Bad = Unit {0}
+CutWithin n (Data time number message location stamp len) = Unit {0}
+CutWithin n (Pop time) = Unit {0}
+CutWithin n (Report time) = Unit {0}
+CutWithin n (FullAck time) = Unit {0}
+CutWithin n (Ack2 time number) = Unit {0}
+CutWithin n (Drop first last) = Unit {0}
+CutWithin n (Clock time stamp) = Unit {0}
+CutWithin n Clear = Unit {0}
+
+least-within : (kind : ℕ) → leastSize kind ≤ longestRecord
+unfolding leastSize
+least-within =
+    by-kind (λ (kind : ℕ). leastSize kind ≤ longestRecord)
+    (omega arith)
+    (omega arith)
+    (omega arith)
+    (omega arith)
+    (omega arith)
+    (omega arith)
+    (omega arith)
+    (omega arith)
+    (omega arith)
+    (λ k l. rw (← fixed-past k l) (omega arith))
+
+cut-within : (xs : List ℕ) → CutWithin (length xs) (recordOf xs)
+unfolding recordOf fieldsOf dataOf
+cut-within xs =
+    by-test (CutWithin (length xs)) (ltb (length xs) (leastSize (byteAt xs 0))) _ _
+    (λ t. omega (arith, ltb-true (length xs) (leastSize (byteAt xs 0)) t, least-within (byteAt xs 0)))
+    (λ t.
+    by-kind (λ (kind : ℕ). CutWithin (length xs) (fieldsOf kind xs)) tt
+    (by-test (CutWithin (length xs)) (ltb 1456 (field xs 22 2)) _ _
+    (λ u. tt)
+    (λ u. by-test (CutWithin (length xs)) (ltb (length xs) (24 + field xs 22 2)) _ _ (λ v. omega (arith, ltb-true (length xs) (24 + field xs 22 2) v, ltb-false 1456 (field xs 22 2) u)) (λ v. tt)))
+    tt
+    tt
+    tt
+    tt
+    tt
+    tt
+    tt
+    (λ k l. rw (unknown xs k l) tt)
+    (byteAt xs 0))
+
+pub record-cut : (xs : List ℕ) → recordOf xs ≡ Short → length xs < longestRecord
+record-cut xs e = subst (CutWithin (length xs)) e (cut-within xs)
+
+pub header-cut : (xs : List ℕ) → headerOf xs ≡ header.Short → length xs < 24
+unfolding headerOf
+header-cut xs = by-test (λ (h : HeaderRead). h ≡ header.Short → length xs < 24) (ltb (length xs) 24) _ _ (λ t e. ltb-true _ _ t) (λ t. whole (isHeader xs))
+  where
+    whole : (b : Bool) → cond b (settingsIn xs) header.Bad ≡ header.Short → length xs < 24
+    whole true e = absurd (let z : _≡_ {A = ℕ} 0 1 = cc in omega arith)
+    whole false e = absurd (let z : _≡_ {A = ℕ} 0 1 = cc in omega arith)
 
 -- numbers below their widths, of bytes
 abbrev pub AreBytes : List ℕ → Type 0

@@ -14,6 +14,10 @@ use Rattle.dlt.specs.declared.record.RecordRead.the-variants.{Short, Bad
 unfoldable pub leastSize : ℕ → ℕ
 leastSize kind = getD (1 ∷ 24 ∷ 9 ∷ 9 ∷ 9 ∷ 13 ∷ 9 ∷ 13 ∷ 1 ∷ []) kind 1
 
+-- no record is longer: a data packet of 1,456 bytes
+abbrev pub longestRecord : ℕ
+longestRecord = 1480
+
 abbrev pub dataIn : List ℕ → ℕ → RecordRead
 dataIn xs n = Data (timeAt xs 1) (field xs 9 4) (field xs 13 4) (byteAt xs 17) (field xs 18 4) n
 

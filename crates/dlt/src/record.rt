@@ -48,7 +48,7 @@ pub enum RecordRead {
 // The bytes before a payload, by kind.
 const FIXED: [usize; 9] = [1, 24, 9, 9, 9, 13, 9, 13, 1];
 
-fn fixed(kind: u8) -> usize
+pub fn fixed(kind: u8) -> usize
     ensures { λ r. ⌜ r ≡ leastSize kind ⌝ }
 {
     if 8 < kind {

@@ -1,4 +1,4 @@
--- The table of P1 to P8 holds, all rows together, by computing the definitions. Assumes nothing.
+-- The table of P1 to P8 holds, all rows together, by computing the definitions with the areas that the program lends. Assumes nothing.
 use mathlib.Core.Path.{_≡_, refl}
 use mathlib.Core.Bool.{false}
 use mathlib.Core.List.{map}
@@ -42,8 +42,9 @@ use Rattle.lines.specs.Lines as linesLines
 use Rattle.trace.specs.Trace as traceTrace
 use Rattle.tally.specs.Tally as tallyTally
 use Rattle.trace.specs.Trace.{outputOf}
-use Rattle.edges.specs.Table.{Row, areasFor, table, be}
+use Rattle.trace.specs.Lends.{areasMade}
+use Rattle.edges.specs.Table.{Row, table, be}
 
-pub edges : map (λ (r : Row). outputOf false (areasFor (r .capacity)) (r .file)) table ≡ map (λ (r : Row). r .gives) table
+pub edges : map (λ (r : Row). outputOf false areasMade (r .file)) table ≡ map (λ (r : Row). r .gives) table
 unfolding tallyTally.tallied tallyTally.tallyBytes numbersCircular.distance numbersCircular.equal numbersCircular.after numbersCircular.before numbersCircular.saturating numbersCircular.sum numbersCircular.successor numbersCircular.wrap numbersCircular.signed numbersCircular.difference numbersOrder.order numbersInstants.clamp numbersInstants.intervalOf dltBytes.bigFrom dltBytes.big dltBytes.field dltBytes.timeAt dltHeader.isHeader dltHeader.headerOf dltRecord.leastSize dltRecord.dataOf dltRecord.fieldsOf dltRecord.recordOf textDecimal.digits textDecimal.decimal textDecimal.signedDecimal textPut.put textPut.putOf clockBase.freshBase clockBase.instantOf clockBase.stampOf clockBase.driftOf clockBase.shifted clockBase.moved clockBase.adjusted clockRanges.clockOk clockRelease.released clockRelease.releaseOf clockRoot.root clockSamples.noSamples clockSamples.distanceOf clockSamples.meanWith clockSamples.squaresWith clockSamples.sampled clockSamples.varianceOf clockSamples.deviationOf clockSamples.truncatedOf clockSync.freshClock clockSync.adjustedBy clockSync.judged clockSync.sampleTaken clockSync.synchronized acksHistory.writeAck acksHistory.freshHistory acksHistory.noneDue acksHistory.isWorn acksHistory.firstKept acksHistory.leaving acksHistory.nextAck acksHistory.firstAfter acksHistory.appendOf acksHistory.fullAckOf acksHistory.ack2Of acksHistory.lightAckOf acksHistory.clearedOf acksHistory.historyOk intervalsMedian.insert intervalsMedian.sort intervalsMedian.medianOf numbersInstants.sinceTime intervalsRates.windowOf intervalsRates.freshArrivals intervalsRates.freshLinks intervalsRates.arrivalOf intervalsRates.takeIn intervalsRates.keptOf intervalsRates.rateOf intervalsRates.speedKept intervalsRates.speedOf intervalsRates.pairOf intervalsRates.linkOf intervalsRates.linkRate intervalsRates.capacityOf intervalsRates.allUnder intervalsRates.arrivalsOk intervalsRates.linksOk acksRtt.freshRtt acksRtt.updated acksRtt.rttOk slotsRing.slotOf slotsWords.entryOf slotsWords.entryAt slotsWords.writeAt slotsWords.writeReport windowPush.withLost windowPush.appendNextOf windowPush.appendWithLossOf windowPush.recoveredOf windowPush.recoverOf windowPush.pushOf windowShow.shownOf windowWindow.firstGap windowpopPop.runFrom windowpopPop.messageOf windowpopPop.filled windowpopPop.isLate windowpopPop.walkFrom windowpopPop.dueOf windowpopPop.limitOf windowpopPop.discardFront windowpopPop.discarded windowpopPop.releasedOf windowpopPop.lateOf windowpopPop.frontOf windowpopPop.popOf windowreportDrop.giveUp windowreportDrop.sweep windowreportDrop.endIn windowreportDrop.dropOf windowreportReport.runPut windowreportReport.slotsTo windowreportReport.runsTo windowreportReport.listTo windowreportReport.reportOf headHead.headOk headHead.freshHead headHead.madeOf headRules.thenOf feedbackAcking.roomyAck feedbackAcking.dueAck feedbackAcking.fullAckCallOf feedbackAcking.heldAck2 feedbackAcking.ack2CallOf receiverData.ackedOf receiverData.ratedOf receiverData.gotOf receiverData.takenOf receiverData.dataCallOf feedbackLoss.reportedOf feedbackLoss.reportCallOf receiverMessage.takenOf receiverMessage.popCallOf upkeepRequest.dropCallOf upkeepRequest.clearedOf upkeepRequest.clearCallOf upkeepRequest.roomCallOf upkeepShow.placeCallOf upkeepShow.shownCallOf feedbackSync.syncOf feedbackSync.clockCallOf shapesShapes.spaced shapesShapes.closed shapesShapes.lineOf linesLines.endBytes linesLines.badBytes traceTrace.linesOf traceTrace.outputOf be
 edges = refl

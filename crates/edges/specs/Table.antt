@@ -3,7 +3,6 @@ use mathlib.Core.List.{List, [], _∷_, _++_}
 use Prim.Native.Nat.{ℕ, zero, suc, _*_, _/_, _%_}
 use lib.ListN.{replicate}
 use Rattle.text.specs.Bytes.{bytes}
-use Rattle.trace.specs.Trace.{Areas}
 
 -- a number in so many bytes, big-endian
 unfoldable pub be : ℕ → ℕ → List ℕ
@@ -32,19 +31,7 @@ acks now = be 1 4 ++ be 8 now
 abbrev pub acks2 : ℕ → ℕ → List ℕ
 acks2 now number = be 1 5 ++ be 8 now ++ be 4 number
 
--- areas for a capacity
-abbrev pub areasFor : ℕ → Areas
-areasFor capacity =
-    record {
-      slots = replicate (3 * capacity) 0;
-      payloads = replicate (1456 * capacity) 0;
-      history = replicate 2048 0;
-      output = replicate 16 0;
-      list = replicate 4 0;
-    }
-
 pub record Row : Type 0 where
-  pub capacity : ℕ
   pub file : List ℕ
   pub gives : List ℕ
 
@@ -52,7 +39,6 @@ pub record Row : Type 0 where
 abbrev pub worked : Row
 worked =
     record {
-      capacity = 4;
       file =
           header 0 0 1 2147483646 4
           ++ sends 1000 2147483646 3 0 10
@@ -67,7 +53,6 @@ worked =
 abbrev pub roundTrip : Row
 roundTrip =
     record {
-      capacity = 2;
       file = header 0 0 0 0 2 ++ sends 0 0 3 0 0 ++ acks 0 ++ acks2 18000 1;
       gives = bytes "1 got 1 0\n2 ack 1 1 10000 1000 1 - - -\n3 rtt 11000 2500\nend 3 1 0 1\n";
     }
@@ -76,7 +61,6 @@ roundTrip =
 abbrev pub feedback : Row
 feedback =
     record {
-      capacity = 2;
       file = header 0 0 0 0 2 ++ sends 0 1 3 0 0 ++ reports 20000 ++ reports 20001 ++ reports 50001 ++ reports 50002;
       gives = bytes "1 loss 0 0\n2 none\n3 report 0\n4 none\n5 report 0\nend 5 0 0 2\n";
     }
@@ -85,7 +69,6 @@ feedback =
 abbrev pub lateness : Row
 lateness =
     record {
-      capacity = 1;
       file = header 0 100000 1 0 1 ++ sends 100000 0 2 100000 0 ++ pops 204999 ++ pops 205000;
       gives = bytes "1 got 1 0\n2 none\n3 late 0 1 5000\nend 3 1 1 0\n";
     }

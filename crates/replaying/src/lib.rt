@@ -1,9 +1,12 @@
 // Replaying a file: 01, "Trace, mark DLT". A file of any length is read in pieces into a fixed buffer, and each turn of the trace writes its line
 // behind the lines that are still to be written out. That the turns give together what the whole file gives is the trace's law `loop-whole`; no contract
 // can speak of what is read or written, so here the code only follows that loop.
-ghost use Prim.Native.Nat.{_-_, _≤_};
-ghost use lib.ListN.{length};
+ghost use mathlib.Core.Path.{_≡_};
+ghost use Prim.Native.Nat.{_-_, _≤_, min};
+ghost use lib.ListN.{length, replicate};
 ghost use Rattle.io.specs.Counts.{Counts};
+ghost use Rattle.trace.specs.Lends.{slotsLent, payloadsLent, historyLent, listLent};
+ghost use Rattle.replaying.specs.Reads.{grew, wantingOf, filledOf, flushedOf};
 use libc::STDERR_FILENO;
 use libc::STDIN_FILENO;
 use libc::STDOUT_FILENO;
@@ -13,20 +16,32 @@ use trace::Status;
 use trace::Trace;
 use trace::Turned;
 
-// The areas of capacity 32.
-fn slot_area() -> [u64; 96] {
+// The areas of capacity 32, of zeros. With them no record is refused by 2, 11 or 12: the theorem `replay-areas`. An output has the length of the payloads.
+fn slot_area() -> [u64; 96]
+    ensures { λ r. ⌜ r ≡ replicate slotsLent 0 ⌝ }
+    ensures { λ r. ⌜ 96 ≡ length r ⌝ }
+{
     [0; 96]
 }
 
-fn payload_area() -> [u8; 46592] {
+fn payload_area() -> [u8; 46592]
+    ensures { λ r. ⌜ r ≡ replicate payloadsLent 0 ⌝ }
+    ensures { λ r. ⌜ 46592 ≡ length r ⌝ }
+{
     [0; 46592]
 }
 
-fn history_area() -> [u64; 2048] {
+fn history_area() -> [u64; 2048]
+    ensures { λ r. ⌜ r ≡ replicate historyLent 0 ⌝ }
+    ensures { λ r. ⌜ 2048 ≡ length r ⌝ }
+{
     [0; 2048]
 }
 
-fn loss_words() -> [u32; 64] {
+fn loss_words() -> [u32; 64]
+    ensures { λ r. ⌜ r ≡ replicate listLent 0 ⌝ }
+    ensures { λ r. ⌜ 64 ≡ length r ⌝ }
+{
     [0; 64]
 }
 
@@ -40,8 +55,10 @@ enum Want {
     TurnBytes,
     // Room for a line.
     Room,
-    // The last line is written.
+    // The end line is written, or the bad line of a header or of a record.
     Nothing,
+    BadHeader,
+    BadRecord,
     // Reading or writing failed.
     Unread,
     Unwritten,
@@ -61,12 +78,14 @@ struct State {
 // n, or as many bytes as there are.
 fn within(n: usize, part: &[u8]) -> usize
     ensures { λ r. ⌜ Counts r (now (part .entry)) ⌝ }
+    ensures { λ r. ⌜ r ≡ min n (length (now (part .entry))) ⌝ }
 {
     if n < part.len() { n } else { part.len() }
 }
 
 fn least(a: usize, b: usize) -> usize
     ensures { λ r. ⌜ r ≤ b ⌝ }
+    ensures { λ r. ⌜ r ≡ min a b ⌝ }
 {
     if a < b { a } else { b }
 }
@@ -83,7 +102,9 @@ fn shift(hand: &mut [u8], at: usize, end: usize)
     }
 }
 
-fn wanting(s: State, want: Want) -> State {
+fn wanting(s: State, want: Want) -> State
+    ensures { λ r. ⌜ r ≡ wantingOf s want ⌝ }
+{
     let trace = s.trace;
     State {
         trace,
@@ -95,14 +116,16 @@ fn wanting(s: State, want: Want) -> State {
     }
 }
 
-// What a read gave: the bytes at hand end here, and its answer.
+// What a read gave: the bytes at hand end here, and its answer, by which they grew.
 struct Got {
     end: usize,
     answer: isize,
 }
 
 // The bytes at hand go to the front, and one read behind them.
-fn read_behind(fd: i32, hand: &mut [u8], from: usize, to: usize) -> Got {
+fn read_behind(fd: i32, hand: &mut [u8], from: usize, to: usize) -> Got
+    ensures { λ r. ⌜ grew from to (length (now (hand .entry))) r ⌝ }
+{
     let end = within(to, hand);
     let at = least(from, end);
     shift(hand, at, end);
@@ -116,7 +139,10 @@ fn read_behind(fd: i32, hand: &mut [u8], from: usize, to: usize) -> Got {
     }
 }
 
-fn filled(s: State, got: Got, want: Want) -> State {
+// A read that gave nothing is the end of the file, and no other is.
+fn filled(s: State, got: Got, want: Want) -> State
+    ensures { λ r. ⌜ r ≡ filledOf s got want ⌝ }
+{
     if got.answer < 0 {
         return wanting(s, Want::Unread);
     }
@@ -126,7 +152,7 @@ fn filled(s: State, got: Got, want: Want) -> State {
         at: 0,
         end: got.end,
         used: s.used,
-        last: got.answer == 0,
+        last: got.answer <= 0,
         want,
     }
 }
@@ -137,7 +163,9 @@ fn write_out(text: &[u8], used: usize) -> bool {
 }
 
 // The lines were written out, or not.
-fn flushed(s: State, done: bool, want: Want) -> State {
+fn flushed(s: State, done: bool, want: Want) -> State
+    ensures { λ r. ⌜ r ≡ flushedOf s done want ⌝ }
+{
     if done {
         let trace = s.trace;
         return State {
@@ -160,16 +188,17 @@ fn put_bad(text: &mut [u8]) -> usize {
     lines::bad_line(text, 0, 0)
 }
 
+// The bytes at hand stay, so that the reason can be told.
 fn bad_start(text: &mut [u8], s: State) -> State {
     let used = put_bad(text);
     let trace = s.trace;
     State {
         trace,
         at: 0,
-        end: 0,
+        end: s.end,
         used,
         last: true,
-        want: Want::Nothing,
+        want: Want::BadHeader,
     }
 }
 
@@ -210,7 +239,7 @@ fn after(status: Status) -> Want {
         Status::More => Want::TurnBytes,
         Status::LineShort => Want::Room,
         Status::End => Want::Nothing,
-        Status::Bad => Want::Nothing,
+        Status::Bad => Want::BadRecord,
     }
 }
 
@@ -295,6 +324,8 @@ fn act(
         Want::TurnBytes => filled(s, read_behind(fd, hand, s.at, s.end), Want::Turn),
         Want::Room => flushed(s, write_out(text, s.used), Want::Turn),
         Want::Nothing => s,
+        Want::BadHeader => s,
+        Want::BadRecord => s,
         Want::Unread => s,
         Want::Unwritten => s,
     }
@@ -315,6 +346,8 @@ fn left(want: Want, turns: u64) -> u64
 {
     match want {
         Want::Nothing => 0,
+        Want::BadHeader => 0,
+        Want::BadRecord => 0,
         Want::Unread => 0,
         Want::Unwritten => 0,
         Want::Turn => less(turns),
@@ -394,8 +427,25 @@ fn write_rest(text: &[u8], used: usize) {
     os::fail(b"standard output");
 }
 
+// Why the header is bad, and the record at the cursor: on standard error.
+fn tell_header(name: &[u8], hand: &[u8], to: usize) {
+    let end = within(to, hand);
+    let reason = reason::of_header(&hand[..end]);
+    reason::tell::tell(name, 0, 0, reason);
+}
+
+fn tell_record(name: &[u8], hand: &[u8], from: usize, to: usize, t: Trace) {
+    let end = within(to, hand);
+    let at = least(from, end);
+    let reason = reason::of_record(&hand[at..end]);
+    reason::tell::tell(name, t.offset, std::num::wrapping_add_u64(t.count, 1), reason);
+}
+
 // The lines that are left, and what failed. errno is told before anything else can change it.
-fn finish(want: Want, text: &[u8], used: usize, name: &[u8]) {
+fn finish(s: State, text: &[u8], hand: &[u8], name: &[u8]) {
+    let want = s.want;
+    let used = s.used;
+    let trace = s.trace;
     match want {
         Want::Unwritten => os::fail(b"standard output"),
         Want::Unread => {
@@ -403,6 +453,14 @@ fn finish(want: Want, text: &[u8], used: usize, name: &[u8]) {
             write_rest(text, used);
         }
         Want::Nothing => write_rest(text, used),
+        Want::BadHeader => {
+            write_rest(text, used);
+            tell_header(name, hand, s.end);
+        }
+        Want::BadRecord => {
+            write_rest(text, used);
+            tell_record(name, hand, s.at, s.end, trace);
+        }
         Want::Turn => write_rest(text, used),
         Want::Header => write_rest(text, used),
         Want::HeaderBytes => write_rest(text, used),
@@ -430,8 +488,7 @@ fn replay_open(fd: i32, name: &[u8], counting: bool) {
         &mut text,
         fresh(counting),
     );
-    let want = s.want;
-    finish(want, &text, s.used, name);
+    finish(s, &text, &hand, name);
 }
 
 // A name of no letters is shown in quotes.

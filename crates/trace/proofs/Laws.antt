@@ -81,7 +81,7 @@ piece-enough t a xs ys last last₁ line h =
       payload-behind (recordOf xs) xs ys (size-within xs),
     )
 
-positive : (n : ℕ) → eqb n 0 ≡ false → 0 < n
+pub positive : (n : ℕ) → eqb n 0 ≡ false → 0 < n
 positive zero e = impossible e
 positive (suc n) e = omega arith
 
@@ -219,7 +219,7 @@ mark opened.Short = 0
 mark opened.Bad = 1
 mark opened.Ready = 2
 
-unlike : {P : Type 0} {o u : Opened} → o ≡ u → (mark o ≡ mark u → ⊥) → P
+pub unlike : {P : Type 0} {o u : Opened} → o ≡ u → (mark o ≡ mark u → ⊥) → P
 unlike e h = absurd (h (ap mark e))
 
 module _ (c : Bool) (a : Areas) (rest : List ℕ) where
@@ -262,10 +262,10 @@ turn-moves t a hand last line =
 
 -- there is such a run for every file: with a line that is long enough each turn gives a record's line or the last one, and each record has a byte at least
 module _ (t : Trace) (a : Areas) (rest : List ℕ) where
-  abbrev long : List ℕ
+  abbrev pub long : List ℕ
   long = replicate (lineNeed (a .list)) 0
 
-  roomy : leb (lineNeed (a .list)) (length long) ≡ true
+  pub roomy : leb (lineNeed (a .list)) (length long) ≡ true
   roomy = le-leb (lineNeed (a .list)) (length long) (let e : length long ≡ lineNeed (a .list) = length-replicate (lineNeed (a .list)) 0 in omega arith)
 
   turn-ends : eqb (sizeOf (recordOf rest)) 0 ≡ true → turnLeft (endsWith t long (eqb (length rest) 0)) a ≡ turnOf t a rest true long

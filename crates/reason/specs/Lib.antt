@@ -1,0 +1,2 @@
+-- The definitions of why a file is bad.
+pub mod Reason

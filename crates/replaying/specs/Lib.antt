@@ -1,0 +1,2 @@
+-- What the steps of the loop that reads do.
+pub mod Reads
