@@ -80,8 +80,19 @@ two-squares : sampled (sampled noSamples (pos 3)) (pos 6) .squares ≡ fin false
 unfolding noSamples distanceOf meanWith squaresWith sampled round ofInt add sub mul div
 two-squares = refl
 
--- the thousandth sample: 999 times 1,000, and once more
-thousandth : synchronized (clock (base (pos 0) 0) (record { mean = fin false 1000 (pos 0); squares = fin false 0 (pos 0); count = 999 })) (pos 9000) 8000 .answer ≡ answers.Adjusted (pos 1000) 0
+-- the thousandth sample: 999 times 1,000, and once more. 1,000 is 125 × 2^3, as an f64 is written; after the first sample of 1,000 that is the mean, and the next leave it
+abbrev steady : ℕ → OnlineStats
+steady n = record { mean = fin false 125 (pos 3); squares = fin false 0 (pos 0); count = n }
+
+one-thousand : sampled noSamples (pos 1000) ≡ steady 1
+unfolding noSamples distanceOf meanWith squaresWith sampled round ofInt add sub mul div
+one-thousand = refl
+
+once-more : sampled (steady 998) (pos 1000) ≡ steady 999
+unfolding distanceOf meanWith squaresWith sampled round ofInt add sub mul div
+once-more = refl
+
+thousandth : synchronized (clock (base (pos 0) 0) (steady 999)) (pos 9000) 8000 .answer ≡ answers.Adjusted (pos 1000) 0
 unfolding synchronized sampleTaken judged adjustedBy adjusted moved shifted driftOf stampOf wrap difference signed distance sampled distanceOf meanWith squaresWith varianceOf deviationOf truncatedOf root toUnsigned toSigned round ofInt add sub mul div
 thousandth = refl
 

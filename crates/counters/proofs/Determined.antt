@@ -1,5 +1,5 @@
 -- Any two outcomes that a call's promise allows coincide, the counters too: 01, "Each proof's duty". The questions (show, its second question, room) have the receiver's own promises,
--- and crates/paper has theirs. Assumes nothing.
+-- and crates/paper has theirs; the functions that count from an answer are in crates/counts. Assumes nothing.
 use mathlib.Core.Path.{_≡_, sym, _∙_, ap}
 use mathlib.Core.List.{List}
 use Prim.Native.Nat.{ℕ}
@@ -12,11 +12,6 @@ use Rattle.feedback.specs.Loss.{LossOutcome, lossEnded}
 use Rattle.receiver.specs.Message.{MessageOutcome, messageEnded}
 use Rattle.upkeep.specs.Request.{DropOutcome, dropEnded, ClearOutcome, clearEnded}
 use Rattle.feedback.specs.Sync.{ClockOutcome, clockEnded}
-use Rattle.receiver.specs.declared.data.DataAnswer.{DataAnswer}
-use Rattle.feedback.specs.declared.acking.RttAnswer.{RttAnswer}
-use Rattle.upkeep.specs.declared.request.DropAnswer.{DropAnswer}
-use Rattle.feedback.specs.declared.sync.ClockAnswer.{ClockAnswer}
-use Rattle.counts.specs.Counts.{dataCounts, ack2Counts, dropCounts, clockCounts}
 use Rattle.counters.specs.Calls.{Counted, counted, dataCounted, ack2Counted, dropCounted, clockCounted, messageCounted, lossCounted, fullAckCounted, clearCounted}
 use Rattle.counts.specs.declared.Counters.{Counters}
 use Rattle.counters.specs.declared.acking.FullAckCounted.{FullAckCounted}
@@ -52,20 +47,6 @@ fullAckCountedMade o = record { counters = o .counters; acked = o .outcome .acke
 
 abbrev ack2CountedMade : Counted Ack2Outcome → Ack2Counted
 ack2CountedMade o = record { counters = o .counters; acked2 = o .outcome .acked2 }
-
--- the functions that count from an answer
-module _ (c r s : Counters) where
-  pub after-data-determined : (size : ℕ) (a : DataAnswer) → r ≡ dataCounts c size a → s ≡ dataCounts c size a → r ≡ s
-  after-data-determined size a p q = p ∙ sym q
-
-  pub after-ack2-determined : (a : RttAnswer) → r ≡ ack2Counts c a → s ≡ ack2Counts c a → r ≡ s
-  after-ack2-determined a p q = p ∙ sym q
-
-  pub after-drop-determined : (a : DropAnswer) → r ≡ dropCounts c a → s ≡ dropCounts c a → r ≡ s
-  after-drop-determined a p q = p ∙ sym q
-
-  pub after-clock-determined : (a : ClockAnswer) → r ≡ clockCounts c a → s ≡ clockCounts c a → r ≡ s
-  after-clock-determined a p q = p ∙ sym q
 
 module _ (c : Counters) (h : Head) where
   pub data-determined : (ws bs : List ℕ) (now : ℤ) (k : Packet) (payload : List ℕ) (r s : DataCounted) (ws₁ ws₂ bs₁ bs₂ : List ℕ)

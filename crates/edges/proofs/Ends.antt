@@ -1,4 +1,4 @@
--- Both sides of each range of the head, and how words with more bits than they need are read: 01, "Head and lent areas". Computed from the definitions. Assumes nothing.
+-- Both sides of each range of the head and of making, and how words with more bits than they need are read: 01, "Head and lent areas". Computed from the definitions. Assumes nothing.
 use mathlib.Core.Path.{_≡_, refl}
 use mathlib.Core.Bool.{Bool, true, false}
 use mathlib.Core.List.{List, [], _∷_, _++_, map}
@@ -18,8 +18,9 @@ use Rattle.intervals.specs.Rates as rates
 use Rattle.slots.specs.Words.{entryOf, writeAt}
 use Rattle.slots.specs.Ring.{withPayload}
 use Rattle.slots.specs.declared.entry.Entry.the-variants.{Lost, Received}
-use Rattle.head.specs.Head.{headOk, freshHead}
+use Rattle.head.specs.Head.{headOk, freshHead, madeOf}
 use Rattle.head.specs.Parts.{withWindow, withClock, withRtt, withRates, withHistory, withLatest}
+use Rattle.head.specs.Rules.{thenOf}
 use Rattle.head.specs.declared.state.Head.{Head}
 
 -- a head, and whether its numbers are in their ranges
@@ -36,19 +37,31 @@ outside h = record { head = h; ok = false }
 abbrev fresh : Head
 fresh = freshHead (pos 0) 0 true 0 8
 
--- capacity, start, held, seqno0, lrsn: all at their upper ends; capacity 0 and 8,193; start at capacity, held past it; numbers of 2^31
+-- capacity, start, held, seqno0, lrsn: all at their upper ends, and at their lower ones with one held; capacity 0 and 8,193; start at capacity, held past it; numbers of 2^31
 abbrev windowed : ℕ → ℕ → ℕ → ℕ → ℕ → Head
 windowed capacity start held front lrsn = withWindow fresh (record { capacity = capacity; start = start; held = held; seqno0 = front; lrsn = lrsn })
 
 abbrev windows : List End
 windows =
     inside (windowed 8192 8191 8192 2147483647 2147483647)
+    ∷ inside (windowed 1 0 1 0 0)
     ∷ outside (windowed 0 0 0 0 0)
     ∷ outside (windowed 8193 0 0 0 0)
     ∷ outside (windowed 8 8 0 0 0)
     ∷ outside (windowed 8 0 9 0 0)
     ∷ outside (windowed 8 0 0 2147483648 0)
     ∷ outside (windowed 8 0 0 0 2147483648)
+    ∷ []
+
+-- the latency
+abbrev delayed : ℕ → Head
+delayed latency = freshHead (pos 0) latency true 0 8
+
+abbrev delays : List End
+delays =
+    inside (delayed 0)
+    ∷ inside (delayed 65535000)
+    ∷ outside (delayed 65535001)
     ∷ []
 
 -- reference time, last released time, drift samples
@@ -139,11 +152,40 @@ readings =
     ∷ []
 
 abbrev ends : List End
-ends = windows ++ clocks ++ trips ++ arrivals ++ pairs ++ histories ++ readings
+ends = windows ++ delays ++ clocks ++ trips ++ arrivals ++ pairs ++ histories ++ readings
 
 ends-hold : map (λ (e : End). headOk (e .head)) ends ≡ map (λ (e : End). e .ok) ends
 unfolding headOk freshHead sync.freshClock base.freshBase ieee.fits samples.noSamples rates.freshArrivals rates.freshLinks history.freshHistory rtt.freshRtt ranges.clockOk rtt.rttOk rates.arrivalsOk rates.linksOk rates.windowOf rates.allUnder history.historyOk
 ends-hold = refl
+
+-- making: start, latency, first number and capacity, and the refusal
+record Making : Type 0 where
+  start : ℤ
+  latency : ℕ
+  first : ℕ
+  capacity : ℕ
+  refusal : ℕ
+
+abbrev making : ℤ → ℕ → ℕ → ℕ → ℕ → Making
+making start latency first capacity n = record { start = start; latency = latency; first = first; capacity = capacity; refusal = n }
+
+-- all at their lower ends, all at their upper ends, and each past an end
+abbrev makings : List Making
+makings =
+    making (pos 0) 0 0 1 0
+    ∷ making (pos (2 ^ 60 - 1)) 65535000 2147483647 8192 0
+    ∷ making (negsuc 0) 0 0 1 15
+    ∷ making (pos (2 ^ 60)) 0 0 1 15
+    ∷ making (pos 0) 65535001 0 1 15
+    ∷ making (pos 0) 0 2147483648 1 15
+    ∷ making (pos 0) 0 0 0 15
+    ∷ making (pos 0) 0 0 8193 15
+    ∷ []
+
+makings-judged :
+    map (λ (m : Making). madeOf (m .start) (m .latency) true (m .first) (m .capacity) .refusal) makings ≡ map (λ (m : Making). m .refusal) makings
+unfolding madeOf thenOf
+makings-judged = refl
 
 -- a slot's words: a length above 1,456 is read as 1,456; of k the low 16 bits, of a feedback time those under 2^60; all other bits are ignored
 lengths-read : (entryOf (1 + 4 * 1456) 0 0 ∷ entryOf (1 + 4 * 1457) 0 0 ∷ entryOf (1 + 4 * 2047) 0 0 ∷ []) ≡ (Received 1456 0 0 0 ∷ Received 1456 0 0 0 ∷ Received 1456 0 0 0 ∷ [])

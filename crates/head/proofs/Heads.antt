@@ -17,7 +17,7 @@ use Rattle.intervals.specs.declared.rates.Arrivals.{Arrivals}
 use Rattle.intervals.specs.declared.rates.Links.{Links}
 use Rattle.acks.specs.declared.history.History.{History}
 use Rattle.head.specs.Rules.{firstRefusal, makeRules}
-use Rattle.head.specs.Head.{headOk, freshHead, madeOf}
+use Rattle.head.specs.Head.{headOk, freshHead, unmade, madeOf}
 use Rattle.window.specs.Window.{windowOk}
 use Rattle.head.specs.declared.state.Head.{Head}
 use Rattle.head.specs.declared.state.Made.{Made}
@@ -37,15 +37,15 @@ pub made : (start : ℤ) (latency : ℕ) (dropping : Bool) (first capacity : ℕ
 unfolding madeOf
 made start latency dropping first capacity a b c d e =
     rw (d, e)
-    (sym (taken (record { refusal = 0; head = freshHead start latency dropping first capacity }) (λ n. record { refusal = n; head = freshHead (pos 0) 0 false 0 1 }) (a ∙ ap (λ (z : ℤ). firstRefusal (makeRules z latency first capacity)) b) c))
+    (sym (taken (record { refusal = 0; head = freshHead start latency dropping first capacity }) (λ n. record { refusal = n; head = unmade }) (a ∙ ap (λ (z : ℤ). firstRefusal (makeRules z latency first capacity)) b) c))
 
 pub not-made : (start : ℤ) (latency : ℕ) (dropping : Bool) (first capacity : ℕ) {s : ℤ} {n : ℕ} {h : Head}
-    → n ≡ firstRefusal (makeRules s latency first capacity) → s ≡ start → (n ≡ 0 → ⊥) → h ≡ freshHead (pos 0) 0 false 0 1
+    → n ≡ firstRefusal (makeRules s latency first capacity) → s ≡ start → (n ≡ 0 → ⊥) → h ≡ freshHead (pos 0) 0 false 0 0
     → _≡_ {A = Made} (record { refusal = n; head = h }) (madeOf start latency dropping first capacity)
 unfolding madeOf
 not-made start latency dropping first capacity a b c d =
     rw d
-    (sym (refused (record { refusal = 0; head = freshHead start latency dropping first capacity }) (λ n. record { refusal = n; head = freshHead (pos 0) 0 false 0 1 }) (a ∙ ap (λ (z : ℤ). firstRefusal (makeRules z latency first capacity)) b) c))
+    (sym (refused (record { refusal = 0; head = freshHead start latency dropping first capacity }) (λ n. record { refusal = n; head = unmade }) (a ∙ ap (λ (z : ℤ). firstRefusal (makeRules z latency first capacity)) b) c))
 
 -- Head::in_range
 pub in-range : (h : Head) {a b c d e f g : Bool} {z : ℤ}

@@ -41,9 +41,13 @@ freshHead start latency dropping first capacity =
       latest = start;
     }
 
--- making: the fresh head, or refusal 15 and a head that is of no use
+-- a head of capacity 0, which is out of range, so that each call refuses it with 1
+abbrev pub unmade : Head
+unmade = freshHead (pos 0) 0 false 0 0
+
+-- making: the fresh head, or refusal 15 and a head that each call refuses
 unfoldable pub madeOf : ℤ → ℕ → Bool → ℕ → ℕ → Made
 madeOf start latency dropping first capacity =
     judged (firstRefusal (makeRules start latency first capacity))
     (record { refusal = 0; head = freshHead start latency dropping first capacity })
-    (λ n. record { refusal = n; head = freshHead (pos 0) 0 false 0 1 })
+    (λ n. record { refusal = n; head = unmade })

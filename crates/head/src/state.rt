@@ -23,7 +23,7 @@ pub struct Head {
     pub history: History,
 }
 
-// A fresh head, or refusal 15 beside a head that is of no use.
+// A fresh head, or refusal 15 beside a head of capacity 0, which each call refuses with 1.
 pub struct Made {
     pub refusal: u32,
     pub head: Head,
@@ -86,7 +86,7 @@ impl Head {
         }
         Made {
             refusal,
-            head: Head::fresh(0, 0, false, 0, 1),
+            head: Head::fresh(0, 0, false, 0, 0),
         }
     }
 

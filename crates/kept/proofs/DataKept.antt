@@ -1,12 +1,12 @@
--- New gives a head in range; a data packet, a loss report and clear keep it there: 01, "Head and lent areas", so no run from new is ever refused 1. Assumes nothing.
-use mathlib.Core.Path.{_≡_, refl}
-use mathlib.Core.Bool.{Bool, true, false, cond}
+-- New gives a head in range unless it refuses; a data packet, a loss report and clear keep it there: 01, "Head and lent areas", so no run from new is ever refused 1. Assumes nothing.
+use mathlib.Core.Path.{_≡_}
+use mathlib.Core.Bool.{Bool, true, cond}
 use mathlib.Core.List.{List}
 use Prim.Native.Nat.{ℕ, _*_, _^_, _<_, _≤_}
 use native.Mathlib.Omega.{arith}
-use borrow.Author.Tests.{eqb-true, leb-false, ltb-false, not-false}
+use borrow.Author.Tests.{eqb-true, eqb-false, leb-false, ltb-false, not-false}
 use lib.Dec.{eqb, lit<}
-use lib.IntN.{ℤ, pos, natAbs}
+use lib.IntN.{ℤ, natAbs}
 use lib.ListN.{length}
 use Rattle.numbers.specs.Instants.{isReading}
 use Rattle.numbers.proofs.Flags.{by-test}
@@ -43,7 +43,7 @@ use Rattle.kept.proofs.Says.{Says, push-says}
 by-refusal : {A : Type 0} (P : A → Type 0) (n : ℕ) (a b : A) → (n ≡ 0 → P a) → P b → P (cond (eqb n 0) a b)
 by-refusal P n a b x y = by-test P (eqb n 0) a b (λ t. x (eqb-true n 0 t)) (λ t. y)
 
--- making: whatever the settings
+-- making, whatever the settings that it takes
 module _ (start : ℤ) (latency : ℕ) (dropping : Bool) (first capacity : ℕ) where
   fresh-in : isReading start ≡ true → latency ≤ 65535000 → first < 2 ^ 31 → 0 < capacity → capacity ≤ 8192 → headOk (freshHead start latency dropping first capacity) ≡ true
   unfolding freshHead
@@ -60,14 +60,16 @@ module _ (start : ℤ) (latency : ℕ) (dropping : Bool) (first capacity : ℕ) 
         latest = s;
       })
 
-pub made-kept : (start : ℤ) (latency : ℕ) (dropping : Bool) (first capacity : ℕ) → headOk (madeOf start latency dropping first capacity .head) ≡ true
+pub made-kept : (start : ℤ) (latency : ℕ) (dropping : Bool) (first capacity : ℕ) → madeOf start latency dropping first capacity .refusal ≡ 0
+    → headOk (madeOf start latency dropping first capacity .head) ≡ true
 unfolding madeOf
 made-kept start latency dropping first capacity =
-    by-refusal (λ (m : Made). headOk (m .head) ≡ true) (firstRefusal (makeRules start latency first capacity)) _ _
-    (λ e.
+    by-test (λ (m : Made). m .refusal ≡ 0 → headOk (m .head) ≡ true) (eqb (firstRefusal (makeRules start latency first capacity)) 0) _ _
+    (λ t z.
+    let e = eqb-true (firstRefusal (makeRules start latency first capacity)) 0 t in
     let c = clear (makeRules start latency first capacity) (lit< tt, (lit< tt, (lit< tt, (lit< tt, (lit< tt, tt))))) e in
     fresh-in start latency dropping first capacity (not-false (isReading start) (c .0)) (ltb-false 65535000 latency (c .1 .0)) (leb-false (2 ^ 31) first (c .1 .1 .0)) (ltb-false capacity 1 (c .1 .1 .1 .0)) (ltb-false 8192 capacity (c .1 .1 .1 .1 .0)))
-    (fresh-in (pos 0) 0 false 0 1 refl (omega arith) (omega arith) (omega arith) (omega arith))
+    (λ t z. absurd (eqb-false (firstRefusal (makeRules start latency first capacity)) 0 t z))
 
 -- clear
 pub cleared-kept : (h : Head) → headOk h ≡ true → headOk (clearCallOf h .cleared .head) ≡ true

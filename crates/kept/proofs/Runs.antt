@@ -8,7 +8,7 @@ use Rattle.kept.proofs.DataKept.{made-kept, data-kept, loss-kept, clear
 use Rattle.kept.proofs.TimedKept.{ack2-kept, full-ack-kept, clock-kept, message-kept}
 
 pub reached-kept : (h : Head) → Reached h → headOk h ≡ true
-reached-kept _ (made start latency dropping first capacity) = made-kept start latency dropping first capacity
+reached-kept _ (made start latency dropping first capacity e) = made-kept start latency dropping first capacity e
 reached-kept _ (pushed h ws bs now p payload r) = data-kept h ws bs now p payload (reached-kept h r)
 reached-kept _ (popped h ws bs out now r) = message-kept h ws bs out now (reached-kept h r)
 reached-kept _ (reported h ws list now r) = loss-kept h ws list now (reached-kept h r)

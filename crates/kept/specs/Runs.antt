@@ -1,4 +1,5 @@
 -- Every head that calls reach from new, whatever the arguments and the lent contents: 01, "Refused, in order of test".
+use mathlib.Core.Path.{_≡_}
 use mathlib.Core.Bool.{Bool}
 use mathlib.Core.List.{List}
 use Prim.Native.Nat.{ℕ}
@@ -15,7 +16,8 @@ use Rattle.feedback.specs.Sync.{clockCallOf}
 
 -- a drop request, room and show return no head
 pub data Reached : Head → Type 0 where
-  made : (start : ℤ) (latency : ℕ) (dropping : Bool) (first capacity : ℕ) → Reached (madeOf start latency dropping first capacity .head)
+  made : (start : ℤ) (latency : ℕ) (dropping : Bool) (first capacity : ℕ) → madeOf start latency dropping first capacity .refusal ≡ 0
+      → Reached (madeOf start latency dropping first capacity .head)
   pushed : (h : Head) (ws bs : List ℕ) (now : ℤ) (p : Packet) (payload : List ℕ) → Reached h → Reached (dataCallOf h ws bs now p payload .handled .head)
   popped : (h : Head) (ws bs out : List ℕ) (now : ℤ) → Reached h → Reached (popCallOf h ws bs out now .given .head)
   reported : (h : Head) (ws list : List ℕ) (now : ℤ) → Reached h → Reached (reportCallOf h ws list now .reported .head)

@@ -151,7 +151,7 @@ fresh-stands S first s f =
     }
 
 fresh-kept : (first : ℕ) (s : State) → Fresh first s → headOk (s .head) ≡ true
-fresh-kept first s f = ap headOk (f .head) ∙ made-kept (f .start) (f .latency) (f .dropping) first (f .capacity)
+fresh-kept first s f = ap headOk (f .head) ∙ made-kept (f .start) (f .latency) (f .dropping) first (f .capacity) (f .made)
 
 fresh-empty : (first : ℕ) (s : State) → Fresh first s → Empty first s
 unfolding freshHead

@@ -20,7 +20,7 @@ use Rattle.intervals.specs.declared.rates.Links.{Links}
 use Rattle.acks.specs.declared.rtt.Rtt.{Rtt}
 use Rattle.window.specs.declared.Window.{Window}
 use Rattle.head.specs.Rules.{thenOf}
-use Rattle.head.specs.Head.{freshHead, madeOf}
+use Rattle.head.specs.Head.{madeOf}
 use Rattle.head.specs.declared.state.Head.{Head}
 use Rattle.head.specs.declared.state.Made.{Made}
 use Rattle.packing.specs.Words.{wholeOf, floatOf, flagOf, numberOf, momentOf, numberFormed, flagFormed, floatFormed, momentFormed}
@@ -58,27 +58,10 @@ test-end ws i n p h g =
     let e : n ≡ 16 = omega arith in
     p ∙ ap (numbersFormed ws i) e
 
--- a fresh head with a window of no capacity
-fresh-one : madeOf (pos 0) 0 false 0 1 ≡ record { refusal = 0; head = freshHead (pos 0) 0 false 0 1 }
+-- what making returns beside refusal 15
+pub no-capacity : (m : Made) → m ≡ madeOf (pos 0) 0 false 0 0 → m .head ≡ nowhere
 unfolding madeOf thenOf
-fresh-one = refl
-
-pub no-capacity : (m : Made) → m ≡ madeOf (pos 0) 0 false 0 1
-    → _≡_ {A = Head}
-    (record {
-      latest = m .head .latest;
-      window = record { capacity = 0; start = 0; held = 0; seqno0 = 0; lrsn = 0 };
-      latency = m .head .latency;
-      dropping = m .head .dropping;
-      clock = m .head .clock;
-      rtt = m .head .rtt;
-      arrivals = m .head .arrivals;
-      links = m .head .links;
-      history = m .head .history;
-    })
-    nowhere
-unfolding freshHead
-no-capacity m e = rw (e, fresh-one)
+no-capacity m e = rw e
 
 module _ (ws : List ℕ) where
   -- the parts

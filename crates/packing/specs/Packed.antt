@@ -1,9 +1,9 @@
--- A head as 79 words, in the order of 01, "Head and lent areas", and the head that words say. Words that are not formed say a head of capacity 0, which is
--- out of range, so that every call refuses it with 1.
-use mathlib.Core.Bool.{Bool, true, false, _&&_, cond}
+-- A head as 79 words, and the head that words say. The words go in the order of 01, "Head and lent areas", but that the latest reading comes first and the
+-- settings latency and late dropping stand after the window's numbers. Words that are not formed say a head of capacity 0, which is out of range, so that every
+-- call refuses it with 1.
+use mathlib.Core.Bool.{Bool, true, _&&_, cond}
 use mathlib.Core.List.{List, [], _∷_, _++_, map}
 use Prim.Native.Nat.{ℕ, zero, suc, _+_}
-use lib.IntN.{pos}
 use lib.ListN.{getD}
 use Rattle.clock.specs.declared.base.TimeBase.{TimeBase}
 use Rattle.clock.specs.declared.stats.OnlineStats.{OnlineStats}
@@ -13,7 +13,7 @@ use Rattle.intervals.specs.declared.rates.Arrivals.{Arrivals}
 use Rattle.intervals.specs.declared.rates.Links.{Links}
 use Rattle.acks.specs.declared.rtt.Rtt.{Rtt}
 use Rattle.window.specs.declared.Window.{Window}
-use Rattle.head.specs.Head.{freshHead}
+use Rattle.head.specs.Head.{unmade}
 use Rattle.head.specs.declared.state.Head.{Head}
 use Rattle.packing.specs.Words.{wordOf, wholeOf, bitsOf, floatOf, flagWord, flagOf, numberOf, setWord, timeWord, momentOf, numberFormed, flagFormed, floatFormed, momentFormed}
 
@@ -141,7 +141,7 @@ unfoldable pub formed : List ℕ → Bool
 formed ws = firstFormed ws && lastFormed ws && ratesFormed ws
 
 abbrev pub nowhere : Head
-nowhere = freshHead (pos 0) 0 false 0 0
+nowhere = unmade
 
 unfoldable pub unpackOf : List ℕ → Head
 unpackOf ws = cond (formed ws) (headOf ws) nowhere

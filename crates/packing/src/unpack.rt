@@ -194,17 +194,8 @@ fn formed(ws: &[u64; 79]) -> bool
 fn nowhere() -> Head
     ensures { λ r. ⌜ r ≡ nowhere ⌝ }
 {
-    let made = Head::new(0, 0, false, 0, 1);
-    let mut h = made.head;
-    let w = Window {
-        capacity: 0,
-        start: 0,
-        held: 0,
-        seqno0: 0,
-        lrsn: 0,
-    };
-    h.window = w;
-    h
+    let made = Head::new(0, 0, false, 0, 0);
+    made.head
 }
 
 pub fn unpack(ws: &[u64; 79]) -> Head

@@ -2,3 +2,4 @@
 pub mod Determined
 pub mod Injective
 pub mod Reach
+pub mod Refuses

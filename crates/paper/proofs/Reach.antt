@@ -1,4 +1,5 @@
--- With areas long enough, arguments in range and readings that never go back, only 7 to 14 can occur: 01, "Refused, in order of test". Assumes nothing.
+-- With areas long enough, arguments in range and readings that never go back, each call is refused by its own numbers only: a packet 7 to 10, a pop 11, a loss report 12,
+-- a full ACK 13, a clock call 14, and an ACK2, a drop request, clear, room and shown by none. 01, "Refused, in order of test". Assumes nothing.
 use mathlib.Core.Path.{_≡_, refl, sym}
 use mathlib.Core.Bool.{Bool, true, false, not, cond}
 use mathlib.Core.List.{List, [], _∷_}
@@ -51,7 +52,7 @@ use Rattle.upkeep.specs.declared.show.ShowAnswer.the-variants as shows
 use Rattle.receiver.specs.Paper.{dataLine, messageLine}
 use Rattle.feedback.specs.Paper.{lossLine, clockLine, fullAckLine, rttLine}
 use Rattle.upkeep.specs.Paper.{shownLine}
-use Rattle.paper.specs.Reach.{OnlyLater, withBoth}
+use Rattle.paper.specs.Reach.{OnlyIn, Unrefused, withBoth}
 
 -- no test holds, so nothing refuses
 none-from : (k : ℕ) (l : List Rule) → k ≡ 0 → Clear l → firstFrom k l ≡ 0
@@ -64,16 +65,16 @@ none-refuses l c = none-from 0 l refl c
 good : {t : Bool} → t ≡ true → not t ≡ false
 good e = rw e
 
--- 7 to 14
-within : {n : ℕ} → 7 ≤ n → n ≤ 14 → (n ≡ 0) ⊎ ((7 ≤ n) × (n ≤ 14))
+-- a refusal of the call's own
+within : {from to n : ℕ} → from ≤ n → n ≤ to → (n ≡ 0) ⊎ ((from ≤ n) × (n ≤ to))
 within a b = inr (a, b)
 
 -- light or not, a packet that came is refused by nothing
-got-only : (light : Bool) (lrsn : ℕ) (recovered : Bool) → OnlyLater (dataLine (calls.gotAnswer light lrsn recovered))
+got-only : (light : Bool) (lrsn : ℕ) (recovered : Bool) → OnlyIn 7 10 (dataLine (calls.gotAnswer light lrsn recovered))
 got-only true lrsn recovered = inl refl
 got-only false lrsn recovered = inl refl
 
-push-only : (h : Head) (w : Window) (a : PushAnswer) (now : ℤ) (number size : ℕ) → OnlyLater (dataLine (calls.afterPush h w a now number size .answer))
+push-only : (h : Head) (w : Window) (a : PushAnswer) (now : ℤ) (number size : ℕ) → OnlyIn 7 10 (dataLine (calls.afterPush h w a now number size .answer))
 unfolding calls.gotOf calls.ackedOf
 push-only h w (pushes.Got lrsn recovered) now number size =
     let x = calls.placedOf (cond recovered h (calls.ratedOf h now number size)) w now in
@@ -84,95 +85,95 @@ push-only h w (pushes.PacketTooEarly places need) now number size = within (omeg
 push-only h w pushes.PacketTooLate now number size = within (omega arith) (omega arith)
 push-only h w pushes.DiscardedDuplicate now number size = within (omega arith) (omega arith)
 
-pop-only : (a : PopAnswer) → OnlyLater (messageLine (message.answerOf a))
+pop-only : (a : PopAnswer) → OnlyIn 11 11 (messageLine (message.answerOf a))
 pop-only pops.Nothing = inl refl
 pop-only (pops.Message time bytes packets) = inl refl
 pop-only (pops.Late first end delay) = inl refl
 pop-only pops.OutShort = within (omega arith) (omega arith)
 
-report-only : (a : ReportAnswer) (list : List ℕ) → OnlyLater (lossLine (loss.answerOf a) list)
+report-only : (a : ReportAnswer) (list : List ℕ) → OnlyIn 12 12 (lossLine (loss.answerOf a) list)
 report-only reports.Nothing list = inl refl
 report-only (reports.Report words) list = inl refl
 report-only reports.ListShort list = within (omega arith) (omega arith)
 
-place-only : (t : Bool) → OnlyLater (shownLine (cond t shows.Received shows.Other))
-place-only true = inl refl
-place-only false = inl refl
+place-only : (t : Bool) → Unrefused (shownLine (cond t shows.Received shows.Other))
+place-only true = refl
+place-only false = refl
 
-sync-only : (h : Head) (k : SynchronizedRemoteClock) (a : Synchronized) (now : ℤ) → OnlyLater (clockLine (sync.afterSync h k a now .answer))
+sync-only : (h : Head) (k : SynchronizedRemoteClock) (a : Synchronized) (now : ℤ) → OnlyIn 14 14 (clockLine (sync.afterSync h k a now .answer))
 sync-only h k clocks.Nothing now = inl refl
 sync-only h k (clocks.Adjusted mean deviation) now = inl refl
 sync-only h k (clocks.Unsteady deviation v) now = inl refl
 sync-only h k clocks.DriftRange now = within (omega arith) (omega arith)
 
-ack-only : (h : Head) (y : History) (a : AckAnswer) (now : ℤ) → OnlyLater (fullAckLine (acking.afterAck h y a now .answer))
+ack-only : (h : Head) (y : History) (a : AckAnswer) (now : ℤ) → OnlyIn 13 13 (fullAckLine (acking.afterAck h y a now .answer))
 ack-only h y acks.Nothing now = inl refl
 ack-only h y acks.Worn now = within (omega arith) (omega arith)
 ack-only h y (acks.Ack n) now = inl refl
 
-held-only : (h : Head) (y : History) (a : Ack2Answer) (now : ℤ) → OnlyLater (rttLine (acking.afterAck2 h y a now .answer))
-held-only h y acks2.NotHeld now = inl refl
-held-only h y (acks2.Held r) now = inl refl
+held-only : (h : Head) (y : History) (a : Ack2Answer) (now : ℤ) → Unrefused (rttLine (acking.afterAck2 h y a now .answer))
+held-only h y acks2.NotHeld now = refl
+held-only h y (acks2.Held r) now = refl
 
 by-both : {A : Type 0} (P : A → Type 0) (t : Bool) (x y : A) → P x → P y → P (cond t x y)
 by-both P true x y p q = p
 by-both P false x y p q = q
 
 module _ (h : Head) (ok : headOk h ≡ true) where
-  pub clear-only : OnlyLater (request.clearCallOf h .line)
+  pub clear-only : Unrefused (request.clearCallOf h .line)
   unfolding request.clearCallOf
-  clear-only = rw (none-refuses (headRules (headOk h)) (good ok, tt)) (inl refl)
+  clear-only = rw (none-refuses (headRules (headOk h)) (good ok, tt))
 
-  pub room-only : OnlyLater (request.roomCallOf h .line)
+  pub room-only : Unrefused (request.roomCallOf h .line)
   unfolding request.roomCallOf
-  room-only = rw (none-refuses (headRules (headOk h)) (good ok, tt)) (inl refl)
+  room-only = rw (none-refuses (headRules (headOk h)) (good ok, tt))
 
   pub drop-only : (ws : List ℕ) (first last : ℕ) → 3 * h .window .capacity ≤ length ws → first < 2 ^ 31 → last < 2 ^ 31
-      → OnlyLater (request.dropCallOf h ws first last .line)
+      → Unrefused (request.dropCallOf h ws first last .line)
   unfolding request.dropCallOf
   drop-only ws first last a b c =
-      rw (none-refuses (dropRules (headOk h) (h .window .capacity) (length ws) first last) (good ok, (le-ltb _ _ a, (lt-leb _ _ b, (lt-leb _ _ c, tt))))) (inl refl)
+      rw (none-refuses (dropRules (headOk h) (h .window .capacity) (length ws) first last) (good ok, (le-ltb _ _ a, (lt-leb _ _ b, (lt-leb _ _ c, tt)))))
 
   pub shown-only : (ws : List ℕ) (bytes number : ℕ) → 3 * h .window .capacity ≤ length ws → 1456 * h .window .capacity ≤ bytes → number < 2 ^ 31
-      → OnlyLater (show.shownCallOf h ws bytes number .line)
+      → Unrefused (show.shownCallOf h ws bytes number .line)
   unfolding show.shownCallOf
   shown-only ws bytes number a b c =
       rw (none-refuses (showRules (headOk h) (h .window .capacity) (length ws) bytes number) (good ok, (le-ltb _ _ a, (le-ltb _ _ b, (lt-leb _ _ c, tt))))) (place-only (shownOf (h .window) ws number .received))
 
   module _ (now : ℤ) (reading : isReading now ≡ true) (later : ltZ now (h .latest) ≡ false) where
     pub data-only : (ws bs : List ℕ) (p : Packet) (payload : List ℕ) → 3 * h .window .capacity ≤ length ws → 1456 * h .window .capacity ≤ length bs → PacketRight p payload
-        → OnlyLater (calls.dataCallOf h ws bs now p payload .line)
+        → OnlyIn 7 10 (calls.dataCallOf h ws bs now p payload .line)
     unfolding calls.dataCallOf calls.takenOf
     data-only ws bs p payload a b r =
         let o = pushOf (h .window) ws bs (natAbs now) p payload in
         rw (none-refuses (pushRules (headOk h) (h .window .capacity) (length ws) (length bs) now (h .latest) p (length payload)) (good ok, (le-ltb _ _ a, (le-ltb _ _ b, (good reading, (later, (lt-leb _ _ (r .number), (lt-leb _ _ (r .message), (lt-leb _ _ (r .location), (le-ltb _ _ (r .bytes), tt)))))))))) (push-only h (o .pushed .window) (o .pushed .answer) now (p .number) (length payload))
 
     pub message-only : (ws bs out : List ℕ) → 3 * h .window .capacity ≤ length ws → 1456 * h .window .capacity ≤ length bs
-        → OnlyLater (message.popCallOf h ws bs out now .line)
+        → OnlyIn 11 11 (message.popCallOf h ws bs out now .line)
     unfolding message.popCallOf message.takenOf
     message-only ws bs out a b =
         rw (none-refuses (popRules (headOk h) (h .window .capacity) (length ws) (length bs) now (h .latest)) (good ok, (le-ltb _ _ a, (le-ltb _ _ b, (good reading, (later, tt)))))) (pop-only (popOf (h .clock) (h .latency) (h .dropping) (h .window) ws now bs out .popped .answer))
 
-    pub loss-only : (ws list : List ℕ) → 3 * h .window .capacity ≤ length ws → OnlyLater (loss.reportCallOf h ws list now .line)
+    pub loss-only : (ws list : List ℕ) → 3 * h .window .capacity ≤ length ws → OnlyIn 12 12 (loss.reportCallOf h ws list now .line)
     unfolding loss.reportCallOf loss.reportedOf
     loss-only ws list a =
         let o = reportOf (h .window) ws (natAbs now) (h .rtt .mean) list in
         rw (none-refuses (timedRules (headOk h) (length ws) (3 * h .window .capacity) now (h .latest)) (good ok, (le-ltb _ _ a, (good reading, (later, tt))))) (report-only (o .answer) (o .list))
 
-    pub clock-only : (stamp : ℕ) → OnlyLater (sync.clockCallOf h now stamp .line)
+    pub clock-only : (stamp : ℕ) → OnlyIn 14 14 (sync.clockCallOf h now stamp .line)
     unfolding sync.clockCallOf sync.syncOf
     clock-only stamp =
         rw (none-refuses (clockRules (headOk h) now (h .latest)) (good ok, (good reading, (later, tt)))) (sync-only h (synchronized (h .clock) now stamp .clock) (synchronized (h .clock) now stamp .answer) now)
 
-    pub full-ack-only : (a : List ℕ) → 2048 ≤ length a → OnlyLater (acking.fullAckCallOf h a now .line)
+    pub full-ack-only : (a : List ℕ) → 2048 ≤ length a → OnlyIn 13 13 (acking.fullAckCallOf h a now .line)
     unfolding acking.fullAckCallOf acking.dueAck acking.roomyAck
     full-ack-only a n =
         let o = fullAckOf (h .history) a (natAbs now) (h .rtt .mean) (h .latency) (h .window .lrsn) in
-        rw (none-refuses (timedRules (headOk h) (length a) 2048 now (h .latest)) (good ok, (le-ltb _ _ n, (good reading, (later, tt))))) (by-both (λ (x : acking.FullAckOutcome). OnlyLater (x .line)) (eqb (roomOf (h .window)) 0) _ _
+        rw (none-refuses (timedRules (headOk h) (length a) 2048 now (h .latest)) (good ok, (le-ltb _ _ n, (good reading, (later, tt))))) (by-both (λ (x : acking.FullAckOutcome). OnlyIn 13 13 (x .line)) (eqb (roomOf (h .window)) 0) _ _
         (inl refl)
         (ack-only h (o .acked .history) (o .acked .answer) now))
 
-    pub ack2-only : (a : List ℕ) (number : ℕ) → 2048 ≤ length a → OnlyLater (acking.ack2CallOf h a now number .line)
+    pub ack2-only : (a : List ℕ) (number : ℕ) → 2048 ≤ length a → Unrefused (acking.ack2CallOf h a now number .line)
     unfolding acking.ack2CallOf acking.heldAck2
     ack2-only a number n =
         let k = ack2Of (h .history) a (natAbs now) number in

@@ -1,2 +1,3 @@
 -- Laws of the step function.
+pub mod Determined
 pub mod Left

@@ -1,3 +1,4 @@
 -- The laws of tally: `Laws` is for the code of this crate.
+pub mod Determined
 pub mod Laws
 pub mod Examples

@@ -1,4 +1,5 @@
 -- The laws of the loss report and the drop request: for loops and returns, for the layers above, and worked examples.
+pub mod Determined
 pub mod DropLaws
 pub mod Drops
 pub mod DropExamples

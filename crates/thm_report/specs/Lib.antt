@@ -1,0 +1,2 @@
+-- The numbers that a loss report names.
+pub mod Named
