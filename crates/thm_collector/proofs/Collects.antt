@@ -34,10 +34,10 @@ use Rattle.step.specs.Step.{State, stateOf, Lent, Ended, stepOf}
 use Rattle.step.specs.declared.Call.{Call}
 use Rattle.step.specs.declared.Call.the-variants as calls
 use Rattle.step.specs.declared.Answer.{Answer}
-use Rattle.ledger.specs.Runs.{Event, bookAfter, Fresh, Empty, NoneClear}
+use Rattle.ledger.specs.Runs.{Event, Desk, opening, bookAfter, Fresh, Known, Empty, NoneClear}
 use Rattle.ledger.specs.Claims.{Demanded}
 use Rattle.ledger.proofs.Theorem.{ledger-theorem, stretch-theorem, clear-empty}
-use Rattle.thm_collector.specs.Collector.{Kept, stateIn, Back, cellsIn, Started, Form, plain, counted, Promised, PromisedCounted, Gives, Turn, events, keptAfter, Ran, Same, runOf, answerTo, AllSame, raisedBy, countersAfter, Collected}
+use Rattle.thm_collector.specs.Collector.{deskAt, Kept, stateIn, Back, cellsIn, Started, Form, plain, counted, Promised, PromisedCounted, Gives, Turn, events, keptAfter, Ran, Same, runOf, answerTo, AllSame, raisedBy, countersAfter, Collected}
 
 -- the parts of what a call leaves
 abbrev returnedIn : Left → ℕ
@@ -206,9 +206,9 @@ module _ (x : Kept) (t : Lent) (r : Back) where
       counted-call c g .1 ∙ ap (λ (ws : List ℕ). countersWords (countedOf (countersOf ws) (length (t .payload)) (stepOf (stateIn x) t c .answer))) e
 
 -- any calls
-module _ (first : ℕ) (x : Kept) where
+module _ (first : ℕ) (d : Desk) (x : Kept) where
   -- the receiver that the collector keeps is that of the run
-  pub run-state : (us : List Turn) → Ran x us → stateIn (keptAfter x us) ≡ runOf first x us .state
+  pub run-state : (us : List Turn) → Ran x us → stateIn (keptAfter x us) ≡ runOf first d x us .state
   unfolding bookAfter
   run-state [] g = refl
   run-state (u ∷ us) g =
@@ -216,22 +216,23 @@ module _ (first : ℕ) (x : Kept) where
       ∙ ap (λ (s : State). stepOf s (u .event .lent) (u .event .call) .state) (run-state us (g .1))
 
   -- and so is what each call gave
-  pub run-same : (us : List Turn) → Ran x us → AllSame first x us
+  pub run-same : (us : List Turn) → Ran x us → AllSame first d x us
   run-same [] g = tt
   run-same (u ∷ us) g =
       (subst (λ (s : State). Same (u .back) (stepOf s (u .event .lent) (u .event .call))) (run-state us (g .1)) (either-call (keptAfter x us) (u .event .lent) (u .back) (u .form) (u .event .call) (g .0)), run-same us (g .1))
 
   -- and the counters
-  pub run-counts : (n : Counters) (us : List Turn) → Ran x us → x .counts ≡ countersWords n → keptAfter x us .counts ≡ countersWords (countersAfter first x n us)
+  pub run-counts : (n : Counters) (us : List Turn) → Ran x us → x .counts ≡ countersWords n → keptAfter x us .counts ≡ countersWords (countersAfter first d x n us)
   run-counts n [] g z = z
   run-counts n (u ∷ us) g z =
-      let a : State → List ℕ = λ s. countersWords (raisedBy (u .form) (countersAfter first x n us) (length (u .event .lent .payload)) (stepOf s (u .event .lent) (u .event .call) .answer)) in
-      either-counts (keptAfter x us) (u .event .lent) (u .back) (u .form) (u .event .call) (countersAfter first x n us) (g .0) (run-counts n us (g .1) z)
+      let a : State → List ℕ = λ s. countersWords (raisedBy (u .form) (countersAfter first d x n us) (length (u .event .lent .payload)) (stepOf s (u .event .lent) (u .event .call) .answer)) in
+      either-counts (keptAfter x us) (u .event .lent) (u .back) (u .form) (u .event .call) (countersAfter first d x n us) (g .0) (run-counts n us (g .1) z)
       ∙ ap a (run-state us (g .1))
 
-  collected : (n : Counters) (us : List Turn) → Ran x us → x .counts ≡ countersWords n → Demanded stepOf first (stateIn x) (events us) → Collected first x n us
-  collected n us g z d = record { demanded = d; receiver = run-state us g; same = run-same us g; counters = run-counts n us g z }
+  collected : (n : Counters) (us : List Turn) → Ran x us → x .counts ≡ countersWords n → Demanded stepOf (opening first d (stateIn x)) (events us) → Collected first d x n us
+  collected n us g z q = record { demanded = q; receiver = run-state us g; same = run-same us g; counters = run-counts n us g z }
 
+module _ (first : ℕ) (x : Kept) where
   -- what pt_new makes is fresh
   pub new-fresh : Started first x → Fresh first (stateIn x)
   unfolding newOf
@@ -241,13 +242,17 @@ module _ (first : ℕ) (x : Kept) where
       record { start = s .start; latency = s .latency; dropping = s .dropping; capacity = s .capacity; made = u; head = ap saysIn (s .made) ∙ rw u }
 
   -- so demand 3 holds of any calls but clear, plain or counted, on what pt_new made
-  pub collects : Started first x → (us : List Turn) → NoneClear (events us) → Ran x us → Collected first x counting.fresh us
-  collects s us n g = collected counting.fresh us g (s .zeroed) (ledger-theorem first (stateIn x) (new-fresh s) (events us) n)
+  pub collects : (s : Started first x) (us : List Turn) → NoneClear (events us) → Ran x us → Collected first (deskAt s) x counting.fresh us
+  unfolding new-fresh
+  collects s us n g = collected first (deskAt s) x counting.fresh us g (s .zeroed) (ledger-theorem first (stateIn x) (new-fresh s) (events us) n)
 
   -- and from any moment at which the receiver holds nothing and has acknowledged all
-  pub collects-on : Empty first (stateIn x) → (c : Counters) → x .counts ≡ countersWords c → (us : List Turn) → NoneClear (events us) → Ran x us → Collected first x c us
-  collects-on s c z us n g = collected c us g z (stretch-theorem first (stateIn x) s (events us) n)
+  pub collects-on : (d : Desk) → Empty first (stateIn x) → Known d (stateIn x) → (c : Counters) → x .counts ≡ countersWords c → (us : List Turn) → NoneClear (events us) → Ran x us
+      → Collected first d x c us
+  collects-on d s k c z us n g = collected first d x c us g z (stretch-theorem first d (stateIn x) s k (events us) n)
 
   -- a clear at such a moment leaves such a moment
-  pub clears : (t : Lent) (r : Back) → Gives x t r plain calls.Clear → Empty first (stateIn x) → Empty first (stateIn (r .kept))
-  clears t r g s = subst (Empty first) (sym (one-call x t r calls.Clear (g .0) .state)) (clear-empty first (stateIn x) t s)
+  pub clears : (d : Desk) (t : Lent) (r : Back) → Gives x t r plain calls.Clear → Empty first (stateIn x) → Known d (stateIn x)
+      → Empty first (stateIn (r .kept)) × Known d (stateIn (r .kept))
+  clears d t r g s k =
+      subst (λ (y : State). Empty first y × Known d y) (sym (one-call x t r calls.Clear (g .0) .state)) (clear-empty first d (stateIn x) t s k)

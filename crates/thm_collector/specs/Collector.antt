@@ -21,7 +21,7 @@ use Rattle.step.specs.declared.Call.{Call}
 use Rattle.step.specs.declared.Call.the-variants as calls
 use Rattle.step.specs.declared.Answer.{Answer}
 use Rattle.step.specs.declared.Answer.the-variants as answers
-use Rattle.ledger.specs.Runs.{Event, Book, answered, bookAfter, fresh}
+use Rattle.ledger.specs.Runs.{Event, Desk, Book, opening, answered, bookAfter}
 use Rattle.ledger.specs.Claims.{Demanded}
 
 -- what it keeps from call to call, and the receiver that this says
@@ -53,6 +53,19 @@ pub record Started (first : ℕ) (x : Kept) : Type 0 where
   pub capacity : ℕ
   pub made : left 0 (x .words) cells [] ≡ newOf before start latency dropping first capacity
   pub zeroed : x .counts ≡ replicate 10 0
+
+-- what it knows then: the settings that it made the receiver with, and the lengths of the areas that it lends
+abbrev pub deskAt : {first : ℕ} {x : Kept} → Started first x → Desk
+deskAt {x = x} s =
+    record {
+      capacity = s .capacity;
+      latency = s .latency;
+      dropping = s .dropping;
+      slots = length (x .slots);
+      payloads = length (x .payloads);
+      history = length (x .history);
+      latest = s .start;
+    }
 
 -- the function of a call, pt_.., or its form that counts, pt_counted_..
 pub data Form : Type 0 where
@@ -158,10 +171,10 @@ abbrev pub raisedBy : Form → Counters → ℕ → Answer → Counters
 raisedBy plain c size a = c
 raisedBy counted c size a = countedOf c size a
 
--- the run of the same calls on the same receiver
-module _ (first : ℕ) (x : Kept) where
+-- the run of the same calls on the same receiver, with what the collector knows of it
+module _ (first : ℕ) (d : Desk) (x : Kept) where
   abbrev pub runOf : List Turn → Book
-  runOf us = bookAfter stepOf (fresh first (stateIn x)) (events us)
+  runOf us = bookAfter stepOf (opening first d (stateIn x)) (events us)
 
   abbrev pub answerTo : Turn → List Turn → Ended
   answerTo u us = answered stepOf (runOf us) (u .event)
@@ -177,8 +190,8 @@ module _ (first : ℕ) (x : Kept) where
 
 -- a collector, with its counters from c on: demand 3 holds of the run of its calls, what it keeps is the receiver of that run, each call gave what the run's call leaves, and its
 -- counters' words are what the run's answers count
-pub record Collected (first : ℕ) (x : Kept) (c : Counters) (us : List Turn) : Type 0 where
-  pub demanded : Demanded stepOf first (stateIn x) (events us)
-  pub receiver : stateIn (keptAfter x us) ≡ runOf first x us .state
-  pub same : AllSame first x us
-  pub counters : keptAfter x us .counts ≡ countersWords (countersAfter first x c us)
+pub record Collected (first : ℕ) (d : Desk) (x : Kept) (c : Counters) (us : List Turn) : Type 0 where
+  pub demanded : Demanded stepOf (opening first d (stateIn x)) (events us)
+  pub receiver : stateIn (keptAfter x us) ≡ runOf first d x us .state
+  pub same : AllSame first d x us
+  pub counters : keptAfter x us .counts ≡ countersWords (countersAfter first d x c us)

@@ -1,2 +1,3 @@
 -- A replay is a run.
+pub mod Enough
 pub mod Replays

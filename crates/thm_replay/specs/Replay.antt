@@ -20,7 +20,7 @@ use Rattle.step.specs.Step.{State, stateOf, lentFor, Ended, stepOf}
 use Rattle.tally.specs.Tally.{freshTally, tallied, tallyBytes}
 use Rattle.tally.specs.declared.Tally.{Tally}
 use Rattle.trace.specs.Trace.{Areas, Replay, callIn, payloadIn, called, replayed, isRefused, freshReplay, linesOf, outputOf}
-use Rattle.ledger.specs.Runs.{Event, Book, answered, bookAfter, fresh}
+use Rattle.ledger.specs.Runs.{Event, Desk, Book, opening, answered, bookAfter}
 use Rattle.ledger.specs.Claims.{Demanded}
 
 -- a header that is accepted: its settings make a receiver, and its capacity is at most 32
@@ -35,6 +35,19 @@ pub record Accepted (file : List ℕ) : Type 0 where
 
 abbrev pub headIn : {file : List ℕ} → Accepted file → Head
 headIn s = madeOf (s .start) (s .latency) (s .dropping) (s .first) (s .capacity) .head
+
+-- what the station knows of it: the header's settings, and the lengths of the areas that it lends
+abbrev pub deskIn : Areas → {file : List ℕ} → Accepted file → Desk
+deskIn a s =
+    record {
+      capacity = s .capacity;
+      latency = s .latency;
+      dropping = s .dropping;
+      slots = length (a .slots);
+      payloads = length (a .payloads);
+      history = length (a .history);
+      latest = s .start;
+    }
 
 module _ (file : List ℕ) where
   -- the file without its header of 24 bytes and its first n records
@@ -86,13 +99,13 @@ abbrev pub NoClearTo : List ℕ → ℕ → Type 0
 NoClearTo file zero = Unit
 NoClearTo file (suc n) = (isClear (recordAt file n) ≡ false) × NoClearTo file n
 
--- the run: the receiver that the header made, of this first number, with the lent areas
-module _ (a : Areas) (file : List ℕ) (first : ℕ) (h : Head) where
+-- the run: the receiver that the header made, of this first number, with what the station knows of it and the lent areas
+module _ (a : Areas) (file : List ℕ) (first : ℕ) (d : Desk) (h : Head) where
   abbrev pub startOf : State
   startOf = stateOf h (a .slots) (a .payloads) (a .history)
 
   abbrev pub runOf : List Event → Book
-  runOf past = bookAfter stepOf (fresh first startOf) past
+  runOf past = bookAfter stepOf (opening first d startOf) past
 
   -- output and list as the run has them
   abbrev pub outputAfter : List Event → List ℕ
@@ -137,25 +150,25 @@ module _ (a : Areas) (file : List ℕ) (first : ℕ) (h : Head) where
       (badBytes (sum 64 0 (offsetOf file n)))
 
 -- the replay after n records is that run after n calls: head and areas, output and list, and its counts
-pub record IsRun (counting : Bool) (a : Areas) (file : List ℕ) (first : ℕ) (h : Head) (n : ℕ) (t : Replay) : Type 0 where
-  pub state : stateOf (t .head) (t .areas .slots) (t .areas .payloads) (t .areas .history) ≡ runOf a file first h (eventsOf a file first h n) .state
-  pub output : t .areas .output ≡ outputAfter a file first h (eventsOf a file first h n)
-  pub list : t .areas .list ≡ listAfter a file first h (eventsOf a file first h n)
+pub record IsRun (counting : Bool) (a : Areas) (file : List ℕ) (first : ℕ) (d : Desk) (h : Head) (n : ℕ) (t : Replay) : Type 0 where
+  pub state : stateOf (t .head) (t .areas .slots) (t .areas .payloads) (t .areas .history) ≡ runOf a file first d h (eventsOf a file first d h n) .state
+  pub output : t .areas .output ≡ outputAfter a file first d h (eventsOf a file first d h n)
+  pub list : t .areas .list ≡ listAfter a file first d h (eventsOf a file first d h n)
   pub count : t .count ≡ sum 64 0 n
   pub offset : t .offset ≡ sum 64 0 (offsetOf file n)
-  pub tally : t .tally ≡ tallyAfter a file first h counting n
+  pub tally : t .tally ≡ tallyAfter a file first d h counting n
 
 -- what the file gives: the lines of the run's first n answers, joined, then what the rest gives; and if that has no sound record, the last line
-abbrev pub BeginsAs : Bool → Areas → List ℕ → ℕ → Head → ℕ → Type 0
-BeginsAs counting a file first h n =
+abbrev pub BeginsAs : Bool → Areas → List ℕ → ℕ → Desk → Head → ℕ → Type 0
+BeginsAs counting a file first d h n =
     let rest = restAfter file n in
-    outputOf counting a file ≡ linesTo a file first h n ++ linesOf (length rest) (replayAfter file (freshReplay counting a h) n) rest
+    outputOf counting a file ≡ linesTo a file first d h n ++ linesOf (length rest) (replayAfter file (freshReplay counting a h) n) rest
 
-abbrev pub IsAll : Bool → Areas → List ℕ → ℕ → Head → ℕ → Type 0
-IsAll counting a file first h n = outputOf counting a file ≡ linesTo a file first h n ++ closingAt a file first h counting n
+abbrev pub IsAll : Bool → Areas → List ℕ → ℕ → Desk → Head → ℕ → Type 0
+IsAll counting a file first d h n = outputOf counting a file ≡ linesTo a file first d h n ++ closingAt a file first d h counting n
 
 -- after n records, all sound and none a clear: the replay is the run, its lines are those of the run's answers, and demand 3 holds of it
-pub record Replayed (counting : Bool) (a : Areas) (file : List ℕ) (first : ℕ) (h : Head) (n : ℕ) : Type 0 where
-  pub isRun : IsRun counting a file first h n (replayAfter file (freshReplay counting a h) n)
-  pub lines : BeginsAs counting a file first h n
-  pub demanded : Demanded stepOf first (startOf a file first h) (eventsOf a file first h n)
+pub record Replayed (counting : Bool) (a : Areas) (file : List ℕ) (first : ℕ) (d : Desk) (h : Head) (n : ℕ) : Type 0 where
+  pub isRun : IsRun counting a file first d h n (replayAfter file (freshReplay counting a h) n)
+  pub lines : BeginsAs counting a file first d h n
+  pub demanded : Demanded stepOf (opening first d (startOf a file first d h)) (eventsOf a file first d h n)

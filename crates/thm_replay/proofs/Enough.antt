@@ -66,7 +66,7 @@ use Rattle.step.specs.declared.Call.the-variants as calls
 use Rattle.trace.specs.Lends.{mostCapacity, AreasLent}
 use Rattle.ledger.proofs.Moves.{by-refusal, push-cases}
 use Rattle.ledger.proofs.Knows.{data-long, pop-capacity, report-same, drop-long, full-ack-same, ack2-same, clock-same}
-use Rattle.thm_replay_areas.specs.Answers.{saysShort, lentIn, leftIn}
+use Rattle.thm_replay.specs.Short.{saysShort, lentIn, leftIn}
 
 -- the first refusal of a list is 0 or the number of a test that holds
 abbrev Enough : ℕ → Type 0
@@ -352,7 +352,7 @@ module _ (s : State) (l : Lent) (small : s .head .window .capacity ≤ mostCapac
   step-lent (calls.Data time number message location stamp) =
       let x = data-long (s .head) ws bs time (packet number message location stamp) (l .payload) in lent-still _ _ _ _ _ (x .0) (x .1) refl refl refl
   step-lent (calls.Pop time) = lent-still _ _ _ _ _ refl refl refl (pop-long (s .head) ws bs (l .output) time) refl
-  step-lent (calls.Report time) = lent-still _ _ _ _ _ (report-same (s .head) ws bs (l .list) time .1) refl refl refl (list-long (s .head) ws (l .list) time)
+  step-lent (calls.Report time) = lent-still _ _ _ _ _ (report-same (s .head) ws bs (l .list) time .2) refl refl refl (list-long (s .head) ws (l .list) time)
   step-lent (calls.FullAck time) = lent-still _ _ _ _ _ refl refl (area-long (s .head) (s .history) time) refl refl
   step-lent (calls.Ack2 time number) = lent
   step-lent (calls.Drop first last) = lent-still _ _ _ _ _ (drop-long (s .head) ws bs first last) refl refl refl refl

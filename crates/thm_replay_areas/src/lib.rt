@@ -1,1 +1,0 @@
-// The areas that a replay lends are enough: no line of a trace answers 2, 11 or 12. Theorems only.
