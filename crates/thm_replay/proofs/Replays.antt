@@ -26,9 +26,9 @@ use Rattle.tally.specs.declared.Tally.{Tally}
 use Rattle.trace.specs.Trace.{Areas, Replay, callIn, payloadIn, called, replayed, lineOf, closing, linesOf, isRefused, freshReplay, outputOf}
 use Rattle.trace.proofs.Laws.{madeIn, behind, lines-record, lines-close}
 use Rattle.ledger.specs.Seen.{NotClear}
-use Rattle.ledger.specs.Runs.{Event, Book, answered, bookAfter, Fresh, fresh, NoneClear}
-use Rattle.ledger.proofs.Theorem.{ledger-theorem}
-use Rattle.thm_replay.specs.Replay.{Accepted, headIn, restAfter, recordAt, payloadAt, offsetOf, replayAfter, isSound, isClear, SoundTo, NoClearTo, startOf, runOf, outputAfter, listAfter, eventOf, eventsOf, answerAt, lineAt, linesTo, tallyAfter, closingAt, IsRun, BeginsAs, IsAll, Replayed}
+use Rattle.ledger.specs.Runs.{Event, Book, answered, bookAfter, Fresh, Empty, fresh, NoneClear}
+use Rattle.ledger.proofs.Theorem.{ledger-theorem, stretch-theorem, clear-empty}
+use Rattle.thm_replay.specs.Replay.{Accepted, headIn, restAfter, recordAt, payloadAt, offsetOf, replayAfter, isSound, isClear, SoundTo, NoClearTo, later, CallsFrom, startOf, runOf, outputAfter, listAfter, eventOf, eventsOf, stateAfter, stretchOf, answerAt, lineAt, linesTo, tallyAfter, closingAt, IsRun, BeginsAs, IsAll, Replayed, Stretched}
 
 positive : (n : ℕ) → eqb n 0 ≡ false → 0 < n
 positive zero e = impossible e
@@ -134,6 +134,35 @@ unfolding eventsOf
 none-clear a file first h small zero s c = tt
 none-clear a file first h small (suc n) s c =
     (not-clear (recordAt file n) (s .0) (c .0) (record-fits (restAfter file n) (rest-bytes file n small)), none-clear a file first h small n (s .1) (c .1))
+
+stretch-clear : (a : Areas) (file : List ℕ) (first : ℕ) (h : Head) → AreBytes file → (n m : ℕ) → CallsFrom file n m → NoneClear (stretchOf a file first h n m)
+unfolding stretchOf
+stretch-clear a file first h small n zero c = tt
+stretch-clear a file first h small n (suc m) c =
+    let k = later n m in
+    (not-clear (recordAt file k) (c .0) (c .1) (record-fits (restAfter file k) (rest-bytes file k small)), stretch-clear a file first h small n m (c .2))
+
+-- a stretch: any m records without a clear, from a moment at which the receiver holds nothing and has acknowledged all; a clear at such a moment leaves such a moment
+module _ (a : Areas) (file : List ℕ) (first : ℕ) (h : Head) (f n : ℕ) (e : Empty f (stateAfter a file first h n)) where
+  abbrev begins : State
+  begins = stateAfter a file first h n
+
+  stretch-state : (m : ℕ) → stateAfter a file first h (later n m) ≡ bookAfter stepOf (fresh f begins) (stretchOf a file first h n m) .state
+  unfolding bookAfter eventsOf stretchOf
+  stretch-state zero = refl
+  stretch-state (suc m) =
+      let past = eventsOf a file first h (later n m) in
+      ap (λ (s : State). stepOf s (eventOf a file first h (later n m) past .lent) (eventOf a file first h (later n m) past .call) .state) (stretch-state m)
+
+  pub replays-on : AreBytes file → (m : ℕ) → CallsFrom file n m → Stretched a file first h f n m
+  replays-on small m c =
+      record { state = stretch-state m; demanded = stretch-theorem f begins e (stretchOf a file first h n m) (stretch-clear a file first h small n m c) }
+
+  pub clears-on : recordAt file n ≡ records.Clear → Empty f (stateAfter a file first h (suc n))
+  unfolding bookAfter eventsOf
+  clears-on q =
+      let lent = eventOf a file first h n (eventsOf a file first h n) .lent in
+      subst (λ (c : Call). Empty f (stepOf begins lent c .state)) (sym (ap callIn q)) (clear-empty f begins lent e)
 
 -- a file whose header is accepted
 module _ (counting : Bool) (a : Areas) (file : List ℕ) (s : Accepted file) where
