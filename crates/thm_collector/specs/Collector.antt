@@ -1,5 +1,6 @@
--- A collector that links the library: it keeps the head's words, the three areas and the counters' words, and calls the functions of crates/exports, plain or counted as it likes, each on
--- what the last left. A call gives what the contract of its function says; what a function is not lent, or only reads, stays.
+-- A collector that links the library: it keeps the head's words, the three areas and the counters' words, and calls the
+-- functions of crates/exports, plain or counted as it likes, each on what the last left. A call gives what the contract
+-- of its function says; what a function is not lent, or only reads, stays.
 use mathlib.Core.Path.{_≡_}
 use mathlib.Core.Bool.{Bool}
 use mathlib.Core.List.{List, [], _∷_, map}
@@ -15,7 +16,9 @@ use Rattle.tally.specs.Tally.{countedOf}
 use Rattle.packing.specs.Packed.{unpackOf}
 use Rattle.packing.specs.Tally.{countersWords}
 use Rattle.cells.specs.Cells.{cellsOf, lossCells}
-use Rattle.exports.specs.Calls.{left, newOf, dataExportOf, messageExportOf, lossExportOf, fullAckExportOf, ack2ExportOf, dropExportOf, clockExportOf, clearExportOf, dataCountedOf, ack2CountedOf, dropCountedOf, clockCountedOf}
+use Rattle.exports.specs.Calls.{left, newOf, dataExportOf, messageExportOf, lossExportOf, fullAckExportOf}
+use Rattle.exports.specs.Calls.{ack2ExportOf, dropExportOf, clockExportOf, clearExportOf}
+use Rattle.exports.specs.Calls.{dataCountedOf, ack2CountedOf, dropCountedOf, clockCountedOf}
 use Rattle.step.specs.Step.{State, stateOf, Lent, Ended, stepOf}
 use Rattle.step.specs.declared.Call.{Call}
 use Rattle.step.specs.declared.Call.the-variants as calls
@@ -35,7 +38,8 @@ pub record Kept : Type 0 where
 abbrev pub stateIn : Kept → State
 stateIn x = stateOf (unpackOf (x .words)) (x .slots) (x .payloads) (x .history)
 
--- what a call gives back: the number that it returns, the answer's cells, what is kept now, and the output and the list that were lent for it
+-- what a call gives back: the number that it returns, the answer's cells, what is kept now, and the output and the list
+-- that were lent for it
 pub record Back : Type 0 where
   pub returned : ℕ
   pub cells : List ℤ
@@ -74,7 +78,7 @@ pub data Form : Type 0 where
 
 -- one call: x is kept before it, t is lent for it, r comes back
 module _ (x : Kept) (t : Lent) (r : Back) where
-  abbrev pub k : Kept
+  abbrev k : Kept
   k = r .kept
 
   -- the contract of the plain function, and what else stays; of the counters' words see below
@@ -84,45 +88,57 @@ module _ (x : Kept) (t : Lent) (r : Back) where
       ≡ dataExportOf (x .words) (x .slots) (x .payloads) time (packet number message location stamp) (t .payload))
       × (k .history ≡ x .history) × (r .output ≡ t .output) × (r .list ≡ t .list)
   Promised (calls.Pop time) =
-      (left (r .returned) (k .words) (r .cells) (r .output ∷ []) ≡ messageExportOf (x .words) (x .slots) (x .payloads) (t .output) time)
+      (left (r .returned) (k .words) (r .cells) (r .output ∷ [])
+      ≡ messageExportOf (x .words) (x .slots) (x .payloads) (t .output) time)
       × (k .slots ≡ x .slots) × (k .payloads ≡ x .payloads) × (k .history ≡ x .history) × (r .list ≡ t .list)
   Promised (calls.Report time) =
-      (left (r .returned) (k .words) (r .cells) (k .slots ∷ r .list ∷ []) ≡ lossExportOf (x .words) (x .slots) (t .list) time)
+      (left (r .returned) (k .words) (r .cells) (k .slots ∷ r .list ∷ [])
+      ≡ lossExportOf (x .words) (x .slots) (t .list) time)
       × (k .payloads ≡ x .payloads) × (k .history ≡ x .history) × (r .output ≡ t .output)
   Promised (calls.FullAck time) =
       (left (r .returned) (k .words) (r .cells) (k .history ∷ []) ≡ fullAckExportOf (x .words) (x .history) time)
       × (k .slots ≡ x .slots) × (k .payloads ≡ x .payloads) × (r .output ≡ t .output) × (r .list ≡ t .list)
   Promised (calls.Ack2 time number) =
       (left (r .returned) (k .words) (r .cells) [] ≡ ack2ExportOf (x .words) (x .history) time number)
-      × (k .slots ≡ x .slots) × (k .payloads ≡ x .payloads) × (k .history ≡ x .history) × (r .output ≡ t .output) × (r .list ≡ t .list)
+      × (k .slots ≡ x .slots) × (k .payloads ≡ x .payloads) × (k .history ≡ x .history)
+      × (r .output ≡ t .output) × (r .list ≡ t .list)
   Promised (calls.Drop first last) =
       (left (r .returned) (x .words) (r .cells) (k .slots ∷ []) ≡ dropExportOf (x .words) (x .slots) first last)
-      × (k .words ≡ x .words) × (k .payloads ≡ x .payloads) × (k .history ≡ x .history) × (r .output ≡ t .output) × (r .list ≡ t .list)
+      × (k .words ≡ x .words) × (k .payloads ≡ x .payloads) × (k .history ≡ x .history)
+      × (r .output ≡ t .output) × (r .list ≡ t .list)
   Promised (calls.Clock time stamp) =
       (left (r .returned) (k .words) (r .cells) [] ≡ clockExportOf (x .words) time stamp)
-      × (k .slots ≡ x .slots) × (k .payloads ≡ x .payloads) × (k .history ≡ x .history) × (r .output ≡ t .output) × (r .list ≡ t .list)
+      × (k .slots ≡ x .slots) × (k .payloads ≡ x .payloads) × (k .history ≡ x .history)
+      × (r .output ≡ t .output) × (r .list ≡ t .list)
   Promised calls.Clear =
       (left (r .returned) (k .words) (r .cells) [] ≡ clearExportOf (x .words))
-      × (k .slots ≡ x .slots) × (k .payloads ≡ x .payloads) × (k .history ≡ x .history) × (r .output ≡ t .output) × (r .list ≡ t .list)
+      × (k .slots ≡ x .slots) × (k .payloads ≡ x .payloads) × (k .history ≡ x .history)
+      × (r .output ≡ t .output) × (r .list ≡ t .list)
 
-  -- the contract of the form that counts, which writes the counters' words too; the calls that raise nothing have no such form
+  -- the contract of the form that counts, which writes the counters' words too; the calls that raise nothing have none
   abbrev pub PromisedCounted : Call → Type 0
   PromisedCounted (calls.Data time number message location stamp) =
       (left (r .returned) (k .words) (r .cells) (k .counts ∷ k .slots ∷ k .payloads ∷ [])
-      ≡ dataCountedOf (x .words) (x .counts) (x .slots) (x .payloads) time (packet number message location stamp) (t .payload))
+      ≡ dataCountedOf (x .words) (x .counts) (x .slots) (x .payloads) time
+      (packet number message location stamp) (t .payload))
       × (k .history ≡ x .history) × (r .output ≡ t .output) × (r .list ≡ t .list)
   PromisedCounted (calls.Pop time) = ⊥
   PromisedCounted (calls.Report time) = ⊥
   PromisedCounted (calls.FullAck time) = ⊥
   PromisedCounted (calls.Ack2 time number) =
-      (left (r .returned) (k .words) (r .cells) (k .counts ∷ []) ≡ ack2CountedOf (x .words) (x .counts) (x .history) time number)
-      × (k .slots ≡ x .slots) × (k .payloads ≡ x .payloads) × (k .history ≡ x .history) × (r .output ≡ t .output) × (r .list ≡ t .list)
+      (left (r .returned) (k .words) (r .cells) (k .counts ∷ [])
+      ≡ ack2CountedOf (x .words) (x .counts) (x .history) time number)
+      × (k .slots ≡ x .slots) × (k .payloads ≡ x .payloads) × (k .history ≡ x .history)
+      × (r .output ≡ t .output) × (r .list ≡ t .list)
   PromisedCounted (calls.Drop first last) =
-      (left (r .returned) (x .words) (r .cells) (k .counts ∷ k .slots ∷ []) ≡ dropCountedOf (x .words) (x .counts) (x .slots) first last)
-      × (k .words ≡ x .words) × (k .payloads ≡ x .payloads) × (k .history ≡ x .history) × (r .output ≡ t .output) × (r .list ≡ t .list)
+      (left (r .returned) (x .words) (r .cells) (k .counts ∷ k .slots ∷ [])
+      ≡ dropCountedOf (x .words) (x .counts) (x .slots) first last)
+      × (k .words ≡ x .words) × (k .payloads ≡ x .payloads) × (k .history ≡ x .history)
+      × (r .output ≡ t .output) × (r .list ≡ t .list)
   PromisedCounted (calls.Clock time stamp) =
       (left (r .returned) (k .words) (r .cells) (k .counts ∷ []) ≡ clockCountedOf (x .words) (x .counts) time stamp)
-      × (k .slots ≡ x .slots) × (k .payloads ≡ x .payloads) × (k .history ≡ x .history) × (r .output ≡ t .output) × (r .list ≡ t .list)
+      × (k .slots ≡ x .slots) × (k .payloads ≡ x .payloads) × (k .history ≡ x .history)
+      × (r .output ≡ t .output) × (r .list ≡ t .list)
   PromisedCounted calls.Clear = ⊥
 
   -- a plain function is not lent the counters' words
@@ -130,7 +146,8 @@ module _ (x : Kept) (t : Lent) (r : Back) where
   Gives plain c = Promised c × (k .counts ≡ x .counts)
   Gives counted c = PromisedCounted c
 
--- any calls, the newest first, each given what the last left. The questions of room and of a payload write only cells, so they may come between any two.
+-- any calls, the newest first, each given what the last left. The questions of room and of a payload write only cells,
+-- so they may come between any two.
 pub record Turn : Type 0 where
   pub event : Event
   pub form : Form
@@ -147,7 +164,7 @@ abbrev pub Ran : Kept → List Turn → Type 0
 Ran x [] = Unit
 Ran x (u ∷ us) = Gives (keptAfter x us) (u .event .lent) (u .back) (u .form) (u .event .call) × Ran x us
 
--- what it is shown to have. The cells of an answer: those of its line; a report's are the count of its words, which lie in the lent list
+-- the cells of an answer: those of its line; a report's have the count of its words, which lie in the lent list
 abbrev pub cellsIn : Answer → List ℤ
 cellsIn (answers.Data a) = cellsOf (dataLine a)
 cellsIn (answers.Pop a) = cellsOf (messageLine a)
@@ -186,10 +203,11 @@ module _ (first : ℕ) (d : Desk) (x : Kept) where
   -- the counters by the run's answers
   abbrev pub countersAfter : Counters → List Turn → Counters
   countersAfter c [] = c
-  countersAfter c (u ∷ us) = raisedBy (u .form) (countersAfter c us) (length (u .event .lent .payload)) (answerTo u us .answer)
+  countersAfter c (u ∷ us) =
+      raisedBy (u .form) (countersAfter c us) (length (u .event .lent .payload)) (answerTo u us .answer)
 
--- a collector, with its counters from c on: demand 3 holds of the run of its calls, what it keeps is the receiver of that run, each call gave what the run's call leaves, and its
--- counters' words are what the run's answers count
+-- what is shown of it, with its counters from c on: demand 3 holds of the run of its calls, what it keeps is the
+-- receiver of that run, each call gave what the run's call leaves, and the counters' words are what its answers count
 pub record Collected (first : ℕ) (d : Desk) (x : Kept) (c : Counters) (us : List Turn) : Type 0 where
   pub demanded : Demanded stepOf (opening first d (stateIn x)) (events us)
   pub receiver : stateIn (keptAfter x us) ≡ runOf first d x us .state

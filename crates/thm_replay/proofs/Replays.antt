@@ -29,10 +29,10 @@ use Rattle.trace.specs.Trace.{Areas, Replay, callIn, payloadIn, called, replaye
 use Rattle.trace.specs.Lends.{mostCapacity, AreasLent, areasMade}
 use Rattle.trace.proofs.Laws.{madeIn, behind, lines-record, lines-close}
 use Rattle.ledger.specs.Seen.{NotClear}
-use Rattle.ledger.specs.Runs.{Event, Desk, Book, answered, bookAfter, Fresh, NoneClear}
-use Rattle.ledger.proofs.Theorem.{ledger-theorem}
+use Rattle.ledger.specs.Runs.{Event, Desk, Book, opening, answered, bookAfter, Fresh, Known, Empty, NoneClear}
+use Rattle.ledger.proofs.Theorem.{ledger-theorem, stretch-theorem, clear-empty}
 use Rattle.thm_replay.specs.Short.{saysShort, lentIn}
-use Rattle.thm_replay.specs.Replay.{Accepted, headIn, deskIn, restAfter, recordAt, payloadAt, offsetOf, replayAfter, isSound, isClear, SoundTo, NoClearTo, startOf, runOf, outputAfter, listAfter, eventOf, eventsOf, answerAt, lineAt, linesTo, tallyAfter, closingAt, IsRun, BeginsAs, IsAll, Replayed}
+use Rattle.thm_replay.specs.Replay.{Accepted, headIn, deskIn, restAfter, recordAt, payloadAt, offsetOf, replayAfter, isSound, isClear, SoundTo, NoClearTo, later, CallsFrom, startOf, runOf, outputAfter, listAfter, eventOf, eventsOf, stateAfter, stretchOf, answerAt, lineAt, linesTo, tallyAfter, closingAt, IsRun, BeginsAs, IsAll, Replayed, Stretched}
 use Rattle.thm_replay.proofs.Enough.{step-enough, step-capacity, step-lent}
 
 positive : (n : ℕ) → eqb n 0 ≡ false → 0 < n
@@ -139,6 +139,35 @@ unfolding eventsOf
 none-clear a file first d h small zero s c = tt
 none-clear a file first d h small (suc n) s c =
     (not-clear (recordAt file n) (s .0) (c .0) (record-fits (restAfter file n) (rest-bytes file n small)), none-clear a file first d h small n (s .1) (c .1))
+
+stretch-clear : (a : Areas) (file : List ℕ) (first : ℕ) (d : Desk) (h : Head) → AreBytes file → (n m : ℕ) → CallsFrom file n m → NoneClear (stretchOf a file first d h n m)
+unfolding stretchOf
+stretch-clear a file first d h small n zero c = tt
+stretch-clear a file first d h small n (suc m) c =
+    let k = later n m in
+    (not-clear (recordAt file k) (c .0) (c .1) (record-fits (restAfter file k) (rest-bytes file k small)), stretch-clear a file first d h small n m (c .2))
+
+-- a stretch: any m records without a clear, from a moment at which the receiver holds nothing and has acknowledged all; a clear at such a moment leaves such a moment
+module _ (a : Areas) (file : List ℕ) (first : ℕ) (d : Desk) (h : Head) (f n : ℕ) (k : Desk) (e : Empty f (stateAfter a file first d h n)) (q : Known k (stateAfter a file first d h n)) where
+  abbrev begins : State
+  begins = stateAfter a file first d h n
+
+  stretch-state : (m : ℕ) → stateAfter a file first d h (later n m) ≡ bookAfter stepOf (opening f k begins) (stretchOf a file first d h n m) .state
+  unfolding bookAfter eventsOf stretchOf
+  stretch-state zero = refl
+  stretch-state (suc m) =
+      let past = eventsOf a file first d h (later n m) in
+      ap (λ (s : State). stepOf s (eventOf a file first d h (later n m) past .lent) (eventOf a file first d h (later n m) past .call) .state) (stretch-state m)
+
+  pub replays-on : AreBytes file → (m : ℕ) → CallsFrom file n m → Stretched a file first d h f n m k
+  replays-on small m c =
+      record { state = stretch-state m; demanded = stretch-theorem f k begins e q (stretchOf a file first d h n m) (stretch-clear a file first d h small n m c) }
+
+  pub clears-on : recordAt file n ≡ records.Clear → Empty f (stateAfter a file first d h (suc n)) × Known k (stateAfter a file first d h (suc n))
+  unfolding bookAfter eventsOf
+  clears-on r =
+      let lent = eventOf a file first d h n (eventsOf a file first d h n) .lent in
+      subst (λ (c : Call). Empty f (stepOf begins lent c .state) × Known k (stepOf begins lent c .state)) (sym (ap callIn r)) (clear-empty f k begins lent e q)
 
 -- a file whose header is accepted
 module _ (counting : Bool) (a : Areas) (file : List ℕ) (s : Accepted file) where

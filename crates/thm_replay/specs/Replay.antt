@@ -1,5 +1,6 @@
--- The calls that a file's records are, as events of the ledger's runs, and what a replay of the file is to be: 01, "Trace, mark DLT" and demand 3. A record's call and payload are
--- read from the bytes; the output and the list that are lent for it are those that the call before it left.
+-- The calls that a file's records are, as events of the ledger's runs, and what a replay of the file is to be: 01,
+-- "Trace, mark DLT", and demand 3. A record's call and payload are read from the bytes; the output and the list that
+-- are lent for it are those that the call before it left.
 use mathlib.Core.Path.{_≡_}
 use mathlib.Core.Bool.{Bool, true, false, not, cond}
 use mathlib.Core.List.{List, [], _∷_, _++_}
@@ -19,7 +20,8 @@ use Rattle.lines.specs.Lines.{lineBytes, endBytes, badBytes}
 use Rattle.step.specs.Step.{State, stateOf, lentFor, Ended, stepOf}
 use Rattle.tally.specs.Tally.{freshTally, tallied, tallyBytes}
 use Rattle.tally.specs.declared.Tally.{Tally}
-use Rattle.trace.specs.Trace.{Areas, Replay, callIn, payloadIn, called, replayed, isRefused, freshReplay, linesOf, outputOf}
+use Rattle.trace.specs.Trace.{Areas, Replay, callIn, payloadIn, called, replayed}
+use Rattle.trace.specs.Trace.{isRefused, freshReplay, linesOf, outputOf}
 use Rattle.ledger.specs.Runs.{Event, Desk, Book, opening, answered, bookAfter}
 use Rattle.ledger.specs.Claims.{Demanded}
 
@@ -55,7 +57,7 @@ module _ (file : List ℕ) where
   restAfter zero = drop 24 file
   restAfter (suc n) = drop (sizeOf (recordOf (restAfter n))) (restAfter n)
 
-  -- the record behind these n, and its payload
+  -- the record after these n, and its payload
   abbrev pub recordAt : ℕ → RecordRead
   recordAt n = recordOf (restAfter n)
 
@@ -99,6 +101,16 @@ abbrev pub NoClearTo : List ℕ → ℕ → Type 0
 NoClearTo file zero = Unit
 NoClearTo file (suc n) = (isClear (recordAt file n) ≡ false) × NoClearTo file n
 
+-- m records later; and these m are sound and none is a clear
+abbrev pub later : ℕ → ℕ → ℕ
+later n zero = n
+later n (suc m) = suc (later n m)
+
+abbrev pub CallsFrom : List ℕ → ℕ → ℕ → Type 0
+CallsFrom file n zero = Unit
+CallsFrom file n (suc m) =
+    (isSound (recordAt file (later n m)) ≡ true) × (isClear (recordAt file (later n m)) ≡ false) × CallsFrom file n m
+
 -- the run: the receiver that the header made, of this first number, with what the station knows of it and the lent areas
 module _ (a : Areas) (file : List ℕ) (first : ℕ) (d : Desk) (h : Head) where
   abbrev pub startOf : State
@@ -116,16 +128,26 @@ module _ (a : Areas) (file : List ℕ) (first : ℕ) (d : Desk) (h : Head) where
   listAfter [] = a .list
   listAfter (e ∷ past) = answered stepOf (runOf past) e .list
 
-  -- the call of the record behind n calls
+  -- the call of the record after n calls
   abbrev pub eventOf : ℕ → List Event → Event
-  eventOf n past = record { call = callIn (recordAt file n); lent = lentFor (payloadAt file n) (outputAfter past) (listAfter past) }
+  eventOf n past =
+      record { call = callIn (recordAt file n); lent = lentFor (payloadAt file n) (outputAfter past) (listAfter past) }
 
   -- the first n calls of the file, the newest first
   unfoldable pub eventsOf : ℕ → List Event
   eventsOf zero = []
   eventsOf (suc n) = eventOf n (eventsOf n) ∷ eventsOf n
 
-  -- what the run answers to record n, counted from 0, and its line, whose number is counted from 1 (mod 2^64, which no file reaches)
+  -- the receiver's state after them
+  abbrev pub stateAfter : ℕ → State
+  stateAfter n = runOf (eventsOf n) .state
+
+  -- the m calls after the first n
+  unfoldable pub stretchOf : ℕ → ℕ → List Event
+  stretchOf n zero = []
+  stretchOf n (suc m) = eventOf (later n m) (eventsOf (later n m)) ∷ stretchOf n m
+
+  -- what the run answers to record n, counted from 0, and its line, numbered from 1 (mod 2^64, which no file reaches)
   abbrev pub answerAt : ℕ → Ended
   answerAt n = answered stepOf (runOf (eventsOf n)) (eventOf n (eventsOf n))
 
@@ -141,34 +163,48 @@ module _ (a : Areas) (file : List ℕ) (first : ℕ) (d : Desk) (h : Head) where
   tallyAfter counting zero = freshTally counting
   tallyAfter counting (suc n) = tallied (tallyAfter counting n) (length (payloadAt file n)) (answerAt n .answer)
 
-  -- the last line, if no more than n records are sound: the end line with the run's head, and behind it the counters; or bad with the record's offset
+  -- the last line after n records: the end line with the run's head, and then the counters; or bad with the offset
   abbrev pub closingAt : Bool → ℕ → List ℕ
   closingAt counting n =
-      let w = runOf (eventsOf n) .state .head .window in
+      let w = stateAfter n .head .window in
       cond (eqb (length (restAfter file n)) 0)
       (endBytes (sum 64 0 n) (w .lrsn) (w .seqno0) (w .held) ++ tallyBytes (tallyAfter counting n))
       (badBytes (sum 64 0 (offsetOf file n)))
 
 -- the replay after n records is that run after n calls: head and areas, output and list, and its counts
-pub record IsRun (counting : Bool) (a : Areas) (file : List ℕ) (first : ℕ) (d : Desk) (h : Head) (n : ℕ) (t : Replay) : Type 0 where
-  pub state : stateOf (t .head) (t .areas .slots) (t .areas .payloads) (t .areas .history) ≡ runOf a file first d h (eventsOf a file first d h n) .state
+pub record IsRun (counting : Bool) (a : Areas) (file : List ℕ) (first : ℕ) (d : Desk) (h : Head) (n : ℕ) (t : Replay)
+    : Type 0 where
+  pub state : stateOf (t .head) (t .areas .slots) (t .areas .payloads) (t .areas .history)
+      ≡ stateAfter a file first d h n
   pub output : t .areas .output ≡ outputAfter a file first d h (eventsOf a file first d h n)
   pub list : t .areas .list ≡ listAfter a file first d h (eventsOf a file first d h n)
   pub count : t .count ≡ sum 64 0 n
   pub offset : t .offset ≡ sum 64 0 (offsetOf file n)
   pub tally : t .tally ≡ tallyAfter a file first d h counting n
 
--- what the file gives: the lines of the run's first n answers, joined, then what the rest gives; and if that has no sound record, the last line
+-- what the file gives: the lines of the run's first n answers, joined, then what the rest gives; and if no sound record
+-- is left, the last line
 abbrev pub BeginsAs : Bool → Areas → List ℕ → ℕ → Desk → Head → ℕ → Type 0
 BeginsAs counting a file first d h n =
     let rest = restAfter file n in
-    outputOf counting a file ≡ linesTo a file first d h n ++ linesOf (length rest) (replayAfter file (freshReplay counting a h) n) rest
+    outputOf counting a file
+    ≡ linesTo a file first d h n ++ linesOf (length rest) (replayAfter file (freshReplay counting a h) n) rest
 
 abbrev pub IsAll : Bool → Areas → List ℕ → ℕ → Desk → Head → ℕ → Type 0
-IsAll counting a file first d h n = outputOf counting a file ≡ linesTo a file first d h n ++ closingAt a file first d h counting n
+IsAll counting a file first d h n =
+    outputOf counting a file ≡ linesTo a file first d h n ++ closingAt a file first d h counting n
 
--- after n records, all sound and none a clear: the replay is the run, its lines are those of the run's answers, and demand 3 holds of it
+-- after n records, all sound and none a clear: the replay is the run, its lines are those of the run's answers, and
+-- demand 3 holds of it
 pub record Replayed (counting : Bool) (a : Areas) (file : List ℕ) (first : ℕ) (d : Desk) (h : Head) (n : ℕ) : Type 0 where
   pub isRun : IsRun counting a file first d h n (replayAfter file (freshReplay counting a h) n)
   pub lines : BeginsAs counting a file first d h n
   pub demanded : Demanded stepOf (opening first d (startOf a file first d h)) (eventsOf a file first d h n)
+
+-- a stretch of a file that may have clears before it: from a moment at which the receiver holds nothing and has
+-- acknowledged all before the number f, and k is what the station knows, the next m records are a run from there, and
+-- demand 3 holds of it
+pub record Stretched (a : Areas) (file : List ℕ) (first : ℕ) (d : Desk) (h : Head) (f n m : ℕ) (k : Desk) : Type 0 where
+  pub state : stateAfter a file first d h (later n m)
+      ≡ bookAfter stepOf (opening f k (stateAfter a file first d h n)) (stretchOf a file first d h n m) .state
+  pub demanded : Demanded stepOf (opening f k (stateAfter a file first d h n)) (stretchOf a file first d h n m)
