@@ -1,9 +1,11 @@
 // Replaying a file: 01, "Trace, mark DLT". A file of any length is read in pieces into a fixed buffer, and each turn of the trace writes its line
 // behind the lines that are still to be written out. That the turns give together what the whole file gives is the trace's law `loop-whole`; no contract
 // can speak of what is read or written, so here the code only follows that loop.
+ghost use mathlib.Core.Path.{_≡_};
 ghost use Prim.Native.Nat.{_-_, _≤_};
 ghost use lib.ListN.{length};
 ghost use Rattle.io.specs.Counts.{Counts};
+ghost use Rattle.replaying.specs.Same.{sameBytes};
 use libc::STDERR_FILENO;
 use libc::STDIN_FILENO;
 use libc::STDOUT_FILENO;
@@ -464,7 +466,9 @@ fn replay_argument(i: usize, counting: bool) {
 }
 
 // Whether two words are the same.
-pub fn same(a: &[u8], b: &[u8]) -> bool {
+pub fn same(a: &[u8], b: &[u8]) -> bool
+    ensures { λ r. ⌜ r ≡ sameBytes (now (a .entry)) (now (b .entry)) ⌝ }
+{
     if a.len() != b.len() {
         return false;
     }

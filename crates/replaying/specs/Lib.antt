@@ -1,0 +1,2 @@
+-- The definitions of replaying.
+pub mod Same
