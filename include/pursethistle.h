@@ -24,8 +24,9 @@
  * nothing, keeps nothing between calls and starts no thread, so two receivers may be used by two threads at once. Head and areas
  * are plain data: copied together they are a second receiver.
  * A call takes any contents and any numbers: what is wrong is refused by its number, and then nothing has changed, but
- * answer, and the counters where a data packet is refused 7 to 10. A pointer must be valid for its length and not null, also
- * for length 0, and no two of them may overlap; only this the library cannot test.
+ * answer, and the counters where a data packet is refused 7 to 10. A pointer must be valid for its length, aligned for its
+ * type and not null, also for length 0; no two of them may overlap; and a bool must be 0 or 1: only this the library cannot
+ * test.
  *
  * Each call returns 0, or the number of its refusal (enum pt_refusal), and writes all ten cells of answer: the word (enum
  * pt_word), then the values named below from answer[1] on, 0 in every other cell. A refusal answers PT_WORD_REFUSED, without
@@ -89,9 +90,18 @@ int main(void) {
 /* In an ack's answer: no rate is known yet. */
 #define PT_NO_RATE (-1)
 
-/* Refusals, by 01's numbers and in its order of test: the lowest that holds is given. */
+/* Refusals, by 01's numbers and in its order of test: the lowest that holds is given.
+ * Refusal 1 is given exactly if a number of the head is outside its range in 01 ("Head and lent areas"), or for one of the
+ * causes here, which 01 does not list: words can be no head, and no call writes such words. They are counted from 0.
+ *   1a  a flag over 1: word 7 (late_drop), 12 (a first drift came), or 10, 52, 72 (a time is set: of the last release, of the
+ *       last arrival, of the probe)
+ *   1b  a value beside an unset time: word 11, 53 or 73 is not 0 where the word before it is 0
+ *   1c  a NaN other than 0x7ff8000000000000: word 13 or 14 (mean and sum of squares of the drift samples)
+ *   1d  2^32 or more in a field of 32 bits: words 4 to 6, 9, 15 to 49, 54 to 69, 76 to 78; also where a window of intervals
+ *       does not use the place
+ *   1e  a window of intervals goes on at a place over 15: word 50 or 70 */
 enum pt_refusal {
-    PT_HEAD_BAD = 1,            /* a word of the head is no number of its field, or out of range */
+    PT_HEAD_BAD = 1,            /* a number of the head is out of range, or its words are no head (1a to 1e) */
     PT_AREA_SHORT = 2,          /* an area is shorter than the capacity, or 2,048 words, require */
     PT_CLOCK_RANGE = 3,         /* now is not in 0 .. 2^60 - 1 */
     PT_CLOCK_BACK = 4,          /* now is before the latest reading of an unrefused call, at first the start time */

@@ -1,2 +1,3 @@
 -- The definitions of the calls on words.
 pub mod Calls
+pub mod Causes

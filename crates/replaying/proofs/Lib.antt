@@ -1,2 +1,3 @@
 -- Proofs of the loops of the replay.
 pub mod Counting
+pub mod Sames

@@ -7,6 +7,7 @@ ghost use lib.ListN.{length, replicate};
 ghost use Rattle.io.specs.Counts.{Counts};
 ghost use Rattle.trace.specs.Lends.{slotsLent, payloadsLent, historyLent, listLent};
 ghost use Rattle.replaying.specs.Reads.{grew, wantingOf, filledOf, flushedOf};
+ghost use Rattle.replaying.specs.Same.{sameBytes};
 use libc::STDERR_FILENO;
 use libc::STDIN_FILENO;
 use libc::STDOUT_FILENO;
@@ -521,7 +522,9 @@ fn replay_argument(i: usize, counting: bool) {
 }
 
 // Whether two words are the same.
-pub fn same(a: &[u8], b: &[u8]) -> bool {
+pub fn same(a: &[u8], b: &[u8]) -> bool
+    ensures { λ r. ⌜ r ≡ sameBytes (now (a .entry)) (now (b .entry)) ⌝ }
+{
     if a.len() != b.len() {
         return false;
     }

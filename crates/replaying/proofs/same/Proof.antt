@@ -1,12 +1,12 @@
 use mathlib.Core.Path.{_≡_}
 use Prim.Native.Nat.{_-_}
 use lib.ListN.{length}
-use borrow.Author.Needs.{needs}
+use Rattle.replaying.proofs.Sames.{SameTo, sames}
 use Rattle.replaying.proofs.same.Statement.{statement}
 use Rattle.replaying.proofs.same.Tie as tie
 
 abbrev Inv-loop : tie.InvT-loop
-Inv-loop a b i₀ i = length a ≡ length b
+Inv-loop a b i₀ i = (length a ≡ length b) × SameTo a b i
 
 abbrev μ-loop : tie.MeasureT-loop
 μ-loop a b i₀ i = length a - i
@@ -15,12 +15,12 @@ pub same-spec : {M : Type 1} → statement M
 same-spec =
     tie.close
     (tie.spec Inv-loop μ-loop
-    (λ c. search needs)
-    (λ c. search needs)
-    (λ c. search needs)
-    (λ c. search needs)
-    (λ c. search needs)
-    (λ c. search needs)
-    (λ c. search needs)
-    (λ c. search needs)
-    (λ c. search needs))
+    (λ c. search sames)
+    (λ c. search sames)
+    (λ c. search sames)
+    (λ c. search sames)
+    (λ c. search sames)
+    (λ c. search sames)
+    (λ c. search sames)
+    (λ c. search sames)
+    (λ c. search sames))
