@@ -4,7 +4,7 @@ use mathlib.Core.Path.{_≡_, refl}
 use mathlib.Core.List.{List}
 use Prim.Native.Nat.{ℕ, _*_}
 use lib.Dec.{eqb}
-use lib.IntN.{ℤ, natAbs}
+use lib.IntN.{ℤ}
 use lib.ListN.{length}
 use Rattle.numbers.proofs.Flags.{by-test}
 use Rattle.acks.specs.History.{fullAckOf, ack2Of}
@@ -55,7 +55,7 @@ module _ (h : Head) (b : List ℕ) (now : ℤ) where
       (λ t.
       by-test (λ (o : FullAckOutcome). (o .line .refusal ≡ 0 → ⊥) → o .acked .head ≡ h) (eqb (roomOf (h .window)) 0) _ _
       (λ u e. absurd (e refl))
-      (λ u e. let k = fullAckOf (h .history) b (natAbs now) (h .rtt .mean) (h .latency) (h .window .lrsn) in ack-head (k .acked .history) (k .acked .answer) e))
+      (λ u e. let k = fullAckOf (h .history) b now (h .rtt .mean) (h .latency) (h .window .lrsn) in ack-head (k .acked .history) (k .acked .answer) e))
       (λ t e. refl)
 
   -- an ACK2
@@ -71,7 +71,7 @@ module _ (h : Head) (b : List ℕ) (now : ℤ) where
   unfolding ack2CallOf heldAck2
   ack2-head number =
       by-test (λ (o : Ack2Outcome). (o .line .refusal ≡ 0 → ⊥) → o .acked2 .head ≡ h) (eqb (tests 2048) 0) _ _
-      (λ t e. let k = ack2Of (h .history) b (natAbs now) number in rtt-head (k .history) (k .answer) e)
+      (λ t e. let k = ack2Of (h .history) b now number in rtt-head (k .history) (k .answer) e)
       (λ t e. refl)
 
 -- a clock call

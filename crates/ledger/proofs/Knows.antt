@@ -7,7 +7,7 @@ use Prim.Native.Nat.{ℕ, _+_, _-_, _*_, _^_, _<_}
 use native.Mathlib.Omega.{arith}
 use borrow.Author.Tests.{ne-eqb}
 use lib.Dec.{eqb}
-use lib.IntN.{ℤ, natAbs}
+use lib.IntN.{ℤ}
 use lib.ListN.{length}
 use Rattle.numbers.proofs.Flags.{by-bool, by-test}
 use Rattle.numbers.specs.Circular.{distance}
@@ -114,11 +114,11 @@ module _ (h : Head) (ws bs : List ℕ) where
         let r = push-ready h ws bs now p payload z in
         let bytes : (i : ℕ) → length (withPayload bs (slotIn w i) payload) ≡ length bs =
         λ i. length-payload bs (slotIn w i) payload (r .right .bytes) (omega (arith, slot-lt (w .capacity) (w .start) i (r .good .ranges .some), r .payloads)) in
-        push-cases w ws bs (natAbs now) p payload (λ (o : PushOutcome). (length (o .slots) ≡ length ws) × (length (o .payloads) ≡ length bs))
+        push-cases w ws bs now p payload (λ (o : PushOutcome). (length (o .slots) ≡ length ws) × (length (o .payloads) ≡ length bs))
         (λ q c. (refl, refl))
         (λ q. (length-write _ _ _, bytes (w .held)))
         (λ q c. (refl, refl))
-        (λ q c. (length-write _ _ _ ∙ length-lost (w .capacity) (w .start) ws (natAbs now) (w .held) (distance 31 (p .number) (nextOf w)), bytes (w .held + distance 31 (p .number) (nextOf w))))
+        (λ q c. (length-write _ _ _ ∙ length-lost (w .capacity) (w .start) ws now (w .held) (distance 31 (p .number) (nextOf w)), bytes (w .held + distance 31 (p .number) (nextOf w))))
         (λ b. (refl, refl))
         (λ i n. (length-write _ _ _, bytes (distance 31 (p .number) (w .seqno0))))
         (λ i n. (refl, refl)))
@@ -155,14 +155,14 @@ module _ (h : Head) (ws bs : List ℕ) where
     unfolding dataCallOf takenOf
     data-settings =
         by-refusal (λ (o : DataOutcome). Settings h (o .handled .head)) tests _ _
-        (λ z. let o = pushOf w ws bs (natAbs now) p payload in after-settings (o .pushed .window) (o .pushed .answer) (length payload))
+        (λ z. let o = pushOf w ws bs now p payload in after-settings (o .pushed .window) (o .pushed .answer) (length payload))
         (λ z. (refl, refl))
 
     pub data-latest : dataCallOf h ws bs now p payload .handled .head .latest ≡ byNumber (dataLine (dataCallOf h ws bs now p payload .handled .answer) .refusal) now (h .latest)
     unfolding dataCallOf takenOf
     data-latest =
         by-refusal (λ (o : DataOutcome). o .handled .head .latest ≡ byNumber (dataLine (o .handled .answer) .refusal) now (h .latest)) tests _ _
-        (λ z. let o = pushOf w ws bs (natAbs now) p payload in after-latest (o .pushed .window) (o .pushed .answer) (length payload))
+        (λ z. let o = pushOf w ws bs now p payload in after-latest (o .pushed .window) (o .pushed .answer) (length payload))
         (λ z. refused-latest tests now (h .latest) z)
 
     -- its acknowledgement number
@@ -185,8 +185,8 @@ module _ (h : Head) (ws bs : List ℕ) where
     data-acks =
         by-refusal (λ (o : DataOutcome). DataAcks (o .handled .head .window .lrsn) (o .handled .answer)) tests _ _
         (λ z.
-        let o = pushOf w ws bs (natAbs now) p payload in
-        after-acks (o .pushed .window) (o .pushed .answer) (length payload) (push-says w ws bs (natAbs now) p payload))
+        let o = pushOf w ws bs now p payload in
+        after-acks (o .pushed .window) (o .pushed .answer) (length payload) (push-says w ws bs now p payload))
         (λ z. tt)
 
   -- a pop
@@ -262,10 +262,10 @@ module _ (h : Head) (ws bs : List ℕ) where
     report-same =
         by-refusal Reported reportTests _ _
         (λ z.
-        let o = reportOf w ws (natAbs now) (h .rtt .mean) list in (
+        let o = reportOf w ws now (h .rtt .mean) list in (
           report-window (o .answer),
           report-settings (o .answer),
-          by-outcome w ws (natAbs now) (h .rtt .mean) list (λ (x : ReportOutcome). length (x .slots) ≡ length ws) refl refl (length-slots w ws (natAbs now) (h .rtt .mean) (w .held)),
+          by-outcome w ws now (h .rtt .mean) list (λ (x : ReportOutcome). length (x .slots) ≡ length ws) refl refl (length-slots w ws now (h .rtt .mean) (w .held)),
           report-read (o .answer),
         ))
         (λ z. (refl, (refl, refl), refl, refused-latest reportTests now (h .latest) z))
@@ -299,8 +299,8 @@ module _ (h : Head) (b : List ℕ) (now : ℤ) where
       by-test Acked (eqb (roomOf (h .window)) 0) (fullAckEnded (record { head = withLatest h now; answer = answered.Nothing }) b) (roomyAck h b now)
       (λ t. (refl, (refl, refl), refl, refl, tt))
       (λ t.
-      let k = fullAckOf (h .history) b (natAbs now) (h .rtt .mean) (h .latency) (h .window .lrsn) in
-      go (k .acked .history) (k .acked .answer) (k .area) (full-ack-length (h .history) b (natAbs now) (h .rtt .mean) (h .latency) (h .window .lrsn))))
+      let k = fullAckOf (h .history) b now (h .rtt .mean) (h .latency) (h .window .lrsn) in
+      go (k .acked .history) (k .acked .answer) (k .area) (full-ack-length (h .history) b now (h .rtt .mean) (h .latency) (h .window .lrsn))))
       (λ z. (refl, (refl, refl), refl, refused-latest ackTests now (h .latest) z, tt))
     where
       go : (y : History) (x : AckAnswer) (area : List ℕ) → length area ≡ length b
@@ -323,7 +323,7 @@ module _ (h : Head) (b : List ℕ) (now : ℤ) where
   unfolding ack2CallOf heldAck2
   ack2-same number =
       by-refusal Acked2 ackTests _ _
-      (λ z. let k = ack2Of (h .history) b (natAbs now) number in go (k .history) (k .answer))
+      (λ z. let k = ack2Of (h .history) b now number in go (k .history) (k .answer))
       (λ z. (refl, (refl, refl), refused-latest ackTests now (h .latest) z))
     where
       go : (y : History) (x : Ack2Answer)

@@ -6,7 +6,7 @@ use mathlib.Core.Logic.{inl, inr}
 use Prim.Native.Nat.{ℕ, _*_, _<_}
 use native.Mathlib.Omega.{arith}
 use lib.Dec.{eqb}
-use lib.IntN.{ℤ, natAbs}
+use lib.IntN.{ℤ}
 use lib.ListN.{length}
 use Rattle.numbers.proofs.Flags.{by-test}
 use Rattle.acks.specs.History.{ack2Of, fullAckOf, lightAckOf}
@@ -95,7 +95,7 @@ module _ (h : Head) (ws bs : List ℕ) (now : ℤ) where
     unfolding dataCallOf takenOf
     data-refuses =
         by-refusal (λ (o : DataOutcome). Refuses tests c (answers.Data (o .handled .answer))) tests _ _
-        (λ z. let o = pushOf (h .window) ws bs (natAbs now) p payload in pushed tests z (o .pushed .window) (o .pushed .answer) (length payload))
+        (λ z. let o = pushOf (h .window) ws bs now p payload in pushed tests z (o .pushed .window) (o .pushed .answer) (length payload))
         (λ z. earlier z refl)
 
   popped : (n : ℕ) → n ≡ 0 → (a : PopAnswer) → Refuses n (calls.Pop now) (answers.Pop (message.answerOf a))
@@ -124,7 +124,7 @@ module _ (h : Head) (ws bs : List ℕ) (now : ℤ) where
   report-refuses list =
       let n = firstRefusal (timedRules (headOk h) (length ws) (3 * h .window .capacity) now (h .latest)) in
       by-refusal (λ (o : LossOutcome). Refuses n (calls.Report now) (answers.Report (o .reported .answer))) n _ _
-      (λ z. reported n z (reportOf (h .window) ws (natAbs now) (h .rtt .mean) list .answer))
+      (λ z. reported n z (reportOf (h .window) ws now (h .rtt .mean) list .answer))
       (λ z. earlier z refl)
 
 module _ (h : Head) (b : List ℕ) (now : ℤ) where
@@ -144,7 +144,7 @@ module _ (h : Head) (b : List ℕ) (now : ℤ) where
       by-test (λ (o : FullAckOutcome). Refuses timed (calls.FullAck now) (answers.FullAck (o .acked .answer))) (eqb (roomOf (h .window)) 0)
       (fullAckEnded (record { head = withLatest h now; answer = answered.Nothing }) b) (roomyAck h b now)
       (λ t. unrefused z refl (λ q. let x : _≡_ {A = ℕ} 0 1 = cc in omega arith))
-      (λ t. let k = fullAckOf (h .history) b (natAbs now) (h .rtt .mean) (h .latency) (h .window .lrsn) in acked timed z (k .acked .history) (k .acked .answer)))
+      (λ t. let k = fullAckOf (h .history) b now (h .rtt .mean) (h .latency) (h .window .lrsn) in acked timed z (k .acked .history) (k .acked .answer)))
       (λ z. earlier z refl)
 
   acked2 : (n : ℕ) → n ≡ 0 → (number : ℕ) (y : History) (x : Ack2Answer) → Refuses n (calls.Ack2 now number) (answers.Ack2 (afterAck2 h y x now .answer))
@@ -155,7 +155,7 @@ module _ (h : Head) (b : List ℕ) (now : ℤ) where
   unfolding ack2CallOf heldAck2
   ack2-refuses number =
       by-refusal (λ (o : Ack2Outcome). Refuses timed (calls.Ack2 now number) (answers.Ack2 (o .acked2 .answer))) timed _ _
-      (λ z. let k = ack2Of (h .history) b (natAbs now) number in acked2 timed z number (k .history) (k .answer))
+      (λ z. let k = ack2Of (h .history) b now number in acked2 timed z number (k .history) (k .answer))
       (λ z. earlier z refl)
 
   synced : (n : ℕ) → n ≡ 0 → (stamp : ℕ) (k : SynchronizedRemoteClock) (x : Synchronized) → Refuses n (calls.Clock now stamp) (answers.Clock (afterSync h k x now .answer))

@@ -5,7 +5,7 @@ use mathlib.Core.Bool.{Bool, true, false, cond}
 use mathlib.Core.List.{List}
 use Prim.Native.Nat.{ℕ}
 use lib.Dec.{eqb}
-use lib.IntN.{ℤ, natAbs}
+use lib.IntN.{ℤ}
 use lib.ListN.{length}
 use Rattle.numbers.proofs.Flags.{by-test}
 use Rattle.acks.specs.History.{lightAckOf}
@@ -48,7 +48,7 @@ module _ (h : Head) (ws bs : List ℕ) (now : ℤ) where
     unfolding dataCallOf takenOf
     data-head =
         by-test (λ (o : DataOutcome). (o .line .refusal ≡ 0 → ⊥) → o .handled .head ≡ h) (eqb dataTests 0) _ _
-        (λ t e. let o = pushOf (h .window) ws bs (natAbs now) p payload in push-head (o .pushed .window) (o .pushed .answer) (length payload) e)
+        (λ t e. let o = pushOf (h .window) ws bs now p payload in push-head (o .pushed .window) (o .pushed .answer) (length payload) e)
         (λ t e. refl)
 
   pub message-line : (out : List ℕ) → message.popCallOf h ws bs out now .line ≡ messageLine (message.popCallOf h ws bs out now .given .answer)

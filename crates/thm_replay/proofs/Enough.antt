@@ -7,7 +7,7 @@ use Prim.Native.Nat.{ℕ, zero, suc, _+_, _*_, _≤_}
 use native.Mathlib.Omega.{arith}
 use borrow.Author.Tests.{eqb-true, eqb-false, le-ltb}
 use lib.Dec.{eqb, ltb}
-use lib.IntN.{ℤ, natAbs}
+use lib.IntN.{ℤ}
 use lib.ListN.{length}
 use lib.Signed.{ltZ}
 use Rattle.numbers.proofs.Flags.{by-test, impossible}
@@ -111,7 +111,7 @@ module _ (h : Head) (ws bs : List ℕ) (now : ℤ) (p : Packet) (payload : List 
   unfolding dataCallOf receiving.takenOf
   data-enough a b =
       by-refusal (λ (o : receiving.DataOutcome). Enough (dataLine (o .handled .answer) .refusal)) (firstRefusal pushTests) _ _
-      (λ z. let o = pushOf (h .window) ws bs (natAbs now) p payload in push-enough (o .pushed .window) (o .pushed .answer) (p .number) (length payload))
+      (λ z. let o = pushOf (h .window) ws bs now p payload in push-enough (o .pushed .window) (o .pushed .answer) (p .number) (length payload))
       (λ z. first-enough 0 pushTests refl (
         λ e. refl,
         (long-enough (length ws) (3 * h .window .capacity) a,
@@ -124,7 +124,7 @@ module _ (h : Head) (ws bs : List ℕ) (now : ℤ) (p : Packet) (payload : List 
   data-capacity =
       by-refusal (λ (o : receiving.DataOutcome). o .handled .head .window .capacity ≡ h .window .capacity) (firstRefusal pushTests) _ _
       (λ z.
-      push-cases (h .window) ws bs (natAbs now) p payload
+      push-cases (h .window) ws bs now p payload
       (λ (o : PushOutcome). receiving.afterPush h (o .pushed .window) (o .pushed .answer) now (p .number) (length payload) .head .window .capacity ≡ h .window .capacity)
       (λ q c. refl)
       (λ q. refl)
@@ -201,12 +201,12 @@ module _ (h : Head) (ws list : List ℕ) (now : ℤ) where
   abbrev ReportEnough : ReportOutcome → Type 0
   ReportEnough x = Enough (lossLine (loss.answerOf (x .answer)) (x .list) .refusal)
 
-  report-fits : h .window .held ≤ length list → ReportEnough (reportOf (h .window) ws (natAbs now) (h .rtt .mean) list)
+  report-fits : h .window .held ≤ length list → ReportEnough (reportOf (h .window) ws now (h .rtt .mean) list)
   unfolding reportOf
   report-fits fits =
       let w = h .window in
-      let n = needed w ws (natAbs now) (h .rtt .mean) in
-      let most : n ≤ length list = omega (arith, needed-held w ws (natAbs now) (h .rtt .mean)) in
+      let n = needed w ws now (h .rtt .mean) in
+      let most : n ≤ length list = omega (arith, needed-held w ws now (h .rtt .mean)) in
       by-test ReportEnough (eqb n 0) _ _ (λ t. refl) (λ t. rw (le-ltb _ _ most))
 
   report-enough : h .window .capacity ≤ length list → 3 * h .window .capacity ≤ length ws → Enough (lossLine (reportCallOf h ws list now .reported .answer) (reportCallOf h ws list now .list) .refusal)
@@ -223,7 +223,7 @@ module _ (h : Head) (ws list : List ℕ) (now : ℤ) where
   unfolding reportCallOf loss.reportedOf
   list-long =
       by-refusal (λ (o : loss.LossOutcome). length (o .list) ≡ length list) (firstRefusal reportTests) _ _
-      (λ z. list-keeps (h .window) ws (natAbs now) (h .rtt .mean) list)
+      (λ z. list-keeps (h .window) ws now (h .rtt .mean) list)
       (λ z. refl)
 
 -- ACKs
@@ -247,7 +247,7 @@ module _ (h : Head) (a : List ℕ) (now : ℤ) where
   full-ack-enough l =
       by-refusal AckEnough (firstRefusal ackTests) _ _
       (λ z.
-      let o = fullAckOf (h .history) a (natAbs now) (h .rtt .mean) (h .latency) (h .window .lrsn) in
+      let o = fullAckOf (h .history) a now (h .rtt .mean) (h .latency) (h .window .lrsn) in
       by-test AckEnough (eqb (roomOf (h .window)) 0) _ _ (λ t. refl) (λ t. after-ack (o .acked .history) (o .acked .answer)))
       (λ z. ack-tests l)
 
@@ -258,7 +258,7 @@ module _ (h : Head) (a : List ℕ) (now : ℤ) where
       (λ z.
       by-test (λ (o : acking.FullAckOutcome). length (o .area) ≡ length a) (eqb (roomOf (h .window)) 0) _ _
       (λ t. refl)
-      (λ t. full-ack-length (h .history) a (natAbs now) (h .rtt .mean) (h .latency) (h .window .lrsn)))
+      (λ t. full-ack-length (h .history) a now (h .rtt .mean) (h .latency) (h .window .lrsn)))
       (λ z. refl)
 
   after-ack2 : (y : History) (x : Ack2Answer) → Enough (rttLine (acking.afterAck2 h y x now .answer) .refusal)
@@ -269,7 +269,7 @@ module _ (h : Head) (a : List ℕ) (now : ℤ) where
   unfolding ack2CallOf acking.heldAck2
   ack2-enough number l =
       by-refusal (λ (o : acking.Ack2Outcome). Enough (rttLine (o .acked2 .answer) .refusal)) (firstRefusal ackTests) _ _
-      (λ z. let k = ack2Of (h .history) a (natAbs now) number in after-ack2 (k .history) (k .answer))
+      (λ z. let k = ack2Of (h .history) a now number in after-ack2 (k .history) (k .answer))
       (λ z. ack-tests l)
 
 -- a drop request, a clock sample and a clear

@@ -4,11 +4,12 @@ use mathlib.Core.Bool.{Bool, not}
 use mathlib.Core.List.{List, [], _∷_}
 use Prim.Native.Nat.{ℕ, _+_, _^_}
 use lib.Dec.{eqb}
+use lib.IntN.{pos}
 use lib.ListN.{take}
 use Rattle.numbers.specs.Circular.{distance, sum}
 use Rattle.slots.specs.Words.{entryOf, entryAt, writeReport}
 use Rattle.slots.specs.Ring.{slotOf}
-use Rattle.window_report.specs.Report.{runPut, slotsTo, runsTo, listTo, reportOf}
+use Rattle.window_report.specs.Report.{isDue, runPut, slotsTo, runsTo, listTo, reportOf}
 use Rattle.window.specs.declared.Window.{Window}
 use Rattle.thm_report.specs.Named.{numbersFrom, numbersAfter, numbersIn, dueNumbers}
 
@@ -24,8 +25,8 @@ five = record { capacity = 5; start = 0; held = 5; seqno0 = 2147483646; lrsn = 2
 abbrev slots : List ℕ
 slots = 0 ∷ 2 ∷ 0 ∷ 0 ∷ 2 ∷ 0 ∷ 0 ∷ 2 ∷ 0 ∷ 1 ∷ 0 ∷ 0 ∷ 0 ∷ 2 ∷ 0 ∷ []
 
-words-written : take 3 (reportOf five slots 20001 10000 (9 ∷ 9 ∷ 9 ∷ 9 ∷ []) .list) ≡ ((2 ^ 31 + 2147483646) ∷ 0 ∷ 2 ∷ [])
-unfolding reportOf slotsTo runsTo listTo runPut writeReport entryAt entryOf slotOf sum
+words-written : take 3 (reportOf five slots (pos 20001) 10000 (9 ∷ 9 ∷ 9 ∷ 9 ∷ []) .list) ≡ ((2 ^ 31 + 2147483646) ∷ 0 ∷ 2 ∷ [])
+unfolding reportOf isDue slotsTo runsTo listTo runPut writeReport entryAt entryOf slotOf sum
 words-written = refl
 
 words-named : numbersIn ((2 ^ 31 + 2147483646) ∷ 0 ∷ 2 ∷ []) ≡ dueNumbers five (λ i. not (eqb i 3)) 5

@@ -8,6 +8,7 @@ use native.Mathlib.Numerals.{add-one}
 use native.Mathlib.Omega.{arith}
 use borrow.Author.Tests.{lt-ltb, le-ltb, eqb-true, eqb-false, ltb-false}
 use lib.Dec.{ltb, eqb}
+use lib.IntN.{ℤ}
 use lib.ListN.{length, take, set, length-set}
 use lib.Seq.{take-suc-set}
 use Rattle.numbers.specs.Circular.{distance, sum}
@@ -148,7 +149,7 @@ module _ (w : Window) (due : ℕ → Bool) where
         let z : suc i - suc i ≡ 0 = omega arith in
         record { before = omega arith; words = rw (t, append-nil) said-closed; rest = rw (z, append-nil) }
 
-module _ (w : Window) (ws : List ℕ) (time mean : ℕ) (list : List ℕ) (fits : needed w ws time mean ≤ length list) (most : w .held ≤ 2 ^ 31) where
+module _ (w : Window) (ws : List ℕ) (time : ℤ) (mean : ℕ) (list : List ℕ) (fits : needed w ws time mean ≤ length list) (most : w .held ≤ 2 ^ 31) where
   room-to : (i : ℕ) → i ≤ w .held → runsTo w ws time mean i .words + runWords (runsTo w ws time mean i) i ≤ length (listTo w ws time mean list i)
   room-to i h = omega (arith, words-rise w ws time mean i (w .held) h, length-list w ws time mean list i)
 
@@ -171,7 +172,7 @@ module _ (w : Window) (ws : List ℕ) (time mean : ℕ) (list : List ℕ) (fits 
       (said-closed w (dueAt w ws time mean) i (listTo w ws time mean list i) (runsTo w ws time mean i) most (room-to i (omega arith)) (runs-within w ws time mean i) (said-to i (omega arith)))
 
 -- what a report leaves in the lent list names the due entries, all of them and no others, in order; no report is where there is none
-module _ (w : Window) (ws : List ℕ) (time mean : ℕ) (list : List ℕ) (good : InWindow w) where
+module _ (w : Window) (ws : List ℕ) (time : ℤ) (mean : ℕ) (list : List ℕ) (good : InWindow w) where
   few : w .held ≤ 2 ^ 31
   few = omega (arith, good .holds, good .most)
 
