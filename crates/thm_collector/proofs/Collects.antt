@@ -1,7 +1,7 @@
 -- A collector's calls are a run of the ledger's theorem: the words after each say the head of that run, the areas, the output and the list are its own, and so are the cells and the
 -- counters. From the contracts of crates/exports, and of each call that its line is its answer's and that a refusal leaves the head. Assumes nothing.
 use mathlib.Core.Path.{_≡_, refl, ap, sym, _∙_, subst}
-use mathlib.Core.Bool.{Bool, true, false, cond}
+use mathlib.Core.Bool.{cond}
 use mathlib.Core.List.{List, [], _∷_}
 use Prim.Native.Nat.{ℕ}
 use borrow.Author.Tests.{eqb-false}
@@ -29,15 +29,14 @@ use Rattle.tally.specs.Tally.{countedOf}
 use Rattle.packing.specs.Packed.{unpackOf}
 use Rattle.packing.specs.Tally.{countersWords, countersOf}
 use Rattle.cells.specs.Cells.{cellsOf}
-use Rattle.exports.specs.Calls.{Left, left, newOf, dataExportOf, messageExportOf, lossExportOf, fullAckExportOf, ack2ExportOf, dropExportOf, clockExportOf, clearExportOf, dataCountedOf, ack2CountedOf, dropCountedOf, clockCountedOf}
-use Rattle.step.specs.Step.{State, stateOf, Lent, Ended, stepOf}
+use Rattle.exports.specs.Calls.{Left, newOf, dataExportOf, messageExportOf, lossExportOf, fullAckExportOf, ack2ExportOf, dropExportOf, clockExportOf, clearExportOf, dataCountedOf, ack2CountedOf, dropCountedOf, clockCountedOf}
+use Rattle.step.specs.Step.{State, stateOf, Lent, stepOf}
 use Rattle.step.specs.declared.Call.{Call}
 use Rattle.step.specs.declared.Call.the-variants as calls
-use Rattle.step.specs.declared.Answer.{Answer}
-use Rattle.ledger.specs.Runs.{Event, Desk, opening, bookAfter, Fresh, Known, Empty, NoneClear}
+use Rattle.ledger.specs.Runs.{Desk, opening, bookAfter, Fresh, Known, Empty, NoneClear}
 use Rattle.ledger.specs.Claims.{Demanded}
 use Rattle.ledger.proofs.Theorem.{ledger-theorem, stretch-theorem, clear-empty}
-use Rattle.thm_collector.specs.Collector.{deskAt, Kept, stateIn, Back, cellsIn, Started, Form, plain, counted, Promised, PromisedCounted, Gives, Turn, events, keptAfter, Ran, Same, runOf, answerTo, AllSame, raisedBy, countersAfter, Collected}
+use Rattle.thm_collector.specs.Collector.{deskAt, Kept, stateIn, Back, Started, Form, plain, counted, Promised, PromisedCounted, Gives, Turn, events, keptAfter, Ran, Same, runOf, AllSame, raisedBy, countersAfter, Collected}
 
 -- the parts of what a call leaves
 abbrev returnedIn : Left → ℕ

@@ -5,7 +5,7 @@ use mathlib.Core.Bool.{Bool, true, false, _&&_, cond}
 use mathlib.Core.List.{List, [], _∷_}
 use Prim.Native.Nat.{ℕ, zero, suc, _+_, _*_, _≤_}
 use native.Mathlib.Omega.{arith}
-use borrow.Author.Tests.{eqb-true, eqb-false, le-ltb}
+use borrow.Author.Tests.{le-ltb}
 use lib.Dec.{eqb, ltb}
 use lib.IntN.{ℤ}
 use lib.ListN.{length}
@@ -32,16 +32,14 @@ use Rattle.window.specs.declared.push.Packet.{Packet}
 use Rattle.window.specs.declared.push.PushAnswer.{PushAnswer}
 use Rattle.window.specs.declared.push.PushAnswer.the-variants as pushes
 use Rattle.window.proofs.Ranges.{in-window}
-use Rattle.window_pop.specs.Pop.{PopOutcome, popEnded, noMessage, runFrom, messageOf, dueOf, lateOf, releasedOf, frontOf, popOf}
+use Rattle.window_pop.specs.Pop.{PopOutcome, popEnded, runFrom, messageOf, dueOf, releasedOf, frontOf, popOf}
 use Rattle.window_pop.specs.declared.pop.Message.{Message}
 use Rattle.window_pop.specs.declared.pop.Popped.{Popped}
 use Rattle.window_pop.proofs.PopLaws.{late-cases, pop-length}
-use Rattle.window_report.specs.Report.{ReportOutcome, reportEnded, needed, slotsTo, listAll, reportOf}
-use Rattle.window_report.specs.declared.report.ReportAnswer.the-variants as reports
+use Rattle.window_report.specs.Report.{ReportOutcome, needed, reportOf}
 use Rattle.window_report.proofs.ReportLaws.{needed-held, list-keeps}
 use Rattle.head.specs.Rules.{Rule, thenOf, firstFrom, firstRefusal, pushRules, popRules, timedRules, dropRules, clockRules, headRules}
 use Rattle.head.specs.Head.{headOk}
-use Rattle.head.specs.Parts.{withLatest}
 use Rattle.head.specs.declared.state.Head.{Head}
 use Rattle.head.proofs.Ready.{timed-ready, pop-ready}
 use Rattle.receiver.specs.Data as receiving
@@ -56,7 +54,6 @@ use Rattle.feedback.specs.Loss.{reportCallOf}
 use Rattle.feedback.specs.Paper.{lossLine, clockLine, fullAckLine, rttLine}
 use Rattle.feedback.specs.Sync as sync
 use Rattle.feedback.specs.Sync.{clockCallOf}
-use Rattle.feedback.specs.declared.acking.FullAckAnswer.the-variants as answered
 use Rattle.upkeep.specs.Paper.{dropLine, clearLine}
 use Rattle.upkeep.specs.Request as request
 use Rattle.upkeep.specs.Request.{dropCallOf, clearCallOf}

@@ -1,13 +1,13 @@
 -- A replay of a trace is a run of the ledger's theorem, and its output is the lines of that run's answers. Assumes nothing.
 use mathlib.Core.Path.{_≡_, refl, sym, _∙_, ap, subst}
 use mathlib.Core.Bool.{Bool, true, false, _&&_, not, cond}
-use mathlib.Core.List.{List, [], _∷_, _++_, append-assoc}
-use Prim.Native.Nat.{ℕ, zero, suc, _+_, _^_, _<_, _≤_}
+use mathlib.Core.List.{List, _++_, append-assoc}
+use Prim.Native.Nat.{ℕ, zero, suc, _+_, _<_, _≤_}
 use native.Mathlib.Numerals.{add-one}
 use native.Mathlib.Omega.{arith}
 use borrow.Author.Tests.{eqb-true, eqb-false, leb-true, not-true, not-false}
 use lib.Dec.{eqb, leb}
-use lib.ListN.{length, getD, drop, length-drop}
+use lib.ListN.{length, length-drop}
 use lib.Seq.{getD-drop}
 use Rattle.numbers.specs.Circular.{sum}
 use Rattle.numbers.proofs.Circle.{sum-sum}
@@ -21,18 +21,18 @@ use Rattle.dlt.specs.declared.record.RecordRead.{RecordRead}
 use Rattle.dlt.specs.declared.record.RecordRead.the-variants as records
 use Rattle.dlt.proofs.Laws.{AreBytes, RecordFit, record-fits, size-within}
 use Rattle.lines.specs.Lines.{lineBytes, endBytes, badBytes}
-use Rattle.step.specs.Step.{State, stateOf, Lent, lentFor, Ended, stepOf}
+use Rattle.step.specs.Step.{State, Lent, lentFor, Ended, stepOf}
 use Rattle.step.specs.declared.Call.{Call}
 use Rattle.tally.specs.Tally.{tallied, tallyBytes}
 use Rattle.tally.specs.declared.Tally.{Tally}
-use Rattle.trace.specs.Trace.{Areas, Replay, callIn, payloadIn, called, replayed, lineOf, closing, linesOf, isRefused, freshReplay, outputOf}
+use Rattle.trace.specs.Trace.{Areas, Replay, callIn, called, lineOf, closing, linesOf, freshReplay, outputOf}
 use Rattle.trace.specs.Lends.{mostCapacity, AreasLent, areasMade}
-use Rattle.trace.proofs.Laws.{madeIn, behind, lines-record, lines-close}
+use Rattle.trace.proofs.Laws.{madeIn, lines-record, lines-close}
 use Rattle.ledger.specs.Seen.{NotClear}
-use Rattle.ledger.specs.Runs.{Event, Desk, Book, opening, answered, bookAfter, Fresh, Known, Empty, NoneClear}
+use Rattle.ledger.specs.Runs.{Event, Desk, opening, bookAfter, Fresh, Known, Empty, NoneClear}
 use Rattle.ledger.proofs.Theorem.{ledger-theorem, stretch-theorem, clear-empty}
 use Rattle.thm_replay.specs.Short.{saysShort, lentIn}
-use Rattle.thm_replay.specs.Replay.{Accepted, headIn, deskIn, restAfter, recordAt, payloadAt, offsetOf, replayAfter, isSound, isClear, SoundTo, NoClearTo, later, CallsFrom, startOf, runOf, outputAfter, listAfter, eventOf, eventsOf, stateAfter, stretchOf, answerAt, lineAt, linesTo, tallyAfter, closingAt, IsRun, BeginsAs, IsAll, Replayed, Stretched}
+use Rattle.thm_replay.specs.Replay.{Accepted, headIn, deskIn, restAfter, recordAt, payloadAt, offsetOf, replayAfter, isSound, isClear, SoundTo, NoClearTo, later, CallsFrom, startOf, runOf, eventOf, eventsOf, stateAfter, stretchOf, answerAt, lineAt, linesTo, tallyAfter, closingAt, IsRun, BeginsAs, IsAll, Replayed, Stretched}
 use Rattle.thm_replay.proofs.Enough.{step-enough, step-capacity, step-lent}
 
 positive : (n : ℕ) → eqb n 0 ≡ false → 0 < n
