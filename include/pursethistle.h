@@ -23,10 +23,10 @@
  * A receiver is a head and three areas, all of them the caller's memory, lent for the time of a call. The library allocates
  * nothing, keeps nothing between calls and starts no thread, so two receivers may be used by two threads at once. Head and areas
  * are plain data: copied together they are a second receiver.
- * A call takes any contents and any numbers: what is wrong is refused by its number, and then nothing has changed, but
- * answer, and the counters where a data packet is refused 7 to 10. A pointer must be valid for its length, aligned for its
- * type and not null, also for length 0; no two of them may overlap; and a bool must be 0 or 1: only this the library cannot
- * test.
+ * A call takes any contents and any numbers. What is wrong is refused by its number. Then nothing has changed, except
+ * answer, and the counters if a data packet is refused 7 to 10. A pointer must be valid for its length, aligned for its
+ * type and not null, also for length 0; no two of them may overlap; and a bool must be 0 or 1: only this the library
+ * cannot test.
  *
  * Each call returns 0, or the number of its refusal (enum pt_refusal), and writes all ten cells of answer: the word (enum
  * pt_word), then the values named below from answer[1] on, 0 in every other cell. A refusal answers PT_WORD_REFUSED, without
@@ -213,7 +213,7 @@ uint32_t pt_pop_next_message(uint64_t head[PT_HEAD_WORDS], int64_t answer[PT_ANS
 uint32_t pt_on_nak_event(uint64_t head[PT_HEAD_WORDS], int64_t answer[PT_ANSWER_CELLS], uint64_t *slots, size_t slots_len,
                          uint32_t *words, size_t words_len, int64_t now);
 
-/* Asks for the full ACK that is due. Refuses 1 to 4 and 13.
+/* Asks for the full ACK that is due; SRT asks each 10 ms. Refuses 1 to 4 and 13.
  * Answers ACK: its number, lrsn, mean and variance of the round trip, room, packet_receive_rate (packets a second),
  * estimated_link_capacity (bytes a second), data_receive_rate (the link's packets a second; the last three may be PT_NO_RATE);
  * NONE. */
