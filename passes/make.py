@@ -98,10 +98,14 @@ def over_half_turn(before):
 half_turn = over_half_turn(lambda now: clock(now, now))
 half_turn_no_clock = over_half_turn(pop)
 
-for name, recording in (("half_turn", half_turn), ("half_turn_no_clock", half_turn_no_clock)):
-    (HERE / f"{name}.dlt").write_bytes(recording)
-
 CRATES = HERE.parent / "crates"
-for name, recording, case in (("wrap", wrap, "pursethistle"), ("recovered", recovered, "case_replay"), ("twice", twice, "case_replay")):
+PASSES = (
+    ("wrap", wrap, "pursethistle"),
+    ("recovered", recovered, "case_replay"),
+    ("twice", twice, "case_replay"),
+    ("half_turn", half_turn, "case_replay"),
+    ("half_turn_no_clock", half_turn_no_clock, "case_replay"),
+)
+for name, recording, case in PASSES:
     for folder in (HERE, CRATES / case / "data"):
         (folder / f"{name}.dlt").write_bytes(recording)

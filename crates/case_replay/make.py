@@ -2,7 +2,7 @@
 """Writes data/*.dlt, args and stdout of case_replay, and data/worked.dlt, stdin and stdout of replay, beside it.
 
 A trace is written as in docs/DECISIONS.md, "Notation". The lines and the counters were worked out by hand from docs/01-scope.md, "Trace, mark DLT" and
-"Counters follow 003", and stand here beside the records; none is copied from a run. The two passes that the program pursethistle does not replay in
+"Counters follow 003", and stand here beside the records; none is copied from a run. The passes that the program pursethistle does not replay in
 the gate come last, with the lines of their .txt files.
 """
 import os
@@ -162,6 +162,8 @@ CASES = [
     case("runs", header(0, 0, 0, 2 ** 31 - 7, 32), runs(), f"end 12 {2 ** 31 - 7} {2 ** 31 - 7} 32", (11, 176, 11, 176, 0, 0, 0, 0, 0, 0)),
     recorded("recovered", (6, 144, 4, 96, 2, 0, 0, 0, 0, 0)),   # a frame has 8 bytes, so it counts 24
     recorded("twice", (9, 216, 3, 72, 0, 3, 72, 0, 0, 0)),
+    recorded("half_turn", (8, 192, 6, 144, 2, 0, 0, 0, 0, 0)),  # frames 1 and 5 come again, and both are recovered
+    recorded("half_turn_no_clock", (8, 192, 6, 144, 1, 1, 24, 0, 0, 0)),  # frame 5 is refused 9
 ]
 
 
