@@ -96,7 +96,9 @@ fn step(file: &mut Reader, receiver: &mut Receiver, output: &mut [u8], words: &m
             None => String::new(),
         }),
         4 => receiver.on_full_ack_event(file.time()?).map(|ack| match ack {
-            Some(FullAck { number, lrsn, rtt: Rtt { mean, variance }, room, packets, bytes, link }) => {
+            Some(ack) => {
+                let FullAck { number, lrsn, rtt: Rtt { mean, variance }, room, .. } = ack;
+                let (packets, bytes, link) = (ack.packet_receive_rate, ack.estimated_link_capacity, ack.data_receive_rate);
                 format!("ack {number} {lrsn} {mean} {variance} {room} {} {} {}", rate(packets), rate(bytes), rate(link))
             }
             None => String::new(),

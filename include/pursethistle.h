@@ -180,9 +180,9 @@ uint32_t pt_on_nak_event(uint64_t head[PT_HEAD_WORDS], int64_t answer[PT_ANSWER_
                          uint32_t *words, size_t words_len, int64_t now);
 
 /* Asks for the full ACK that is due. Refuses 1 to 4 and 13.
- * Answers ACK: its number, lrsn, mean and variance of the round trip, room, packets a second, bytes a second, and the link's
- * packets a second (the last three may be PT_NO_RATE); NONE. By 01 the bytes go out in the ACK's field estimated_link_capacity
- * and the link's figure in data_receive_rate. */
+ * Answers ACK: its number, lrsn, mean and variance of the round trip, room, packet_receive_rate (packets a second),
+ * estimated_link_capacity (bytes a second), data_receive_rate (the link's packets a second; the last three may be PT_NO_RATE);
+ * NONE. */
 uint32_t pt_on_full_ack_event(uint64_t head[PT_HEAD_WORDS], int64_t answer[PT_ANSWER_CELLS], uint64_t *history,
                               size_t history_len, int64_t now);
 

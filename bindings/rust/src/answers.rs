@@ -73,11 +73,11 @@ pub struct FullAck {
     /// Free slots.
     pub room: usize,
     /// Packets a second, if known.
-    pub packets: Option<u32>,
-    /// Bytes a second, if known. It goes out in the field `estimated_link_capacity`, as in the Rust that was ported.
-    pub bytes: Option<u32>,
-    /// The link's packets a second, if known. It goes out in the field `data_receive_rate`.
-    pub link: Option<u32>,
+    pub packet_receive_rate: Option<u32>,
+    /// Bytes a second, if known.
+    pub estimated_link_capacity: Option<u32>,
+    /// The link's packets a second, if known.
+    pub data_receive_rate: Option<u32>,
 }
 
 /// What came of a sample of the sender's clock.
@@ -154,9 +154,9 @@ pub(crate) fn full_ack(answer: &Answer) -> Option<FullAck> {
             lrsn: cell(answer, 2),
             rtt: Rtt { mean: cell(answer, 3), variance: cell(answer, 4) },
             room: cell(answer, 5),
-            packets: rate(answer, 6),
-            bytes: rate(answer, 7),
-            link: rate(answer, 8),
+            packet_receive_rate: rate(answer, 6),
+            estimated_link_capacity: rate(answer, 7),
+            data_receive_rate: rate(answer, 8),
         }),
         _ => unknown(answer),
     }

@@ -165,7 +165,7 @@ impl Receiver {
     /// # let packet = DataPacket { number: 0, message: 1, location: FIRST | LAST, stamp: 0, payload: b"" };
     /// # receiver.handle_data_packet(0, packet)?;
     /// let ack = receiver.on_full_ack_event(0)?.expect("a packet came");
-    /// assert_eq!((ack.number, ack.lrsn, ack.room, ack.packets), (1, 1, 1, None));
+    /// assert_eq!((ack.number, ack.lrsn, ack.room, ack.packet_receive_rate), (1, 1, 1, None));
     /// assert_eq!(receiver.handle_ack2_packet(18_000, ack.number)?, Some(Rtt { mean: 11_000, variance: 2_500 }));
     /// assert_eq!(receiver.handle_ack2_packet(18_000, 2)?, None);
     /// # Ok::<(), Refusal>(())

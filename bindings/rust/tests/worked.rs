@@ -49,9 +49,9 @@ fn p2_the_round_trip() {
         lrsn: 1,
         rtt: Rtt { mean: 10_000, variance: 1_000 },
         room: 1,
-        packets: None,
-        bytes: None,
-        link: None,
+        packet_receive_rate: None,
+        estimated_link_capacity: None,
+        data_receive_rate: None,
     };
     assert_eq!(r.on_full_ack_event(0), Ok(Some(ack)));
     assert_eq!(r.handle_ack2_packet(18_000, 1), Ok(Some(Rtt { mean: 11_000, variance: 2_500 })));
@@ -172,7 +172,9 @@ fn light_acks_and_rates() {
     // A packet of 10 bytes each 100 microseconds.
     let ack = r.on_full_ack_event(25_500).unwrap().unwrap();
     assert_eq!((ack.number, ack.lrsn, ack.room), (1, 256, 256));
-    assert_eq!((ack.packets, ack.bytes, ack.link), (Some(10_000), Some(100_000), Some(10_000)));
+    assert_eq!(ack.packet_receive_rate, Some(10_000));
+    assert_eq!(ack.estimated_link_capacity, Some(100_000));
+    assert_eq!(ack.data_receive_rate, Some(10_000));
 }
 
 /// The first drift adjusts at once; then a thousand samples adjust, or are unsteady with their variance.

@@ -2,15 +2,16 @@
 use mathlib.Core.Path.{_≡_, refl, sym, _∙_, subst}
 use mathlib.Core.Bool.{Bool, true, false, _&&_}
 use mathlib.Core.List.{List}
-use Prim.Native.Nat.{ℕ, _+_, _-_, _*_, _^_, _<_, _≤_, min}
+use Prim.Native.Nat.{ℕ, _+_, _-_, _*_, _^_, _<_, _≤_}
 use native.Mathlib.Nat.{mod-lt, mod-eq-of-lt}
 use native.Mathlib.Omega.{arith}
 use borrow.Author.Tests.{ltb-true, leb-true, eqb-true, eqb-false, lt-ltb, le-leb}
 use lib.Dec.{eqb, ltb, leb}
-use lib.IntN.{pos}
+use lib.IntN.{ℤ, pos, natAbs}
 use lib.ListN.{length, getD, set, length-set}
 use lib.Seq.{getD-set-same, getD-set-other}
 use Rattle.numbers.specs.Circular.{before, sum}
+use Rattle.numbers.specs.Instants.{readBy}
 use Rattle.numbers.proofs.Flags.{and-left, and-right, by-bool, by-test}
 use Rattle.acks.specs.History.{ackSlot, numberAt, departureAt, writeAck, freshHistory, noneDue, newestOf, isWorn, leaving, nextAck, firstAfter, AckOutcome, grown, appendOf, fullAckOf, withLargest, withLast, isHeld, ack2Of, lightAckOf, clearedOf, historyOk}
 use Rattle.acks.specs.Ready.{HistoryReady}
@@ -111,7 +112,7 @@ next-fits h r w =
 
 -- each call keeps the ranges
 module _ (h : History) (e : historyOk h ≡ true) where
-  pub full-ack-kept : (a : List ℕ) (now mean latency lrsn : ℕ) → lrsn < 2 ^ 31 → historyOk (fullAckOf h a now mean latency lrsn .acked .history) ≡ true
+  pub full-ack-kept : (a : List ℕ) (now : ℤ) (mean latency lrsn : ℕ) → lrsn < 2 ^ 31 → historyOk (fullAckOf h a now mean latency lrsn .acked .history) ≡ true
   unfolding fullAckOf appendOf
   full-ack-kept a now mean latency lrsn k =
       by-test (λ (o : AckOutcome). historyOk (o .acked .history) ≡ true) (noneDue h a now mean lrsn) _ _
@@ -134,7 +135,7 @@ module _ (h : History) (e : historyOk h ≡ true) where
         lastack = k;
       })))
 
-  pub ack2-kept : (a : List ℕ) (now number : ℕ) → historyOk (ack2Of h a now number .history) ≡ true
+  pub ack2-kept : (a : List ℕ) (now : ℤ) (number : ℕ) → historyOk (ack2Of h a now number .history) ≡ true
   unfolding ack2Of
   ack2-kept a now number =
       let r = history-ranges h e in
@@ -164,14 +165,14 @@ abbrev Small : Ack2Answer → Type 0
 Small NotHeld = Unit
 Small (Held r) = r < 2 ^ 31
 
-pub ack2-small : (h : History) (a : List ℕ) (now number : ℕ) {r : ℕ} → ack2Of h a now number .answer ≡ Held r → r < 2 ^ 31
+pub ack2-small : (h : History) (a : List ℕ) (now : ℤ) (number : ℕ) {r : ℕ} → ack2Of h a now number .answer ≡ Held r → r < 2 ^ 31
 unfolding ack2Of
 ack2-small h a now number e =
     subst Small e
-    (by-test (λ (o : Answered). Small (o .answer)) (isHeld h number) _ _ (λ t. since-under (pos now) (pos (departureAt a (ackSlot (h .start) (number - h .first)) now))) (λ t. tt))
+    (by-test (λ (o : Answered). Small (o .answer)) (isHeld h number) _ _ (λ t. since-under now (departureAt a (ackSlot (h .start) (number - h .first)) now)) (λ t. tt))
 
 -- an entry that is written is read back, and every other word stays
-module _ (a : List ℕ) (p n d : ℕ) where
+module _ (a : List ℕ) (p n : ℕ) (d : ℤ) where
   pub length-write : length (writeAck a p n d) ≡ length a
   unfolding writeAck
   length-write = simp length-set
@@ -179,20 +180,20 @@ module _ (a : List ℕ) (p n d : ℕ) where
   module _ (l : 2 * p + 1 < length a) where
     pub number-written : n < 2 ^ 31 → numberAt (writeAck a p n d) p ≡ n
     unfolding writeAck
-    number-written h = rw (getD-set-other (set a (2 * p) n) (2 * p + 1) (2 * p) d 0 (λ e. omega arith), getD-set-same a (2 * p) n 0 (omega arith)) (mod-eq-of-lt h)
+    number-written h = rw (getD-set-other (set a (2 * p) n) (2 * p + 1) (2 * p) (natAbs d) 0 (λ e. omega arith), getD-set-same a (2 * p) n 0 (omega arith)) (mod-eq-of-lt h)
 
-    pub departure-written : (now : ℕ) → d < 2 ^ 60 → departureAt (writeAck a p n d) p now ≡ min d now
-    unfolding writeAck
+    pub departure-written : (now : ℤ) → natAbs d < 2 ^ 60 → departureAt (writeAck a p n d) p now ≡ readBy now (pos (natAbs d))
+    unfolding writeAck departureAt
     departure-written now h =
         let k : 2 * p + 1 < length (set a (2 * p) n) = simp length-set l in
-        rw (getD-set-same (set a (2 * p) n) (2 * p + 1) d 0 k, mod-eq-of-lt h)
+        rw (getD-set-same (set a (2 * p) n) (2 * p + 1) (natAbs d) 0 k, mod-eq-of-lt h)
 
   pub write-stays : (j : ℕ) → (j ≡ 2 * p → ⊥) → (j ≡ 2 * p + 1 → ⊥) → getD (writeAck a p n d) j 0 ≡ getD a j 0
   unfolding writeAck
-  write-stays j e f = getD-set-other (set a (2 * p) n) (2 * p + 1) j d 0 f ∙ getD-set-other a (2 * p) j n 0 e
+  write-stays j e f = getD-set-other (set a (2 * p) n) (2 * p + 1) j (natAbs d) 0 f ∙ getD-set-other a (2 * p) j n 0 e
 
 -- a full ACK keeps the area's length, and the words past the 2,048
-module _ (h : History) (a : List ℕ) (now mean latency lrsn : ℕ) where
+module _ (h : History) (a : List ℕ) (now : ℤ) (mean latency lrsn : ℕ) where
   full-ack-area : (P : List ℕ → Type 0) → P a → ((p : ℕ) → p < 1024 → P (writeAck a p lrsn now)) → P (fullAckOf h a now mean latency lrsn .area)
   unfolding fullAckOf appendOf
   full-ack-area P x f =

@@ -2,87 +2,114 @@
 use mathlib.Core.Path.{_≡_, refl, sym, _∙_}
 use mathlib.Core.Bool.{Bool, true, false, _&&_, _||_, and-true}
 use mathlib.Core.List.{List}
-use Prim.Native.Nat.{ℕ, zero, suc, _+_, _-_, _*_, _^_, _<_, _≤_}
+use Prim.Native.Nat.{ℕ, zero, suc, _+_, _-_, _*_, _%_, _^_, _<_, _≤_}
 use native.Mathlib.Omega.{arith}
 use borrow.Author.Needs.{needs}
 use borrow.Author.Tests.{eq-eqb, ne-eqb, eqb-true, eqb-false, lt-ltb, le-ltb, le-leb, lt-leb}
 use lib.Dec.{eqb, ltb, leb}
-use lib.IntN.{pos, _-ℤ_}
-use lib.ListN.{length, set, length-set}
+use lib.IntN.{ℤ, pos, natAbs, _+ℤ_}
+use lib.ListN.{length, getD, set, length-set}
 use lib.Signed.{ltZ}
 use mir.Syntax.{w64}
-use mir.Val.{Fits}
+use mir.Val.{Fits, SFits, toZ}
+use mir.Facts.{toZ-pos}
 use Rattle.numbers.specs.Circular.{before, sum}
-use Rattle.numbers.specs.Instants.{intervalOf, sinceTime}
+use Rattle.numbers.specs.Instants.{readBy, sinceTime}
 use Rattle.numbers.proofs.Flags.{and-false, by-test, by-order}
-use Rattle.numbers.proofs.Halves.{size, above--, below--, halves-not-lt}
-use Rattle.numbers.proofs.Signs.{clamp-in, clamp-high}
-use Rattle.acks.specs.History.{ackSlot, numberAt, departureAt, since, writeAck, freshHistory, isRecent, noneDue, isWorn, isExpired, firstKept, leaving, nextAck, firstAfter, AckOutcome, ackEnded, appendOf, fullAckOf, withLast, ack2Of, lightAckOf, clearedOf, historyOk}
+use Rattle.numbers.proofs.Halves.{above, below, apart, above-+, below-+, range, in-range, lt-true}
+use Rattle.acks.specs.History.{ackSlot, numberAt, departureAt, writeAck, freshHistory, isRecent, noneDue, isWorn, isExpired, firstKept, leaving, nextAck, firstAfter, AckOutcome, ackEnded, appendOf, fullAckOf, withLast, ack2Of, lightAckOf, clearedOf, historyOk}
 use Rattle.acks.specs.declared.history.History.{History}
 use Rattle.acks.specs.declared.history.AckAnswer.the-variants.{Nothing, Worn, Ack}
 use Rattle.acks.specs.declared.history.Answered.{Answered}
 use Rattle.acks.specs.declared.history.Ack2Answer.the-variants.{NotHeld, Held}
 use Rattle.acks.specs.declared.history.LightAcked.{LightAcked}
 
+-- departure_at: a word's low 60 bits as an instant
+pub departure-reads : (x : ℕ) → toZ w64 (x % 2 ^ 60) ≡ pos (x % 2 ^ 60)
+departure-reads x = toZ-pos w64 (omega arith)
+
+module _ (a : List ℕ) (p : ℕ) (now : ℤ) {n d : ℤ} (e : d ≡ pos (getD a (2 * p + 1) 0 % 2 ^ 60)) where
+  pub reads-now : {n₁ : ℤ} → ltZ n d ≡ true → n ≡ now → n₁ ≡ now → n₁ ≡ departureAt a p now
+  unfolding departureAt
+  reads-now t q r = r ∙ rw (rw (q, e) at t)
+
+  pub reads-departure : {d₁ : ℤ} → ltZ n d ≡ false → n ≡ now → d₁ ≡ d → d₁ ≡ departureAt a p now
+  unfolding departureAt
+  reads-departure t q r = r ∙ e ∙ rw (rw (q, e) at t)
+
+pub ruleset departures = (departure-reads, reads-now, reads-departure, needs)
+
 -- write_ack
-pub writes : (a : List ℕ) (p n d : ℕ) → set (set a (2 * p) n) (2 * p + 1) d ≡ writeAck a p n d
+pub writes : (a : List ℕ) (p n : ℕ) (now : ℤ) {d : ℕ} {z : ℤ} → d ≡ natAbs z → z ≡ now → set (set a (2 * p) n) (2 * p + 1) d ≡ writeAck a p n now
 unfolding writeAck
-writes a p n d = refl
+writes a p n now e q = rw (e, q)
 
 pub second-in : (a : List ℕ) (p i v : ℕ) → 2 * p + 2 ≤ length a → 2 * p + 1 < length (set a i v)
 second-in a p i v h = simp length-set (omega arith)
 
--- since
-module _ (now departure : ℕ) (h : departure ≤ now) where
-  not-later : ltZ (pos now) (pos departure) ≡ false
-  not-later = halves-not-lt (pos now) (pos departure) (omega arith)
-
-  pub since-near : now - departure < 2147483647 → now - departure ≡ since now departure
-  unfolding sinceTime intervalOf
-  since-near k =
-      let z = pos now -ℤ pos departure in
-      let p = above-- (pos now) (pos departure) in
-      let q = below-- (pos now) (pos departure) in
-      rw (not-later, clamp-in z (omega arith) (omega arith)) (omega (arith, size z))
-
-  pub since-far : 2147483647 ≤ now - departure → 2147483647 ≡ since now departure
-  unfolding sinceTime intervalOf
-  since-far k =
-      let z = pos now -ℤ pos departure in
-      let p = above-- (pos now) (pos departure) in
-      rw (not-later, clamp-high z (omega arith))
-
-pub ruleset sinces = (since-near, since-far, needs)
-
 -- is_recent
-pub recent-test : (a : List ℕ) (p now mean lrsn : ℕ) {n d s : ℕ} {b : Bool}
-    → n ≡ numberAt a p → d ≡ departureAt a p now → s ≡ since now d → b ≡ before 31 lrsn n
+pub recent-test : (a : List ℕ) (p : ℕ) (now : ℤ) (mean lrsn : ℕ) {n s : ℕ} {z z₁ d d₁ : ℤ} {b : Bool}
+    → n ≡ numberAt a p → d ≡ departureAt a p z → z ≡ now → s ≡ sinceTime z₁ d₁ → z₁ ≡ now → d₁ ≡ d → b ≡ before 31 lrsn n
     → (b || (eqb lrsn n && ltb s (2 * mean))) ≡ isRecent a p now mean lrsn
-recent-test a p now mean lrsn e f g h = rw (h, g, f, e)
+unfolding isRecent
+recent-test a p now mean lrsn e f q g q₁ r h = rw (h, g, q₁, r, f, q, e)
 
--- the loop of first_kept: a turn, its way out in the middle, its end
-module _ (a : List ℕ) (start count now wait i : ℕ) {r : ℕ} (e : r ≡ firstKept a start now wait i (count - 1 - i)) where
-  module _ {d : ℕ} (h : i + 1 < count) (f : d ≡ departureAt a (ackSlot start i) now) where
+-- is_expired: a departure is under 2^60, so that the sum fits
+departure-under : (x : ℕ) (now : ℤ) → above (readBy now (pos (x % 2 ^ 60))) < 2 ^ 60
+departure-under x now =
+    by-test (λ (z : ℤ). above z < 2 ^ 60) (ltZ now (pos (x % 2 ^ 60))) now (pos (x % 2 ^ 60))
+    (λ t. omega (arith, apart now, lt-true now (pos (x % 2 ^ 60)) t))
+    (λ t. omega arith)
+
+pub wait-reads : (wait : ℕ) → wait < 2 ^ 34 → toZ w64 wait ≡ pos wait
+wait-reads wait h = toZ-pos w64 (omega arith)
+
+module _ (a : List ℕ) (p wait : ℕ) (z : ℤ) {d d₁ w₁ : ℤ} (f : d ≡ departureAt a p z) (r : d₁ ≡ d) (k : w₁ ≡ pos wait) where
+  pub expired-fits : SFits w64 d → wait < 2 ^ 34 → SFits w64 (d₁ +ℤ w₁)
+  unfolding departureAt
+  expired-fits m h =
+      let l : above d < 2 ^ 60 = rw f (departure-under (getD a (2 * p + 1) 0) z) in
+      let o = range (2 ^ 63) d (m .sfits) in
+      rw (r, k)
+      (record { sfits = in-range (2 ^ 63) (d +ℤ pos wait) (omega (arith, above-+ d (pos wait), o .0)) (omega (arith, below-+ d (pos wait), o .1)) })
+
+  pub expired-test : (now : ℤ) {s z₁ : ℤ} → z ≡ now → s ≡ d₁ +ℤ w₁ → z₁ ≡ now → ltZ s z₁ ≡ isExpired a p now wait
+  unfolding isExpired
+  expired-test now q e q₁ = rw (e, r, k, f, q, q₁)
+
+pub ruleset expiries = (wait-reads, expired-fits, expired-test, needs)
+
+-- the loop of first_kept: a turn, its way out in the middle, its end; the loop has the time as the machine reads it back, m
+module _ (a : List ℕ) (start count : ℕ) (m : ℤ) (wait i : ℕ) {r : ℕ} (e : r ≡ firstKept a start m wait i (count - 1 - i)) where
+  module _ {b : Bool} {z : ℤ} (h : i + 1 < count) (f : b ≡ isExpired a (ackSlot start i) z wait) (y : z ≡ m) where
     left : count - 1 - i ≡ suc (count - 1 - (i + 1))
     left = omega arith
 
-    pub kept-again : d + wait < now → r ≡ firstKept a start now wait (i + 1) (count - 1 - (i + 1))
+    pub kept-again : b ≡ true → r ≡ firstKept a start m wait (i + 1) (count - 1 - (i + 1))
     unfolding firstKept
-    kept-again g = e ∙ rw left (rw (← f, lt-ltb _ _ g))
+    kept-again g = e ∙ rw left (rw (← y, ← f, g))
 
-    pub kept-found : now ≤ d + wait → i ≡ r
+    found : b ≡ false → i ≡ r
     unfolding firstKept
-    kept-found g = sym (e ∙ rw left (rw (← f, le-ltb _ _ g)))
+    found g = sym (e ∙ rw left (rw (← y, ← f, g)))
 
-  pub kept-done : count ≤ i + 1 → i ≡ r
+  ended : count ≤ i + 1 → i ≡ r
   unfolding firstKept
-  kept-done h = let z : count - 1 - i ≡ 0 = omega arith in sym (e ∙ rw z)
+  ended h = let z : count - 1 - i ≡ 0 = omega arith in sym (e ∙ rw z)
 
-pub kept-start : (a : List ℕ) (start count now wait : ℕ) → firstKept a start now wait 0 (count - 1) ≡ firstKept a start now wait 0 (count - 1 - 0)
+module _ (a : List ℕ) (start count : ℕ) (now m : ℤ) (wait i : ℕ)
+    (e : firstKept a start m wait 0 (count - 1) ≡ firstKept a start m wait i (count - 1 - i)) (q : m ≡ now) where
+  pub kept-found : {b : Bool} {z : ℤ} → i + 1 < count → b ≡ isExpired a (ackSlot start i) z wait → z ≡ m → b ≡ false → i ≡ firstKept a start now wait 0 (count - 1)
+  kept-found h f y g = found a start count m wait i e h f y g ∙ rw q
+
+  pub kept-done : count ≤ i + 1 → i ≡ firstKept a start now wait 0 (count - 1)
+  kept-done h = ended a start count m wait i e h ∙ rw q
+
+pub kept-start : (a : List ℕ) (start count : ℕ) (now : ℤ) (wait : ℕ) → firstKept a start now wait 0 (count - 1) ≡ firstKept a start now wait 0 (count - 1 - 0)
 kept-start a start count now wait = let e : count - 1 - 0 ≡ count - 1 = omega arith in rw e
 
 -- leaving
-pub kept-le : (a : List ℕ) (start now wait n i : ℕ) → firstKept a start now wait i n ≤ i + n
+pub kept-le : (a : List ℕ) (start : ℕ) (now : ℤ) (wait n i : ℕ) → firstKept a start now wait i n ≤ i + n
 unfolding firstKept
 kept-le a start now wait zero i = omega arith
 kept-le a start now wait (suc n) i =
@@ -90,18 +117,18 @@ kept-le a start now wait (suc n) i =
     (λ t. let r = kept-le a start now wait n (i + 1) in omega arith)
     (λ t. omega arith)
 
-module _ (a : List ℕ) (start count now wait : ℕ) where
-  module _ {g : ℕ} (e : g ≡ firstKept a start now wait 0 (count - 1)) where
-    pub gone-le : g ≤ count
-    gone-le = let l = kept-le a start now wait (count - 1) 0 in omega arith
+pub gone-le : (a : List ℕ) (start count : ℕ) (now : ℤ) (wait : ℕ) {g : ℕ} → g ≡ firstKept a start now wait 0 (count - 1) → g ≤ count
+gone-le a start count now wait e = let l = kept-le a start now wait (count - 1) 0 in omega arith
 
-    pub leaves-more : count - g ≡ 1024 → g + 1 ≡ leaving a start count now wait
+module _ (a : List ℕ) (start count : ℕ) (now : ℤ) (wait : ℕ) where
+  module _ {g : ℕ} {z : ℤ} (e : g ≡ firstKept a start z wait 0 (count - 1)) where
+    pub leaves-more : z ≡ now → count - g ≡ 1024 → g + 1 ≡ leaving a start count now wait
     unfolding leaving
-    leaves-more h = rw (← e, eq-eqb _ _ h)
+    leaves-more q h = rw (← q, ← e, eq-eqb _ _ h)
 
-    pub leaves : (count - g ≡ 1024 → ⊥) → g ≡ leaving a start count now wait
+    pub leaves : z ≡ now → (count - g ≡ 1024 → ⊥) → g ≡ leaving a start count now wait
     unfolding leaving
-    leaves h = rw (← e, ne-eqb _ _ h)
+    leaves q h = rw (← q, ← e, ne-eqb _ _ h)
 
   -- the newest entry stays
   pub leaving-le : count ≤ 1024 → leaving a start count now wait ≤ count - 1
@@ -134,7 +161,7 @@ unfolding freshHistory
 fresh n = refl
 
 module _ (h : History) where
-  module _ (a : List ℕ) (now mean lrsn : ℕ) where
+  module _ (a : List ℕ) (now : ℤ) (mean lrsn : ℕ) where
     pub none-same : h .largest ≡ lrsn → true ≡ noneDue h a now mean lrsn
     unfolding noneDue
     none-same e = rw (eq-eqb _ _ e)
@@ -143,9 +170,10 @@ module _ (h : History) where
     unfolding noneDue
     due-empty e f = rw (ne-eqb _ _ e, eq-eqb _ _ f)
 
-    pub due-recent : {b : Bool} → (h .largest ≡ lrsn → ⊥) → (h .count ≡ 0 → ⊥) → b ≡ isRecent a (ackSlot (h .start) (h .count - 1)) now mean lrsn → b ≡ noneDue h a now mean lrsn
+    pub due-recent : {b : Bool} {z : ℤ} → (h .largest ≡ lrsn → ⊥) → (h .count ≡ 0 → ⊥)
+        → b ≡ isRecent a (ackSlot (h .start) (h .count - 1)) z mean lrsn → z ≡ now → b ≡ noneDue h a now mean lrsn
     unfolding noneDue
-    due-recent e f g = rw (ne-eqb _ _ e, ne-eqb _ _ f) g
+    due-recent e f g q = rw (ne-eqb _ _ e, ne-eqb _ _ f) (g ∙ rw q)
 
   pub worn-test : (ltb 0 (h .count) && eqb (h .first + h .count - 1) 4294967295) ≡ isWorn h
   unfolding isWorn
@@ -168,27 +196,27 @@ module _ (h : History) where
   first-moved n e = rw (ne-eqb _ _ e)
 
 -- append, next_full_ack
-module _ (h : History) (a : List ℕ) (now lrsn : ℕ) where
-  pub appended : (wait : ℕ) {n number first : ℕ} {a₁ : List ℕ}
-      → number ≡ nextAck h → n ≡ leaving a (h .start) (h .count) now wait → first ≡ firstAfter h n
-      → a₁ ≡ writeAck a (ackSlot (ackSlot (h .start) n) (h .count - n)) lrsn now
+module _ (h : History) (a : List ℕ) (now : ℤ) (lrsn : ℕ) where
+  pub appended : (wait : ℕ) {n number first : ℕ} {z z₁ : ℤ} {a₁ : List ℕ}
+      → number ≡ nextAck h → n ≡ leaving a (h .start) (h .count) z wait → z ≡ now → first ≡ firstAfter h n
+      → a₁ ≡ writeAck a (ackSlot (ackSlot (h .start) n) (h .count - n)) lrsn z₁ → z₁ ≡ now
       → ackEnded (record { history = record { start = ackSlot (h .start) n; count = h .count - n + 1; first = first; largest = h .largest; lastack = lrsn }; answer = Ack number }) a₁ ≡ appendOf h a now wait lrsn
   unfolding appendOf
-  appended wait e f g i = rw (i, g, f, e)
+  appended wait e f q g i r = rw (i, r, g, f, q, e)
 
-  module _ (mean latency : ℕ) {b : Bool} (e : b ≡ noneDue h a now mean lrsn) where
+  module _ (mean latency : ℕ) {b : Bool} {z : ℤ} (e : b ≡ noneDue h a z mean lrsn) (q : z ≡ now) where
     pub ack-none : b ≡ true → ackEnded (record { history = h; answer = Nothing }) a ≡ fullAckOf h a now mean latency lrsn
     unfolding fullAckOf
-    ack-none t = rw (← e, t)
+    ack-none t = rw (← q, ← e, t)
 
     module _ {w : Bool} (t : b ≡ false) (f : w ≡ isWorn h) where
       pub ack-worn : w ≡ true → ackEnded (record { history = h; answer = Worn }) a ≡ fullAckOf h a now mean latency lrsn
       unfolding fullAckOf
-      ack-worn u = rw (← e, t, ← f, u)
+      ack-worn u = rw (← q, ← e, t, ← f, u)
 
-      pub ack-append : {r : AckOutcome} → w ≡ false → r ≡ appendOf h a now (latency + 2 * mean) lrsn → r ≡ fullAckOf h a now mean latency lrsn
+      pub ack-append : {r : AckOutcome} {z₁ : ℤ} → w ≡ false → r ≡ appendOf h a z₁ (latency + 2 * mean) lrsn → z₁ ≡ now → r ≡ fullAckOf h a now mean latency lrsn
       unfolding fullAckOf
-      ack-append u g = rw (← e, t, ← f, u) g
+      ack-append u g q₁ = rw (← q, ← e, t, ← f, u) (g ∙ rw (q₁, ← q))
 
 -- what is not worn has a next number
 pub not-worn : (h : History) {w : Bool} → w ≡ isWorn h → w ≡ false → h .first + h .count ≤ 2 ^ 32 → h .first < 2 ^ 32 → h .first + h .count < 2 ^ 32
@@ -202,7 +230,7 @@ not-worn h e t f g =
     (λ k. omega arith)
 
 -- calculate_ack2
-module _ (h : History) (a : List ℕ) (now number : ℕ) where
+module _ (h : History) (a : List ℕ) (now : ℤ) (number : ℕ) where
   pub held-below : number < h .first → _≡_ {A = Answered} (record { history = h; answer = NotHeld }) (ack2Of h a now number)
   unfolding ack2Of
   held-below e = rw (lt-leb _ _ e)
@@ -211,12 +239,12 @@ module _ (h : History) (a : List ℕ) (now number : ℕ) where
   unfolding ack2Of
   held-above e f = let g : h .first + h .count ≤ number = omega arith in rw (le-leb _ _ e, le-ltb _ _ g)
 
-  pub held : {d r l : ℕ}
+  pub held : {r l : ℕ} {z z₁ d d₁ : ℤ}
       → h .first ≤ number → number - h .first < h .count
-      → d ≡ departureAt a (ackSlot (h .start) (number - h .first)) now → r ≡ since now d → l ≡ numberAt a (ackSlot (h .start) (number - h .first))
+      → d ≡ departureAt a (ackSlot (h .start) (number - h .first)) z → z ≡ now → r ≡ sinceTime z₁ d₁ → z₁ ≡ now → d₁ ≡ d → l ≡ numberAt a (ackSlot (h .start) (number - h .first))
       → _≡_ {A = Answered} (record { history = record { start = h .start; count = h .count; first = h .first; largest = l; lastack = h .lastack }; answer = Held r }) (ack2Of h a now number)
   unfolding ack2Of
-  held e f i j k = let g : number < h .first + h .count = omega arith in rw (le-leb _ _ e, lt-ltb _ _ g, j, i, k)
+  held e f i q j q₁ m k = let g : number < h .first + h .count = omega arith in rw (le-leb _ _ e, lt-ltb _ _ g, j, q₁, m, i, q, k)
 
 -- next_light_ack, clear, in_range
 module _ (h : History) (lrsn : ℕ) where
@@ -271,7 +299,6 @@ pub ruleset histories = (
   number-next,
   first-one,
   first-moved,
-  appended,
   ack-none,
   ack-worn,
   ack-append,

@@ -2,7 +2,7 @@
 ghost use mathlib.Core.Path.{_≡_};
 ghost use Prim.Native.Nat.{_+_, _-_, _*_, _<_, _≤_, _^_};
 ghost use lib.ListN.{length};
-ghost use Rattle.acks.specs.History.{numberAt, departureAt, since, writeAck, freshHistory, isRecent, noneDue, isWorn, firstKept, leaving, nextAck, firstAfter, ackEnded, appendOf, fullAckOf, ack2Of, lightAckOf, clearedOf, historyOk};
+ghost use Rattle.acks.specs.History.{numberAt, departureAt, writeAck, freshHistory, isRecent, noneDue, isWorn, isExpired, firstKept, leaving, nextAck, firstAfter, ackEnded, appendOf, fullAckOf, ack2Of, lightAckOf, clearedOf, historyOk};
 ghost use Rattle.acks.specs.Ready.{HistoryReady};
 
 // Entry i, under count, has the ACK number first + i and lies at (start + i) mod 1,024. `largest` is largest_ack2_dsn, `lastack` last_ack_dsn.
@@ -50,57 +50,56 @@ fn number_at(area: &[u64], p: usize) -> u32
 }
 
 // Its departure, as a call at `time` reads it.
-fn departure_at(area: &[u64], p: usize, time: u64) -> u64
+fn departure_at(area: &[u64], p: usize, time: i64) -> i64
     requires { ⌜ 2 * p + 2 ≤ length (now area) ⌝ }
     ensures { λ r. ⌜ r ≡ departureAt (now (area .entry)) p time ⌝ }
 {
     let i = 2 * p + 1;
-    let departure = area[i] % 0x1000_0000_0000_0000;
-    if departure < time { departure } else { time }
-}
-
-// The interval since a departure that is not after `time`.
-fn since(time: u64, departure: u64) -> u32
-    requires { ⌜ departure ≤ time ⌝ }
-    ensures { λ r. ⌜ r ≡ since time departure ⌝ }
-{
-    let d = time - departure;
-    if d < 0x7fff_ffff {
-        return d as u32;
+    let departure = (area[i] % 0x1000_0000_0000_0000) as i64;
+    if time < departure {
+        return time;
     }
-    0x7fff_ffff
+    departure
 }
 
 // Puts an entry at p; every other word stays.
-fn write_ack(area: &mut [u64], p: usize, number: u32, time: u64)
+fn write_ack(area: &mut [u64], p: usize, number: u32, time: i64)
     requires { ⌜ 2 * p + 2 ≤ length (now area) ⌝ }
     ensures { λ _. ⌜ now (area .exit) ≡ writeAck (now (area .entry)) p number time ⌝ }
 {
     let i = 2 * p;
+    let departure = numbers::instant::size(time);
     area[i] = number as u64;
-    area[i + 1] = time;
+    area[i + 1] = departure;
 }
 
 // Whether the newest entry, at p, is too recent for another ACK.
-fn is_recent(area: &[u64], p: usize, time: u64, mean: u32, lrsn: u32) -> bool
+fn is_recent(area: &[u64], p: usize, time: i64, mean: u32, lrsn: u32) -> bool
     requires { ⌜ 2 * p + 2 ≤ length (now area) ⌝ }
     ensures { λ r. ⌜ r ≡ isRecent (now (area .entry)) p time mean lrsn ⌝ }
 {
     let newest = number_at(area, p);
-    let interval = since(time, departure_at(area, p, time));
+    let interval = numbers::instant::since(time, departure_at(area, p, time));
     let before = numbers::seq::is_before(lrsn, newest);
     before | ((lrsn == newest) & ((interval as u64) < 2 * (mean as u64)))
 }
 
+// Whether the departure of the entry at p is more than `wait` ago.
+fn is_expired(area: &[u64], p: usize, time: i64, wait: u64) -> bool
+    requires { ⌜ (2 * p + 2 ≤ length (now area)) × (wait < 2 ^ 34) ⌝ }
+    ensures { λ r. ⌜ r ≡ isExpired (now (area .entry)) p time wait ⌝ }
+{
+    departure_at(area, p, time) + (wait as i64) < time
+}
+
 // Of the entries but the newest, the first that is not expired, else the newest.
-fn first_kept(area: &[u64], start: usize, count: usize, time: u64, wait: u64) -> usize
+fn first_kept(area: &[u64], start: usize, count: usize, time: i64, wait: u64) -> usize
     requires { ⌜ (start < 1024) × (count ≤ 1024) × (2048 ≤ length (now area)) × (wait < 2 ^ 34) ⌝ }
     ensures { λ r. ⌜ r ≡ firstKept (now (area .entry)) start time wait 0 (count - 1) ⌝ }
 {
     let mut i = 0;
     while i + 1 < count {
-        let departure = departure_at(area, (start + i) % 1024, time);
-        if departure + wait < time {
+        if is_expired(area, (start + i) % 1024, time, wait) {
             i += 1;
         } else {
             return i;
@@ -110,7 +109,7 @@ fn first_kept(area: &[u64], start: usize, count: usize, time: u64, wait: u64) ->
 }
 
 // How many entries leave the front before one is appended.
-fn leaving(area: &[u64], start: usize, count: usize, time: u64, wait: u64) -> usize
+fn leaving(area: &[u64], start: usize, count: usize, time: i64, wait: u64) -> usize
     requires { ⌜ (start < 1024) × (count ≤ 1024) × (2048 ≤ length (now area)) × (wait < 2 ^ 34) ⌝ }
     ensures { λ r. ⌜ r ≡ leaving (now (area .entry)) start count time wait ⌝ }
 {
@@ -136,7 +135,7 @@ impl History {
         }
     }
 
-    fn none_due(self, area: &[u64], time: u64, mean: u32, lrsn: u32) -> bool
+    fn none_due(self, area: &[u64], time: i64, mean: u32, lrsn: u32) -> bool
         requires { ⌜ HistoryReady self (now area) ⌝ }
         ensures { λ r. ⌜ r ≡ noneDue self (now (area .entry)) time mean lrsn ⌝ }
     {
@@ -185,7 +184,7 @@ impl History {
     }
 
     // Removes what leaves the front, then appends an ACK of lrsn.
-    fn append(self, area: &mut [u64], time: u64, wait: u64, lrsn: u32) -> Acked
+    fn append(self, area: &mut [u64], time: i64, wait: u64, lrsn: u32) -> Acked
         requires { ⌜ HistoryReady self (now area) × (wait < 2 ^ 34) × (self .first + self .count < 2 ^ 32) ⌝ }
         ensures { λ r. ⌜ ackEnded r (now (area .exit)) ≡ appendOf self (now (area .entry)) time wait lrsn ⌝ }
     {
@@ -211,7 +210,7 @@ impl History {
     pub fn next_full_ack(
         self,
         area: &mut [u64],
-        time: u64,
+        time: i64,
         mean: u32,
         latency: u32,
         lrsn: u32,
@@ -236,7 +235,7 @@ impl History {
     }
 
     // The ACK2 of a full ACK: its data number, and the interval since it left.
-    pub fn calculate_ack2(self, area: &[u64], time: u64, number: u32) -> Answered
+    pub fn calculate_ack2(self, area: &[u64], time: i64, number: u32) -> Answered
         requires { ⌜ HistoryReady self (now area) ⌝ }
         ensures { λ r. ⌜ r ≡ ack2Of self (now (area .entry)) time number ⌝ }
     {
@@ -255,7 +254,7 @@ impl History {
         }
         let p = (self.start + i) % 1024;
         let departure = departure_at(area, p, time);
-        let r = since(time, departure);
+        let r = numbers::instant::since(time, departure);
         let largest = number_at(area, p);
         Answered {
             history: History {

@@ -16,8 +16,7 @@ use feedback::acking::RttAnswer;
 use feedback::loss::LossAnswer;
 use feedback::sync::ClockAnswer;
 use head::state::Head;
-use intervals::rates::Link;
-use intervals::rates::Speed;
+use intervals::rates::Rate;
 use receiver::data::DataAnswer;
 use receiver::message::MessageAnswer;
 use upkeep::request::ClearAnswer;
@@ -102,24 +101,14 @@ fn put_loss(answer: LossAnswer, list: &[u32]) {
     }
 }
 
-// Packets, bytes and the link's figure, as in the trace's line; `-` for no rate.
-fn put_rates(speed: Speed, link: Link) {
-    match speed {
-        Speed::Unknown => {
-            put(b" - -");
+// A rate, as in the trace's line: `-` for none.
+fn put_rate(rate: Rate) {
+    match rate {
+        Rate::Unknown => {
+            put(b" -");
         }
-        Speed::Known { packets, bytes } => {
-            put_word(packets);
-            put_word(bytes);
-        }
-    }
-    match link {
-        Link::Unknown => {
-            put(b" -\n");
-        }
-        Link::Known(figure) => {
-            put_word(figure);
-            put(b"\n");
+        Rate::PerSecond(n) => {
+            put_word(n);
         }
     }
 }
@@ -135,8 +124,9 @@ fn put_full(answer: FullAckAnswer) {
             mean,
             variance,
             room,
-            speed,
-            link,
+            packet_receive_rate,
+            estimated_link_capacity,
+            data_receive_rate,
         } => {
             put(b"ack");
             put_word(number);
@@ -144,7 +134,10 @@ fn put_full(answer: FullAckAnswer) {
             put_word(mean);
             put_word(variance);
             put_count(room as u64);
-            put_rates(speed, link);
+            put_rate(packet_receive_rate);
+            put_rate(estimated_link_capacity);
+            put_rate(data_receive_rate);
+            put(b"\n");
         }
         FullAckAnswer::Refused(n) => {
             put_refused(n);

@@ -89,13 +89,13 @@ fn push_tested(
     w: Window,
     words: &mut [u64],
     bytes: &mut [u8],
-    time: u64,
+    time: i64,
     p: Packet,
     payload: &[u8],
 ) -> PushCall
     requires { ⌜ Tested w (now words) (now bytes) ⌝ }
 {
-    if 0x1000_0000_0000_0000 <= time {
+    if numbers::instant::is_reading(time) {} else {
         return PushCall::Refused(3);
     }
     if packet_ok(p) {} else {
@@ -111,7 +111,7 @@ fn try_push(
     w: Window,
     words: &mut [u64],
     bytes: &mut [u8],
-    time: u64,
+    time: i64,
     p: Packet,
     payload: &[u8],
 ) -> PushCall {
@@ -167,7 +167,7 @@ fn try_pop(
     pop_tested(w, clock, latency, dropping, words, bytes, out, time)
 }
 
-fn try_report(w: Window, words: &mut [u64], list: &mut [u32], time: u64, mean: u32) -> ReportCall {
+fn try_report(w: Window, words: &mut [u64], list: &mut [u32], time: i64, mean: u32) -> ReportCall {
     if 0x8000_0000 <= mean {
         return ReportCall::Refused(1);
     }
@@ -287,7 +287,7 @@ pub fn push(
     s: State,
     words: &mut [u64; 12],
     bytes: &mut [u8; 5824],
-    time: u64,
+    time: i64,
     p: Packet,
     payload: &[u8],
 ) -> State {
@@ -343,7 +343,7 @@ pub fn pop_short(s: State, words: &[u64; 12], bytes: &[u8; 5824], time: i64) -> 
 }
 
 // A report changes words only, and so does a drop request. The mean is 10,000.
-fn report_into(s: State, words: &mut [u64], list: &mut [u32], time: u64) {
+fn report_into(s: State, words: &mut [u64], list: &mut [u32], time: i64) {
     let w = s.window;
     let called = try_report(w, words, list, time, 10_000);
     match called {
@@ -357,12 +357,12 @@ fn report_into(s: State, words: &mut [u64], list: &mut [u32], time: u64) {
 }
 
 // No report here needs more than two words.
-pub fn report(s: State, words: &mut [u64; 12], time: u64) {
+pub fn report(s: State, words: &mut [u64; 12], time: i64) {
     let mut list = [0u32; 2];
     report_into(s, words, &mut list, time);
 }
 
-pub fn report_short(s: State, words: &mut [u64; 12], time: u64) {
+pub fn report_short(s: State, words: &mut [u64; 12], time: i64) {
     let mut list = [0u32; 1];
     report_into(s, words, &mut list, time);
 }

@@ -6,8 +6,7 @@ use Prim.Native.Nat.{_^_, _-_}
 use lib.IntN.{pos, negsuc}
 use lib.Ieee as ieee
 use Rattle.numbers.specs.Circular.{signed, wrap}
-use Rattle.intervals.specs.declared.rates.Speed.the-variants as speeds
-use Rattle.intervals.specs.declared.rates.Link.the-variants as links
+use Rattle.intervals.specs.declared.rates.Rate.the-variants as rates
 use Rattle.receiver.specs.Paper.{dataLine, messageLine}
 use Rattle.feedback.specs.Paper.{fullAckLine, clockLine}
 use Rattle.receiver.specs.declared.data.DataAnswer.the-variants as datas
@@ -34,7 +33,7 @@ unfolding cell signed wrap
 late-cells = refl
 
 -- ack 1 3 10000 1000 5 7 8 -
-ack-cells : cellsOf (fullAckLine (acks.Ack 1 3 10000 1000 5 (speeds.Known 7 8) links.Unknown)) ≡ pos 7 ∷ pos 1 ∷ pos 3 ∷ pos 10000 ∷ pos 1000 ∷ pos 5 ∷ pos 7 ∷ pos 8 ∷ negsuc 0 ∷ pos 0 ∷ []
+ack-cells : cellsOf (fullAckLine (acks.Ack 1 3 10000 1000 5 (rates.PerSecond 7) (rates.PerSecond 8) rates.Unknown)) ≡ pos 7 ∷ pos 1 ∷ pos 3 ∷ pos 10000 ∷ pos 1000 ∷ pos 5 ∷ pos 7 ∷ pos 8 ∷ negsuc 0 ∷ pos 0 ∷ []
 unfolding cell signed wrap
 ack-cells = refl
 

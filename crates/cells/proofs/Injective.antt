@@ -14,10 +14,8 @@ use mir.Syntax.{w64}
 use mir.Val.{SFits}
 use Rattle.numbers.specs.Circular.{wrap}
 use Rattle.numbers.proofs.Signs.{signed-congruent}
-use Rattle.intervals.specs.declared.rates.Speed.{Speed}
-use Rattle.intervals.specs.declared.rates.Speed.the-variants as speeds
-use Rattle.intervals.specs.declared.rates.Link.{Link}
-use Rattle.intervals.specs.declared.rates.Link.the-variants as links
+use Rattle.intervals.specs.declared.rates.Rate.{Rate}
+use Rattle.intervals.specs.declared.rates.Rate.the-variants.{Unknown, PerSecond}
 use Rattle.receiver.specs.declared.data.DataAnswer.{DataAnswer}
 use Rattle.receiver.specs.declared.data.DataAnswer.the-variants as datas
 use Rattle.receiver.specs.declared.message.MessageAnswer.{MessageAnswer}
@@ -39,7 +37,7 @@ use Rattle.feedback.specs.declared.acking.FullAckAnswer.the-variants as acks
 use Rattle.feedback.specs.declared.acking.RttAnswer.{RttAnswer}
 use Rattle.feedback.specs.declared.acking.RttAnswer.the-variants as rtts
 use Rattle.receiver.specs.Paper.{dataLine, messageLine}
-use Rattle.feedback.specs.Paper.{packetsValue, bytesValue, linkValue, fullAckLine, rttLine, clockLine}
+use Rattle.feedback.specs.Paper.{rateValue, fullAckLine, rttLine, clockLine}
 use Rattle.upkeep.specs.Paper.{dropLine, clearLine, roomLine, shownLine}
 use Rattle.cells.specs.Cells.{cell, valueCell, cellsOf, countLine, lossCells, shownCells}
 use Rattle.cells.proofs.Numbers.{cell-same, cell-wraps, cell-low}
@@ -140,46 +138,34 @@ pub loss-injective : (a b : LossAnswer) → LossFits a → LossFits b → lossCe
 loss-injective = by-reading lossCells (λ a. countLine a .refusal) LossFits lossBack loss-back
 
 -- a rate is below 2^63, so that none is -1
-abbrev pub SpeedFits : Speed → Type 0
-SpeedFits speeds.Unknown = Unit
-SpeedFits (speeds.Known packets bytes) = (packets < 2 ^ 63) × (bytes < 2 ^ 63)
+abbrev pub RateFits : Rate → Type 0
+RateFits Unknown = Unit
+RateFits (PerSecond n) = n < 2 ^ 63
 
-abbrev pub LinkFits : Link → Type 0
-LinkFits links.Unknown = Unit
-LinkFits (links.Known n) = n < 2 ^ 63
+abbrev rateBack : ℤ → Rate
+rateBack (pos n) = PerSecond n
+rateBack (negsuc n) = Unknown
 
-abbrev speedBack : ℤ → ℤ → Speed
-speedBack (pos packets) bytes = speeds.Known packets (natAbs bytes)
-speedBack (negsuc n) bytes = speeds.Unknown
-
-speed-back : (s : Speed) → SpeedFits s → speedBack (valueCell (packetsValue s)) (valueCell (bytesValue s)) ≡ s
-speed-back speeds.Unknown i = refl
-speed-back (speeds.Known packets bytes) i = rw (cell-low packets (i .0), cell-low bytes (i .1))
-
-abbrev linkBack : ℤ → Link
-linkBack (pos n) = links.Known n
-linkBack (negsuc n) = links.Unknown
-
-link-back : (l : Link) → LinkFits l → linkBack (valueCell (linkValue l)) ≡ l
-link-back links.Unknown i = refl
-link-back (links.Known n) i = rw (cell-low n i)
+rate-back : (a : Rate) → RateFits a → rateBack (valueCell (rateValue a)) ≡ a
+rate-back Unknown i = refl
+rate-back (PerSecond n) i = rw (cell-low n i)
 
 abbrev pub FullAckFits : FullAckAnswer → Type 0
 FullAckFits acks.Nothing = Unit
-FullAckFits (acks.Ack number lrsn mean variance places speed link) =
-    (number < 2 ^ 64) × (lrsn < 2 ^ 64) × (mean < 2 ^ 64) × (variance < 2 ^ 64) × (places < 2 ^ 64) × SpeedFits speed × LinkFits link
+FullAckFits (acks.Ack number lrsn mean variance places packets bytes link) =
+    (number < 2 ^ 64) × (lrsn < 2 ^ 64) × (mean < 2 ^ 64) × (variance < 2 ^ 64) × (places < 2 ^ 64) × RateFits packets × RateFits bytes × RateFits link
 FullAckFits (acks.Refused n) = Unit
 
 abbrev fullAckBack : ℕ → List ℤ → FullAckAnswer
 fullAckBack n zs =
     cond (coded zs 13) acks.Nothing
-    (cond (coded zs 7) (acks.Ack (natural zs 1) (natural zs 2) (natural zs 3) (natural zs 4) (natural zs 5) (speedBack (at zs 6) (at zs 7)) (linkBack (at zs 8)))
+    (cond (coded zs 7) (acks.Ack (natural zs 1) (natural zs 2) (natural zs 3) (natural zs 4) (natural zs 5) (rateBack (at zs 6)) (rateBack (at zs 7)) (rateBack (at zs 8)))
     (acks.Refused n))
 
 full-ack-back : (a : FullAckAnswer) → FullAckFits a → fullAckBack (fullAckLine a .refusal) (cellsOf (fullAckLine a)) ≡ a
 full-ack-back acks.Nothing i = refl
-full-ack-back (acks.Ack number lrsn mean variance places speed link) i =
-    rw (back number (i .0), back lrsn (i .1), back mean (i .2), back variance (i .3), back places (i .4), speed-back speed (i .5), link-back link (i .6))
+full-ack-back (acks.Ack number lrsn mean variance places packets bytes link) i =
+    rw (back number (i .0), back lrsn (i .1), back mean (i .2), back variance (i .3), back places (i .4), rate-back packets (i .5), rate-back bytes (i .6), rate-back link (i .7))
 full-ack-back (acks.Refused n) i = refl
 
 pub full-ack-injective : (a b : FullAckAnswer) → FullAckFits a → FullAckFits b → cellsOf (fullAckLine a) ≡ cellsOf (fullAckLine b) → fullAckLine a .refusal ≡ fullAckLine b .refusal → a ≡ b

@@ -16,10 +16,9 @@ use Rattle.numbers.specs.Circular.{signed, wrap}
 use Rattle.numbers.proofs.Flags.{impossible}
 use Rattle.numbers.proofs.Halves.{same, in-range, above--, below--}
 use Rattle.numbers.proofs.Signs.{signed-low, signed-only, widens}
-use Rattle.intervals.specs.declared.rates.Speed.{Speed}
-use Rattle.intervals.specs.declared.rates.Link.{Link}
+use Rattle.intervals.specs.declared.rates.Rate.{Rate}
 use Rattle.head.specs.Paper.{flag}
-use Rattle.feedback.specs.Paper.{packetsValue, bytesValue, linkValue}
+use Rattle.feedback.specs.Paper.{rateValue}
 use Rattle.cells.specs.Cells.{cell, valueCell}
 
 -- a number that fits an i64 is its own cell
@@ -115,18 +114,11 @@ flag-clear b e = rw e (sym (cell-low 0 (omega arith)))
 pub exact-bits : (v : Float) (n : ℕ) {z z₁ : ℤ} → n ≡ toBits binary64 v → z ≡ cell (pos n) → z₁ ≡ z → z₁ ≡ cell (pos (toBits binary64 v))
 exact-bits v n e p q = q ∙ p ∙ ap (λ (k : ℕ). cell (pos k)) e
 
--- the rates
-module _ (s t : Speed) (e : s ≡ t) {z : ℤ} where
-  pub packets-case : z ≡ valueCell (packetsValue t) → z ≡ valueCell (packetsValue s)
-  packets-case p = rw e p
-
-  pub bytes-case : z ≡ valueCell (bytesValue t) → z ≡ valueCell (bytesValue s)
-  bytes-case p = rw e p
-
-pub link-case : (s t : Link) → s ≡ t → {z : ℤ} → z ≡ valueCell (linkValue t) → z ≡ valueCell (linkValue s)
-link-case s t e p = rw e p
+-- a rate
+pub rate-case : (s t : Rate) → s ≡ t → {z : ℤ} → z ≡ valueCell (rateValue t) → z ≡ valueCell (rateValue s)
+rate-case s t e p = rw e p
 
 pub read-back : {x z z₁ : ℤ} → z₁ ≡ z → z ≡ x → z₁ ≡ x
 read-back p q = p ∙ q
 
-pub ruleset numbers = (reads-low, reads-small, negated-fits, lessened-fits, reads-high, reads-same, reads-wider, widens, nan-bits, no-nan, flag-set, flag-clear, exact-bits, packets-case, bytes-case, link-case, read-back, needs)
+pub ruleset numbers = (reads-low, reads-small, negated-fits, lessened-fits, reads-high, reads-same, reads-wider, widens, nan-bits, no-nan, flag-set, flag-clear, exact-bits, rate-case, read-back, needs)

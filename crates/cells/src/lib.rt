@@ -6,15 +6,14 @@ ghost use lib.IntN.{pos};
 ghost use lib.Ieee.{binary64, toBits};
 ghost use Rattle.head.specs.Paper.{flag};
 ghost use Rattle.receiver.specs.Paper.{dataLine, messageLine};
-ghost use Rattle.feedback.specs.Paper.{packetsValue, bytesValue, linkValue, fullAckLine, rttLine, clockLine};
+ghost use Rattle.feedback.specs.Paper.{rateValue, fullAckLine, rttLine, clockLine};
 ghost use Rattle.upkeep.specs.Paper.{dropLine, clearLine, roomLine, shownLine};
 ghost use Rattle.cells.specs.Cells.{cell, valueCell, cellsOf, countLine, lossCells, shownCells, madeCells};
 use feedback::acking::FullAckAnswer;
 use feedback::acking::RttAnswer;
 use feedback::loss::LossAnswer;
 use feedback::sync::ClockAnswer;
-use intervals::rates::Link;
-use intervals::rates::Speed;
+use intervals::rates::Rate;
 use receiver::data::DataAnswer;
 use receiver::message::MessageAnswer;
 use upkeep::request::ClearAnswer;
@@ -78,31 +77,13 @@ fn exact(v: f64) -> i64
     big(bits(v))
 }
 
-// The rates of an ack; -1 for none.
-fn packets_of(s: Speed) -> i64
-    ensures { λ r. ⌜ r ≡ valueCell (packetsValue s) ⌝ }
+// A rate of an ack; -1 for none.
+fn rate_of(a: Rate) -> i64
+    ensures { λ r. ⌜ r ≡ valueCell (rateValue a) ⌝ }
 {
-    match s {
-        Speed::Unknown => -1,
-        Speed::Known { packets, bytes: _ } => small(packets),
-    }
-}
-
-fn bytes_of(s: Speed) -> i64
-    ensures { λ r. ⌜ r ≡ valueCell (bytesValue s) ⌝ }
-{
-    match s {
-        Speed::Unknown => -1,
-        Speed::Known { packets: _, bytes } => small(bytes),
-    }
-}
-
-fn link_of(l: Link) -> i64
-    ensures { λ r. ⌜ r ≡ valueCell (linkValue l) ⌝ }
-{
-    match l {
-        Link::Unknown => -1,
-        Link::Known(n) => small(n),
+    match a {
+        Rate::Unknown => -1,
+        Rate::PerSecond(n) => small(n),
     }
 }
 
@@ -241,8 +222,9 @@ pub fn full_ack_cells(a: FullAckAnswer) -> [i64; 10]
             mean,
             variance,
             room,
-            speed,
-            link,
+            packet_receive_rate,
+            estimated_link_capacity,
+            data_receive_rate,
         } => eight(
             7,
             small(number),
@@ -250,9 +232,9 @@ pub fn full_ack_cells(a: FullAckAnswer) -> [i64; 10]
             small(mean),
             small(variance),
             size(room),
-            packets_of(speed),
-            bytes_of(speed),
-            link_of(link),
+            rate_of(packet_receive_rate),
+            rate_of(estimated_link_capacity),
+            rate_of(data_receive_rate),
         ),
         FullAckAnswer::Refused(_) => none(3),
     }
@@ -269,8 +251,9 @@ pub fn full_ack_refusal(a: FullAckAnswer) -> u32
             mean: _,
             variance: _,
             room: _,
-            speed: _,
-            link: _,
+            packet_receive_rate: _,
+            estimated_link_capacity: _,
+            data_receive_rate: _,
         } => 0,
         FullAckAnswer::Refused(n) => n,
     }

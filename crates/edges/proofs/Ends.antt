@@ -169,6 +169,7 @@ bytes-past = refl
 
 -- a departure after `now` is read as `now`; of its word those bits count that are under 2^60, of a data number those under 2^31
 departures-read :
-    (history.departureAt (0 ∷ 1000 ∷ []) 0 1000 ∷ history.departureAt (0 ∷ 1001 ∷ []) 0 1000 ∷ history.departureAt (0 ∷ (2 ^ 60 + 5) ∷ []) 0 1000 ∷ history.numberAt ((2 ^ 31 + 3) ∷ 0 ∷ []) 0 ∷ [])
-    ≡ (1000 ∷ 1000 ∷ 5 ∷ 3 ∷ [])
+    (history.departureAt (0 ∷ 1000 ∷ []) 0 (pos 1000) ∷ history.departureAt (0 ∷ 1001 ∷ []) 0 (pos 1000) ∷ history.departureAt (0 ∷ (2 ^ 60 + 5) ∷ []) 0 (pos 1000) ∷ pos (history.numberAt ((2 ^ 31 + 3) ∷ 0 ∷ []) 0) ∷ [])
+    ≡ (pos 1000 ∷ pos 1000 ∷ pos 5 ∷ pos 3 ∷ [])
+unfolding history.departureAt
 departures-read = refl

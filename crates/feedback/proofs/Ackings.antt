@@ -6,7 +6,7 @@ use mathlib.Core.List.{List}
 use Prim.Native.Nat.{ℕ, _≤_}
 use borrow.Author.Needs.{needs}
 use borrow.Author.Tests.{eq-eqb, ne-eqb}
-use lib.IntN.{ℤ, natAbs}
+use lib.IntN.{ℤ}
 use lib.ListN.{length}
 use Rattle.acks.specs.History.{AckOutcome, ackEnded, noneDue, isWorn, fullAckOf, ack2Of}
 use Rattle.acks.specs.Ready.{HistoryReady}
@@ -22,8 +22,8 @@ use Rattle.acks.specs.declared.history.Ack2Answer.{Ack2Answer}
 use Rattle.acks.specs.declared.history.Ack2Answer.the-variants as acks2
 use Rattle.intervals.specs.declared.rates.Arrivals.{Arrivals}
 use Rattle.intervals.specs.declared.rates.Links.{Links}
+use Rattle.intervals.specs.declared.rates.Rate.{Rate}
 use Rattle.intervals.specs.declared.rates.Speed.{Speed}
-use Rattle.intervals.specs.declared.rates.Link.{Link}
 use Rattle.acks.specs.declared.rtt.Rtt.{Rtt}
 use Rattle.acks.proofs.HistoryKept.{right}
 use Rattle.window.specs.Window.{roomOf}
@@ -53,8 +53,9 @@ module _ (h : Head) (y : History) (now : ℤ) {f g : Head} {n : ℤ} where
   rtt-set t a b c d = rw (c, b, a, d)
 
 -- figures
-pub figured : (n : ℕ) (w : Window) (t : Rtt) (a : Arrivals) (l : Links) {room : ℕ} {speed : Speed} {link : Link}
-    → room ≡ roomOf w → speed ≡ speedOf a → link ≡ capacityOf l → answers.Ack n (w .lrsn) (t .mean) (t .variance) room speed link ≡ figuresOf n w t a l
+pub figured : (n : ℕ) (w : Window) (t : Rtt) (a : Arrivals) (l : Links) {room : ℕ} {speed : Speed} {link : Rate}
+    → room ≡ roomOf w → speed ≡ speedOf a → link ≡ capacityOf l
+    → answers.Ack n (w .lrsn) (t .mean) (t .variance) room (speed .packets) (speed .bytes) link ≡ figuresOf n w t a l
 figured n w t a l e f g = rw (e, f, g)
 
 module _ (h : Head) where
@@ -79,13 +80,13 @@ module _ (h : Head) (y : History) (now : ℤ) {a : AckAnswer} where
 
 -- roomy_ack, due_ack
 module _ (h : Head) (a : List ℕ) (now : ℤ) {a₁ : List ℕ} where
-  pub acked : {m : ℕ} {z n : ℤ} {k : Acked} {r : FullAcked}
-      → ackEnded k a₁ ≡ fullAckOf (h .history) a m (h .rtt .mean) (h .latency) (h .window .lrsn) → m ≡ natAbs z → z ≡ now
+  pub acked : {z n : ℤ} {k : Acked} {r : FullAcked}
+      → ackEnded k a₁ ≡ fullAckOf (h .history) a z (h .rtt .mean) (h .latency) (h .window .lrsn) → z ≡ now
       → r ≡ afterAck h (k .history) (k .answer) n → n ≡ now → fullAckEnded r a₁ ≡ roomyAck h a now
   unfolding roomyAck
-  acked {k = k} e f p g q =
-      let o = fullAckOf (h .history) a (natAbs now) (h .rtt .mean) (h .latency) (h .window .lrsn) in
-      let d : ackEnded k a₁ ≡ o = e ∙ rw (f, p) in
+  acked {k = k} e p g q =
+      let o = fullAckOf (h .history) a now (h .rtt .mean) (h .latency) (h .window .lrsn) in
+      let d : ackEnded k a₁ ≡ o = e ∙ rw p in
       rw (g, q) (ap (λ (x : AckOutcome). ofHistory h x now) {x = ackEnded k a₁} {y = o} d)
 
   pub ack-roomy : {t : ℕ} {n : ℤ} {r : FullAcked}
@@ -107,10 +108,10 @@ module _ (h : Head) (y : History) (now : ℤ) {a : Ack2Answer} {g : Head} {n : �
       → _≡_ {A = Ack2ed} (record { head = g; answer = rtts.Rtt (t .mean) (t .variance) }) (afterAck2 h y a now)
   ack2-held e f i p = rw (e, i, f, p)
 
-pub ack2-answered : (h : Head) (a : List ℕ) (now : ℤ) (number : ℕ) {m : ℕ} {z n : ℤ} {k : Answered} {r : Ack2ed}
-    → k ≡ ack2Of (h .history) a m number → m ≡ natAbs z → z ≡ now → r ≡ afterAck2 h (k .history) (k .answer) n → n ≡ now → r ≡ heldAck2 h a now number
+pub ack2-answered : (h : Head) (a : List ℕ) (now : ℤ) (number : ℕ) {z n : ℤ} {k : Answered} {r : Ack2ed}
+    → k ≡ ack2Of (h .history) a z number → z ≡ now → r ≡ afterAck2 h (k .history) (k .answer) n → n ≡ now → r ≡ heldAck2 h a now number
 unfolding heldAck2
-ack2-answered h a now number e f p g q = g ∙ rw (q, e, f, p)
+ack2-answered h a now number e p g q = g ∙ rw (q, e, p)
 
 -- on_full_ack_event
 pub acking-ready : (h : Head) (a : List ℕ) (t : ℤ) {n : ℕ} → n ≡ firstRefusal (timedRules (headOk h) (length a) 2048 t (h .latest)) → n ≡ 0 → AckReady h a
@@ -145,12 +146,12 @@ module _ (h : Head) (a : List ℕ) (now : ℤ) {t : ℤ} {n : ℕ} (b : n ≡ fi
 
 -- when no ACK is due, or the last number is given, the head keeps its history and the area every word
 module _ (h : Head) (a : List ℕ) (now : ℤ) where
-  pub none-stays : noneDue (h .history) a (natAbs now) (h .rtt .mean) (h .window .lrsn) ≡ true
+  pub none-stays : noneDue (h .history) a now (h .rtt .mean) (h .window .lrsn) ≡ true
       → roomyAck h a now ≡ fullAckEnded (record { head = withLatest h now; answer = answers.Nothing }) a
   unfolding roomyAck history.fullAckOf
   none-stays e = rw e
 
-  pub worn-stays : noneDue (h .history) a (natAbs now) (h .rtt .mean) (h .window .lrsn) ≡ false → isWorn (h .history) ≡ true
+  pub worn-stays : noneDue (h .history) a now (h .rtt .mean) (h .window .lrsn) ≡ false → isWorn (h .history) ≡ true
       → roomyAck h a now ≡ fullAckEnded (record { head = h; answer = answers.Refused 13 }) a
   unfolding roomyAck history.fullAckOf
   worn-stays e f = rw (e, f)

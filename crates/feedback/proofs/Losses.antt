@@ -58,13 +58,13 @@ unfolding rttOk
 mean-under t e = ltb-true (t .mean) (2 ^ 31) (and-left (ltb (t .mean) (2 ^ 31)) _ e)
 
 module _ (h : Head) (ws list : List ℕ) (now : ℤ) where
-  pub reported : {n n₁ : ℤ} {m : ℕ} {a : ReportAnswer} {ws₁ list₁ : List ℕ} {r : Reported}
-      → reportEnded a ws₁ list₁ ≡ reportOf (h .window) ws m (h .rtt .mean) list → m ≡ natAbs n → n ≡ now
+  pub reported : {n n₁ : ℤ} {a : ReportAnswer} {ws₁ list₁ : List ℕ} {r : Reported}
+      → reportEnded a ws₁ list₁ ≡ reportOf (h .window) ws n (h .rtt .mean) list → n ≡ now
       → r ≡ afterReport h a n₁ → n₁ ≡ now
       → lossEnded r ws₁ list₁ ≡ reportedOf h ws list now
   unfolding reportedOf
-  reported {a = a} {ws₁ = ws₁} {list₁ = list₁} e s p f q =
-      let d : reportEnded a ws₁ list₁ ≡ reportOf (h .window) ws (natAbs now) (h .rtt .mean) list = e ∙ rw (s, p) in
+  reported {a = a} {ws₁ = ws₁} {list₁ = list₁} e p f q =
+      let d : reportEnded a ws₁ list₁ ≡ reportOf (h .window) ws now (h .rtt .mean) list = e ∙ rw p in
       rw (f, q) (ap (ending h now) d)
 
   -- the call: its refusal, as the code and the definition have it
@@ -88,7 +88,7 @@ module _ (h : Head) (ws list : List ℕ) (now : ℤ) where
     unfolding reportCallOf
     loss-refused z = sym (refused (reportedOf h ws list now) (λ n. lossEnded (record { head = h; answer = answers.Refused n }) ws list) same z)
 
--- the size of a reading is the reading
+-- the word that a reading is written as is the reading
 pub reading-is : (z : ℤ) → isReading z ≡ true → pos (natAbs z) ≡ z
 reading-is (pos n) e = refl
 reading-is (negsuc n) e = absurd (let z : _≡_ {A = ℕ} 0 1 = cc in omega arith)

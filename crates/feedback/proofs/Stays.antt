@@ -4,7 +4,7 @@ use mathlib.Core.Bool.{Bool, true, false, cond}
 use mathlib.Core.List.{List}
 use Prim.Native.Nat.{ℕ, _*_}
 use lib.Dec.{eqb, ltb}
-use lib.IntN.{ℤ, natAbs}
+use lib.IntN.{ℤ}
 use lib.ListN.{length}
 use Rattle.window_report.specs.Report as report
 use Rattle.window_report.specs.declared.report.ReportAnswer.the-variants as reports
@@ -29,10 +29,10 @@ module _ (h : Head) (ws list : List ℕ) (now : ℤ) where
   reported-stays =
       let w = h .window in
       let m = h .rtt .mean in
-      let n = report.needed w ws (natAbs now) m in
+      let n = report.needed w ws now m in
       let none = report.reportEnded reports.Nothing ws list in
       let short = report.reportEnded reports.ListShort ws list in
-      let done = report.reportEnded (reports.Report n) (report.slotsTo w ws (natAbs now) m (w .held)) (report.listAll w ws (natAbs now) m list) in
+      let done = report.reportEnded (reports.Report n) (report.slotsTo w ws now m (w .held)) (report.listAll w ws now m list) in
       report-by (eqb n 0) none (cond (ltb (length list) n) short done)
       (λ e. absurd (e refl))
       (report-by (ltb (length list) n) short done (λ e. refl) (λ e. absurd (e refl)))

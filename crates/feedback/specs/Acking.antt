@@ -3,7 +3,7 @@ use mathlib.Core.Bool.{cond}
 use mathlib.Core.List.{List}
 use Prim.Native.Nat.{ℕ}
 use lib.Dec.{eqb}
-use lib.IntN.{ℤ, natAbs}
+use lib.IntN.{ℤ}
 use lib.ListN.{length}
 use Rattle.acks.specs.History.{AckOutcome, fullAckOf, ack2Of}
 use Rattle.intervals.specs.Rates.{speedOf, capacityOf}
@@ -30,9 +30,11 @@ use Rattle.feedback.specs.declared.acking.FullAckAnswer.the-variants as 
 use Rattle.feedback.specs.declared.acking.Ack2ed.{Ack2ed}
 use Rattle.feedback.specs.declared.acking.RttAnswer.the-variants as rtts
 
--- an ACK of this number with the head's figures: lrsn, the round trip, the room, the rates
+-- an ACK of this number with the head's figures: lrsn, the round trip, the room, packet_receive_rate, and
+-- estimated_link_capacity, which carries bytes a second, and data_receive_rate, which carries the link figure
 abbrev pub figuresOf : ℕ → Window → Rtt → Arrivals → Links → FullAckAnswer
-figuresOf n w t a l = answers.Ack n (w .lrsn) (t .mean) (t .variance) (roomOf w) (speedOf a) (capacityOf l)
+figuresOf n w t a l =
+    answers.Ack n (w .lrsn) (t .mean) (t .variance) (roomOf w) (speedOf a .packets) (speedOf a .bytes) (capacityOf l)
 
 -- the history's answer as the call's; `none` moves the latest reading only, and on refusal 13 the head stays
 abbrev pub afterAck : Head → History → AckAnswer → ℤ → FullAcked
@@ -54,7 +56,7 @@ abbrev pub ofHistory : Head → AckOutcome → ℤ → FullAckOutcome
 ofHistory h o now = fullAckEnded (afterAck h (o .acked .history) (o .acked .answer) now) (o .area)
 
 unfoldable pub roomyAck : Head → List ℕ → ℤ → FullAckOutcome
-roomyAck h a now = ofHistory h (fullAckOf (h .history) a (natAbs now) (h .rtt .mean) (h .latency) (h .window .lrsn)) now
+roomyAck h a now = ofHistory h (fullAckOf (h .history) a now (h .rtt .mean) (h .latency) (h .window .lrsn)) now
 
 -- none if there is no room
 unfoldable pub dueAck : Head → List ℕ → ℤ → FullAckOutcome
@@ -75,7 +77,7 @@ afterAck2 h y (acks2.Held r) now =
 
 unfoldable pub heldAck2 : Head → List ℕ → ℤ → ℕ → Ack2ed
 heldAck2 h a now number =
-    let k = ack2Of (h .history) a (natAbs now) number in
+    let k = ack2Of (h .history) a now number in
     afterAck2 h (k .history) (k .answer) now
 
 -- all that an ACK2 leaves: the head and the answer, and its line on paper

@@ -1,7 +1,7 @@
 -- The loss report call: 01, "Window", with refusals 1 to 4 and 12.
 use mathlib.Core.List.{List}
 use Prim.Native.Nat.{ℕ, _*_}
-use lib.IntN.{ℤ, natAbs}
+use lib.IntN.{ℤ}
 use lib.ListN.{length}
 use Rattle.window_report.specs.Report.{ReportOutcome, reportOf}
 use Rattle.window_report.specs.declared.report.ReportAnswer.{ReportAnswer}
@@ -45,9 +45,8 @@ afterReport h a now = record { head = headAfter h a now; answer = answerOf a }
 abbrev pub ending : Head → ℤ → ReportOutcome → LossOutcome
 ending h now o = lossEnded (afterReport h (o .answer) now) (o .slots) (o .list)
 
--- a reading is not negative, so that its size is the reading
 unfoldable pub reportedOf : Head → List ℕ → List ℕ → ℤ → LossOutcome
-reportedOf h ws list now = ending h now (reportOf (h .window) ws (natAbs now) (h .rtt .mean) list)
+reportedOf h ws list now = ending h now (reportOf (h .window) ws now (h .rtt .mean) list)
 
 unfoldable pub reportCallOf : Head → List ℕ → List ℕ → ℤ → LossOutcome
 reportCallOf h ws list now =

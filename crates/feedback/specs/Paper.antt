@@ -2,10 +2,8 @@
 use mathlib.Core.List.{List, [], _∷_, map}
 use Prim.Native.Nat.{ℕ}
 use lib.ListN.{take}
-use Rattle.intervals.specs.declared.rates.Speed.{Speed}
-use Rattle.intervals.specs.declared.rates.Speed.the-variants as speeds
-use Rattle.intervals.specs.declared.rates.Link.{Link}
-use Rattle.intervals.specs.declared.rates.Link.the-variants as links
+use Rattle.intervals.specs.declared.rates.Rate.{Rate}
+use Rattle.intervals.specs.declared.rates.Rate.the-variants.{Unknown, PerSecond}
 use Rattle.head.specs.Paper.{report, ack, rtt, adjusted, unsteady, none, Value, whole, dash, plain, Line, said, refusedBy}
 use Rattle.feedback.specs.declared.loss.LossAnswer.{LossAnswer}
 use Rattle.feedback.specs.declared.loss.LossAnswer.the-variants as losses
@@ -29,22 +27,16 @@ clockLine (clocks.Adjusted mean deviation) = said adjusted (whole mean ∷ plain
 clockLine (clocks.Unsteady deviation v) = record { word = unsteady; refusal = 0; values = plain deviation ∷ []; exact = v ∷ [] }
 clockLine (clocks.Refused n) = refusedBy n []
 
-abbrev pub packetsValue : Speed → Value
-packetsValue speeds.Unknown = dash
-packetsValue (speeds.Known packets bytes) = plain packets
+-- `-` for no rate
+abbrev pub rateValue : Rate → Value
+rateValue Unknown = dash
+rateValue (PerSecond n) = plain n
 
-abbrev pub bytesValue : Speed → Value
-bytesValue speeds.Unknown = dash
-bytesValue (speeds.Known packets bytes) = plain bytes
-
-abbrev pub linkValue : Link → Value
-linkValue links.Unknown = dash
-linkValue (links.Known n) = plain n
-
+-- packets, bytes, link
 abbrev pub fullAckLine : FullAckAnswer → Line
 fullAckLine acks.Nothing = said none []
-fullAckLine (acks.Ack number lrsn mean variance places speed link) =
-    said ack (plain number ∷ plain lrsn ∷ plain mean ∷ plain variance ∷ plain places ∷ packetsValue speed ∷ bytesValue speed ∷ linkValue link ∷ [])
+fullAckLine (acks.Ack number lrsn mean variance places packets bytes link) =
+    said ack (plain number ∷ plain lrsn ∷ plain mean ∷ plain variance ∷ plain places ∷ rateValue packets ∷ rateValue bytes ∷ rateValue link ∷ [])
 fullAckLine (acks.Refused n) = refusedBy n []
 
 abbrev pub rttLine : RttAnswer → Line

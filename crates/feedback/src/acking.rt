@@ -13,12 +13,11 @@ use acks::history::History;
 use acks::rtt::Rtt;
 use head::state::Head;
 use intervals::rates::Arrivals;
-use intervals::rates::Link;
 use intervals::rates::Links;
-use intervals::rates::Speed;
+use intervals::rates::Rate;
 use window::Window;
 
-// An ACK's estimated_link_capacity carries the bytes a second of `speed`, and its data_receive_rate the figure of `link`.
+// The rates have the names that the Rust's AckStatistics gives them.
 pub enum FullAckAnswer {
     Nothing,
     Ack {
@@ -27,8 +26,9 @@ pub enum FullAckAnswer {
         mean: u32,
         variance: u32,
         room: usize,
-        speed: Speed,
-        link: Link,
+        packet_receive_rate: Rate,
+        estimated_link_capacity: Rate,
+        data_receive_rate: Rate,
     },
     Refused(u32),
 }
@@ -66,13 +66,16 @@ fn with_rtt(h: Head, history: History, rtt: Rtt, time: i64) -> Head
     next.with_latest(time)
 }
 
-// An ACK of this number with the head's figures, by the parts that have them.
+// An ACK of this number with the head's figures, by the parts that have them. Its estimated_link_capacity carries bytes a second, and its
+// data_receive_rate the link figure.
 fn figures(number: u32, w: Window, rtt: Rtt, arrivals: Arrivals, links: Links) -> FullAckAnswer
     requires { ⌜ (w .held ≤ w .capacity) × (arrivalsOk arrivals ≡ true) ⌝ }
     ensures { λ r. ⌜ r ≡ figuresOf number w rtt arrivals links ⌝ }
 {
     let room = window::room(w);
     let speed = arrivals.speed();
+    let packets = speed.packets;
+    let bytes = speed.bytes;
     let link = links.capacity();
     FullAckAnswer::Ack {
         number,
@@ -80,8 +83,9 @@ fn figures(number: u32, w: Window, rtt: Rtt, arrivals: Arrivals, links: Links) -
         mean: rtt.mean,
         variance: rtt.variance,
         room,
-        speed,
-        link,
+        packet_receive_rate: packets,
+        estimated_link_capacity: bytes,
+        data_receive_rate: link,
     }
 }
 
@@ -112,8 +116,7 @@ fn roomy_ack(h: Head, area: &mut [u64], time: i64) -> FullAcked
     ensures { λ r. ⌜ fullAckEnded r (now (area .exit)) ≡ roomyAck h (now (area .entry)) time ⌝ }
 {
     let y = h.history;
-    let size = numbers::instant::size(time);
-    let acked = y.next_full_ack(area, size, h.rtt.mean, h.latency, h.window.lrsn);
+    let acked = y.next_full_ack(area, time, h.rtt.mean, h.latency, h.window.lrsn);
     let history = acked.history;
     let answer = acked.answer;
     after_ack(h, history, answer, time)
@@ -174,8 +177,7 @@ fn held_ack2(h: Head, area: &[u64], time: i64, number: u32) -> Ack2ed
     ensures { λ r. ⌜ r ≡ heldAck2 h (now (area .entry)) time number ⌝ }
 {
     let y = h.history;
-    let size = numbers::instant::size(time);
-    let answered = y.calculate_ack2(area, size, number);
+    let answered = y.calculate_ack2(area, time, number);
     let history = answered.history;
     let answer = answered.answer;
     after_ack2(h, history, answer, time)

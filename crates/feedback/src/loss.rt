@@ -43,14 +43,13 @@ fn after_report(h: Head, answer: ReportAnswer, time: i64) -> Reported
     }
 }
 
-// The call, once nothing refuses it. The window takes a reading by its size.
+// The call, once nothing refuses it.
 fn report(h: Head, words: &mut [u64], list: &mut [u32], time: i64) -> Reported
     requires { ⌜ ReportReady h (now words) ⌝ }
     ensures { λ r. ⌜ lossEnded r (now (words .exit)) (now (list .exit)) ≡ reportedOf h (now (words .entry)) (now (list .entry)) time ⌝ }
 {
     let w = h.window;
-    let at = numbers::instant::size(time);
-    let answer = window_report::report::loss_report(w, words, list, at, h.rtt.mean);
+    let answer = window_report::report::loss_report(w, words, list, time, h.rtt.mean);
     after_report(h, answer, time)
 }
 

@@ -9,10 +9,11 @@ use native.Mathlib.Omega.{arith}
 use borrow.Author.Needs.{needs}
 use borrow.Author.Tests.{ne-eqb, eq-eqb}
 use lib.Dec.{ltb, eqb}
-use lib.IntN.{ℤ, natAbs}
+use lib.IntN.{ℤ}
 use lib.ListN.{length, set}
 use lib.Seq.{getD-set-other}
 use Rattle.numbers.proofs.Flags.{impossible, by-bool}
+use Rattle.numbers.proofs.Signs.{reading-on}
 use Rattle.numbers.specs.Circular.{distance, after, before}
 use Rattle.numbers.specs.Order.{order}
 use Rattle.numbers.specs.declared.instant.Moment.{Moment}
@@ -42,7 +43,7 @@ use Rattle.head.specs.declared.state.Head.{Head}
 use Rattle.head.specs.Ready.{PushReady}
 use Rattle.head.proofs.Ready.{push-ready}
 use Rattle.receiver.specs.Data.{pushRefused, gotAnswer, placedOf, ackedOf, ratedOf, gotOf, afterPush, takenOf, dataCallOf}
-use Rattle.receiver.proofs.Datas.{arrivals-fit, links-fit, reading-under}
+use Rattle.receiver.proofs.Datas.{arrivals-fit, links-fit}
 use Rattle.receiver.specs.Paper.{dataLine}
 use Rattle.receiver.specs.declared.data.DataAnswer.{DataAnswer}
 use Rattle.receiver.specs.declared.data.DataAnswer.the-variants as answers
@@ -174,7 +175,7 @@ appended (pushes.PacketTooEarly room need) = false
 appended pushes.PacketTooLate = false
 appended pushes.DiscardedDuplicate = false
 
-push-other : (w : Window) (slots bs : List ℕ) (t : ℕ) (p : Packet) (payload : List ℕ) → isNext w (p .number) ≡ false → appended (pushOf w slots bs t p payload .pushed .answer) ≡ false
+push-other : (w : Window) (slots bs : List ℕ) (t : ℤ) (p : Packet) (payload : List ℕ) → isNext w (p .number) ≡ false → appended (pushOf w slots bs t p payload .pushed .answer) ≡ false
 unfolding isNext pushOf order appendWithLossOf recoverOf recoveredOf
 push-other w slots bs t p payload h =
     let n = nextOf w in
@@ -195,13 +196,13 @@ other-is ws w pushes.DiscardedDuplicate now number size h = refl
 
 -- take_packet
 module _ (ws : List ℕ) (w : Window) (slots bs : List ℕ) (now : ℤ) (p : Packet) (payload : List ℕ) where
-  pub taken-by : {u : Pushed} {z z₁ : ℤ} {t : ℕ} {slots₁ bs₁ vs : List ℕ} {r : DataAnswer}
+  pub taken-by : {u : Pushed} {z z₁ : ℤ} {slots₁ bs₁ vs : List ℕ} {r : DataAnswer}
       → isNext w (p .number) ≡ false → heard r vs ≡ afterOther ws (u .window) (u .answer) z₁ → z₁ ≡ now
-      → pushEnded u slots₁ bs₁ ≡ pushOf w slots bs t p payload → t ≡ natAbs z → z ≡ now → dataLeft r vs slots₁ bs₁ ≡ takenBy ws w slots bs now p payload
+      → pushEnded u slots₁ bs₁ ≡ pushOf w slots bs z p payload → z ≡ now → dataLeft r vs slots₁ bs₁ ≡ takenBy ws w slots bs now p payload
   unfolding takenBy
-  taken-by {u = u} {slots₁ = slots₁} {bs₁ = bs₁} {vs = vs} {r = r} h g k f n q =
-      let a : pushEnded u slots₁ bs₁ ≡ pushOf w slots bs (natAbs now) p payload = f ∙ rw (n, q) in
-      let c : appended (u .answer) ≡ false = ap (λ (o : PushOutcome). appended (o .pushed .answer)) a ∙ push-other w slots bs (natAbs now) p payload h in
+  taken-by {u = u} {slots₁ = slots₁} {bs₁ = bs₁} {vs = vs} {r = r} h g k f q =
+      let a : pushEnded u slots₁ bs₁ ≡ pushOf w slots bs now p payload = f ∙ rw q in
+      let c : appended (u .answer) ≡ false = ap (λ (o : PushOutcome). appended (o .pushed .answer)) a ∙ push-other w slots bs now p payload h in
       let b : heard r vs ≡ afterPushIn ws (u .window) (u .answer) now (p .number) (length payload) = g ∙ rw k (other-is ws (u .window) (u .answer) now (p .number) (length payload) c) in
       ap (λ (x : Heard). dataLeft (x .answer) (x .words) slots₁ bs₁) b
       ∙ ap (λ (o : PushOutcome). let x = afterPushIn ws (o .pushed .window) (o .pushed .answer) now (p .number) (length payload) in dataLeft (x .answer) (x .words) (o .slots) (o .payloads)) a
@@ -329,7 +330,7 @@ module _ (ws slots bs : List ℕ) (now : ℤ) (p : Packet) (payload : List ℕ) 
   unfolding takenBy takenOf headOf
   take-is t x =
       let ok : packOf (headOf ws) ≡ ws = ap packOf (sym (says-head ws (r .says))) ∙ pack-unpack ws (t .small) (r .says) (t .long) in
-      let o = pushOf (windowOf ws) slots bs (natAbs now) p payload in
+      let o = pushOf (windowOf ws) slots bs now p payload in
       x ∙ rw (e, q) (ap (λ (y : Heard). dataLeft (y .answer) (y .words) (o .slots) (o .payloads)) (after-words ws ok (r .ready .rates) (o .pushed .window) (o .pushed .answer) now (p .number) (length payload)))
 
 -- refusal
@@ -386,7 +387,7 @@ pub ruleset rates-in = (link-ready, rated-put, placed-put, acked-light, acked-go
 
 pub ruleset gots-in = (recovered-put, after-got, after-loss, after-refused, needs)
 
-pub ruleset pushes-in = (taken-by, reading-under, refusal-by, needs)
+pub ruleset pushes-in = (taken-by, reading-on, refusal-by, needs)
 
 pub ruleset takes-in = (take-ready, take-is, needs)
 

@@ -8,7 +8,7 @@ use native.Mathlib.Omega.{arith}
 use borrow.Author.Needs.{needs}
 use borrow.Author.Tests.{eq-eqb, ne-eqb}
 use lib.Dec.{eqb}
-use lib.IntN.{ℤ, natAbs}
+use lib.IntN.{ℤ}
 use lib.ListN.{length, set}
 use Rattle.numbers.specs.Order.{order}
 use Rattle.numbers.specs.Circular.{distance, equal, before, sum}
@@ -76,7 +76,7 @@ module _ (ws : List ℕ) (w : Window) (slots bs : List ℕ) (now : ℤ) (p : Pac
   next-gone {slots₁ = slots₁} {bs₁ = bs₁} h a b c d e f = ap (λ (x : Heard). dataLeft (x .answer) (x .words) slots₁ bs₁) e ∙ rw (ne-eqb _ _ h, c, d, b, a, f)
 
 -- a push at the next expected number appends
-push-next : (w : Window) (slots bs : List ℕ) (t : ℕ) (p : Packet) (payload : List ℕ) → isNext w (p .number) ≡ true → pushOf w slots bs t p payload ≡ appendNextOf w slots bs t p payload
+push-next : (w : Window) (slots bs : List ℕ) (t : ℤ) (p : Packet) (payload : List ℕ) → isNext w (p .number) ≡ true → pushOf w slots bs t p payload ≡ appendNextOf w slots bs t p payload
 unfolding isNext pushOf order
 push-next w slots bs t p payload h = rw h
 
@@ -126,7 +126,7 @@ module _ (ws slots bs : List ℕ) (now : ℤ) (p : Packet) (payload : List ℕ) 
   next-is t r h =
       let ok : packOf (headOf ws) ≡ ws = ap packOf (sym (says-head ws (r .says))) ∙ pack-unpack ws (t .small) (r .says) (t .long) in
       let w = windowOf ws in
-      let e = push-next w slots bs (natAbs now) p payload h in
+      let e = push-next w slots bs now p payload h in
       by-bool (eqb (w .held) (w .capacity))
       (λ b. rw (e, b))
       (λ b. rw (e, b, kept-next ws ok (r .ready .rates) (w .held + 1) (movedPast (w .lrsn) (p .number)) now (p .number) (length payload)))

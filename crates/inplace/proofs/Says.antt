@@ -283,7 +283,7 @@ module _ (h : Head) (slots bs : List ℕ) (now : ℤ) (p : Packet) (payload : Li
   rest-data : Rest h → Rest (dataCallOf h slots bs now p payload .handled .head)
   unfolding dataCallOf dataTakenOf
   rest-data r =
-      let o = pushOf (h .window) slots bs (natAbs now) p payload in
+      let o = pushOf (h .window) slots bs now p payload in
       by-test (λ (x : DataOutcome). Rest (x .handled .head)) (eqb push-refusal 0) _ _
       (λ z.
       let d = push-ready h slots bs now p payload (eqb-true push-refusal 0 z) in

@@ -4,7 +4,7 @@ use mathlib.Core.Bool.{Bool, true, false, cond}
 use mathlib.Core.List.{List}
 use Prim.Native.Nat.{ℕ, _+_, _%_, _<_, _≤_}
 use lib.Dec.{eqb}
-use lib.IntN.{ℤ, natAbs}
+use lib.IntN.{ℤ}
 use lib.ListN.{length, set}
 use Rattle.numbers.specs.Circular.{equal}
 use Rattle.numbers.specs.Instants.{isReading, sinceTime}
@@ -99,7 +99,7 @@ afterOther ws w pushes.DiscardedDuplicate now = heard (answers.Refused 10) ws
 
 unfoldable pub takenBy : List ℕ → Window → List ℕ → List ℕ → ℤ → Packet → List ℕ → DataLeft
 takenBy ws w slots bs now p payload =
-    let o = pushOf w slots bs (natAbs now) p payload in
+    let o = pushOf w slots bs now p payload in
     let x = afterPushIn ws (o .pushed .window) (o .pushed .answer) now (p .number) (length payload) in
     dataLeft (x .answer) (x .words) (o .slots) (o .payloads)
 

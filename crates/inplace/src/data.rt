@@ -8,8 +8,8 @@ ghost use Rattle.inplace.specs.Calls.{dataIn, dataLeft};
 ghost use Rattle.inplace.specs.Pushes.{putLast, putArrival, putPair, putLinked, putRated, putPlaced, heard, ackedIn, recoveredIn, afterOther, takenBy, Pairs, Rates, TakeReady, isNext, putNext, ackedNext, keptNext, nextTaken, Pushing, dataTaken, pushRefusal};
 use acks::history::History;
 use intervals::rates::one_more;
-use intervals::rates::since;
 use numbers::instant::Moment;
+use numbers::instant::since;
 use packing::pack;
 use packing::unpack;
 use packing::words;
@@ -140,7 +140,7 @@ fn after_push(ws: &mut [u64; 79], pushed: Pushed, time: i64) -> DataAnswer
     recovered(ws, window, lrsn, time)
 }
 
-// The call, once nothing refuses it, of a packet that is not the next one. A reading is not negative, so the window takes it without its sign.
+// The call, once nothing refuses it, of a packet that is not the next one.
 fn take_packet(
     ws: &mut [u64; 79],
     w: Window,
@@ -153,8 +153,7 @@ fn take_packet(
     requires { ⌜ TakeReady (now ws) w (now slots) (now bytes) time p (now payload) × (isNext w (p .number) ≡ false) ⌝ }
     ensures { λ r. ⌜ dataLeft r (now (ws .exit)) (now (slots .exit)) (now (bytes .exit)) ≡ takenBy (now (ws .entry)) w (now (slots .entry)) (now (bytes .entry)) time p (now (payload .entry)) ⌝ }
 {
-    let t = numbers::instant::size(time);
-    let pushed = window::push::push(w, slots, bytes, t, p, payload);
+    let pushed = window::push::push(w, slots, bytes, time, p, payload);
     after_push(ws, pushed, time)
 }
 

@@ -7,11 +7,10 @@ use lib.IntN.{pos}
 use Rattle.numbers.specs.Instants as instants
 use Rattle.numbers.specs.declared.instant.Moment.the-variants.{Unset, At}
 use Rattle.intervals.specs.Median.{insert, sort, medianOf}
-use Rattle.intervals.specs.Rates.{freshArrivals, freshLinks, arrivalOf, takeIn, keptOf, rateOf, speedKept, speedOf, pairOf, linkOf, linkRate, capacityOf}
+use Rattle.intervals.specs.Rates.{freshArrivals, freshLinks, arrivalOf, takeIn, keptOf, rateOf, noSpeed, someSpeed, speedKept, speedOf, pairOf, linkOf, linkRate, capacityOf}
 use Rattle.intervals.specs.declared.rates.Arrivals.{Arrivals}
 use Rattle.intervals.specs.declared.rates.Links.{Links}
-use Rattle.intervals.specs.declared.rates.Speed.the-variants as speeds
-use Rattle.intervals.specs.declared.rates.Link.the-variants as links
+use Rattle.intervals.specs.declared.rates.Rate.the-variants.{PerSecond}
 
 -- eight intervals of 200 and eight of 100: index 8 of the sorted 16 is a 200, index 7 a 100
 abbrev mixed : List ℕ
@@ -27,34 +26,34 @@ middle : medianOf mixed 8 ≡ 200
 unfolding medianOf sort insert
 middle = refl
 
-below-middle : capacityOf (pairs mixed 16) ≡ links.Known 10000
+below-middle : capacityOf (pairs mixed 16) ≡ PerSecond 10000
 unfolding capacityOf linkRate medianOf sort insert
 below-middle = refl
 
 -- 16 packets of 1,456 bytes in 2,400 µs, truncated; one interval fewer, none
-fast : speedOf (arrivals mixed 16) ≡ speeds.Known 6666 9706666
+fast : speedOf (arrivals mixed 16) ≡ someSpeed 6666 9706666
 unfolding speedOf speedKept keptOf takeIn rateOf medianOf sort insert
 fast = refl
 
-too-few : speedOf (arrivals mixed 15) ≡ speeds.Unknown
+too-few : speedOf (arrivals mixed 15) ≡ noSpeed
 unfolding speedOf
 too-few = refl
 
 -- intervals far from the median are not kept: 9 are enough, 8 are not
-nine : speedOf (arrivals (replicate 9 100 ++ replicate 7 800) 16) ≡ speeds.Known 10000 14560000
+nine : speedOf (arrivals (replicate 9 100 ++ replicate 7 800) 16) ≡ someSpeed 10000 14560000
 unfolding speedOf speedKept keptOf takeIn rateOf medianOf sort insert
 nine = refl
 
-eight : speedOf (arrivals (replicate 8 800 ++ replicate 8 100) 16) ≡ speeds.Unknown
+eight : speedOf (arrivals (replicate 8 800 ++ replicate 8 100) 16) ≡ noSpeed
 unfolding speedOf speedKept keptOf takeIn rateOf medianOf sort insert
 eight = refl
 
 -- whole division (A4), and no time at all
-whole-division : capacityOf (pairs (replicate 16 5) 16) ≡ links.Known 200000
+whole-division : capacityOf (pairs (replicate 16 5) 16) ≡ PerSecond 200000
 unfolding capacityOf linkRate medianOf sort insert
 whole-division = refl
 
-no-time : capacityOf (pairs (replicate 16 0) 16) ≡ links.Known 4294967295
+no-time : capacityOf (pairs (replicate 16 0) 16) ≡ PerSecond 4294967295
 unfolding capacityOf linkRate medianOf sort insert
 no-time = refl
 

@@ -9,49 +9,23 @@ use native.Mathlib.Numerals.{add-one}
 use native.Mathlib.Omega.{arith}
 use borrow.Author.Needs.{needs}
 use borrow.Author.Tests.{eq-eqb, ne-eqb, lt-ltb, le-ltb, le-leb, lt-leb}
-use lib.Dec.{T, ltb}
-use lib.IntN.{ℤ, pos, natAbs, _-ℤ_}
+use lib.Dec.{ltb}
+use lib.IntN.{ℤ}
 use lib.ListN.{getD, set, replicate}
-use lib.Signed.{ltZ, nonNeg}
 use mir.Syntax.{w32}
 use mir.Val.{Fits}
-use Rattle.numbers.specs.Instants.{intervalOf, isReading, sinceTime}
+use Rattle.numbers.specs.Instants.{isReading, sinceTime}
 use Rattle.numbers.specs.declared.instant.Moment.{Moment}
 use Rattle.numbers.specs.declared.instant.Moment.the-variants.{Unset, At}
 use Rattle.numbers.proofs.Flags.{by-test}
-use Rattle.numbers.proofs.Halves.{same, size, not-negative, above--, below--}
-use Rattle.numbers.proofs.Signs.{clamp-in, interval-above}
 use Rattle.intervals.specs.Median.{medianOf}
-use Rattle.intervals.specs.Rates.{nextPlace, countAfter, freshArrivals, freshLinks, arrivedFirst, arrivalOf, keeps, takeIn, keptOf, rateOf, speedKept, speedOf, withProbe, pairOf, linkOf, linkRate, capacityOf, placeBefore, windowOf, arrivalSizes, allUnder, timeOk, intervalsOk, arrivalsOk, linksOk}
+use Rattle.intervals.specs.Rates.{nextPlace, countAfter, freshArrivals, freshLinks, arrivedFirst, arrivalOf, keeps, takeIn, keptOf, rateOf, noSpeed, someSpeed, speedKept, speedOf, withProbe, pairOf, linkOf, linkRate, capacityOf, placeBefore, windowOf, arrivalSizes, allUnder, timeOk, intervalsOk, arrivalsOk, linksOk}
 use Rattle.intervals.specs.Inner.{firstUnder}
 use Rattle.intervals.specs.declared.rates.Arrivals.{Arrivals}
 use Rattle.intervals.specs.declared.rates.Links.{Links}
 use Rattle.intervals.specs.declared.rates.Kept.{Kept}
-use Rattle.intervals.specs.declared.rates.Speed.the-variants as speeds
-use Rattle.intervals.specs.declared.rates.Link.the-variants as links
+use Rattle.intervals.specs.declared.rates.Rate.the-variants.{Unknown, PerSecond}
 use Rattle.intervals.proofs.Windows.{under-place, under-sixteen, interval-ranges, arrival-ranges, kept-count, kept-sum, kept-bytes}
-
--- since
-interval-self : (z : ℤ) → natAbs (intervalOf z z) ≡ 0
-unfolding intervalOf
-interval-self z =
-    let e : z -ℤ z ≡ pos 0 = same (above-- z z ∙ omega arith) (below-- z z ∙ omega arith) in
-    rw (e, clamp-in (pos 0) (omega arith) (omega arith))
-
-pub since-later : (now t : ℤ) {n u : ℤ} → ltZ n u ≡ true → n ≡ now → u ≡ t → 0 ≡ sinceTime now t
-unfolding sinceTime
-since-later now t e p q = rw (rw (p, q) at e) (sym (interval-self now))
-
-module _ (now t : ℤ) {n u n₁ u₁ r r₁ : ℤ} (e : ltZ n u ≡ false) (p : n ≡ now) (q : u ≡ t) (f : r ≡ intervalOf u₁ n₁) (p₁ : n₁ ≡ now) (q₁ : u₁ ≡ t) (g : r₁ ≡ r) where
-  pub since-on : natAbs r₁ ≡ sinceTime now t
-  unfolding sinceTime
-  since-on = rw (rw (p, q) at e, g, f, p₁, q₁)
-
-  pub since-sign : T (nonNeg r₁)
-  since-sign = rw (g, f, p₁, q₁) (not-negative (intervalOf t now) (interval-above t now (rw (p, q) at e) .0))
-
-  pub since-fits : Fits w32 (natAbs r₁)
-  since-fits = rw (g, f, p₁, q₁) (record { fits = omega (arith, interval-above t now (rw (p, q) at e) .1) })
 
 -- the constructors
 pub fresh-arrivals : _≡_ {A = Arrivals} (record { gaps = replicate 16 0; sizes = replicate 16 0; at = 0; count = 0; last = Unset }) freshArrivals
@@ -212,26 +186,26 @@ module _ (a : Arrivals) (ai : ℕ) (k : Kept) (o : arrivalsOk a ≡ true) (h : 1
   bytes-small = let l : k .count ≤ 16 = rw e (kept-count (a .gaps) (a .sizes) ai 16) in omega (arith, bytes-most)
 
 module _ (a : Arrivals) where
-  pub speed-few : a .count < 16 → speeds.Unknown ≡ speedOf a
+  pub speed-few : a .count < 16 → noSpeed ≡ speedOf a
   unfolding speedOf
   speed-few h = rw (lt-ltb _ _ h)
 
   module _ {ai : ℕ} {k : Kept} (h : 16 ≤ a .count) (e : ai ≡ medianOf (a .gaps) 8) (f : k ≡ keptOf (a .gaps) (a .sizes) ai 16) where
-    pub speed-none : k .count ≤ 8 → speeds.Unknown ≡ speedOf a
+    pub speed-none : k .count ≤ 8 → noSpeed ≡ speedOf a
     unfolding speedOf speedKept
     speed-none l = rw (le-ltb _ _ h, ← e, ← f, le-leb _ _ l)
 
-    pub speed-some : {packets bytes : ℕ} → 8 < k .count → packets ≡ rateOf (k .count) (k .sum) → bytes ≡ rateOf (k .bytes) (k .sum) → speeds.Known packets bytes ≡ speedOf a
+    pub speed-some : {packets bytes : ℕ} → 8 < k .count → packets ≡ rateOf (k .count) (k .sum) → bytes ≡ rateOf (k .bytes) (k .sum) → someSpeed packets bytes ≡ speedOf a
     unfolding speedOf speedKept
     speed-some l p q = rw (le-ltb _ _ h, ← e, ← f, lt-leb _ _ l, p, q)
 
 -- capacity
 module _ (l : Links) where
-  pub capacity-few : l .count < 16 → links.Unknown ≡ capacityOf l
+  pub capacity-few : l .count < 16 → Unknown ≡ capacityOf l
   unfolding capacityOf
   capacity-few h = rw (lt-ltb _ _ h)
 
-  pub capacity-some : {m r : ℕ} → 16 ≤ l .count → m ≡ medianOf (l .gaps) 7 → r ≡ linkRate m → links.Known r ≡ capacityOf l
+  pub capacity-some : {m r : ℕ} → 16 ≤ l .count → m ≡ medianOf (l .gaps) 7 → r ≡ linkRate m → PerSecond r ≡ capacityOf l
   unfolding capacityOf
   capacity-some h e f = rw (le-ltb _ _ h, ← e, f)
 
@@ -267,10 +241,6 @@ unfolding linksOk
 links-test l e f = rw (e, f)
 
 pub ruleset rateSteps = (
-  since-later,
-  since-on,
-  since-sign,
-  since-fits,
   fresh-arrivals,
   fresh-links,
   arrives-first,

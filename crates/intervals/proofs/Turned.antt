@@ -15,7 +15,7 @@ use Rattle.intervals.specs.Rates.{placeBefore, windowOf, arrivalGaps, ar
 use Rattle.intervals.specs.declared.rates.Arrivals.{Arrivals}
 use Rattle.intervals.specs.declared.rates.Links.{Links}
 use Rattle.intervals.specs.declared.rates.Kept.{Kept}
-use Rattle.intervals.specs.declared.rates.Link.the-variants as links
+use Rattle.intervals.specs.declared.rates.Rate.the-variants.{PerSecond}
 use Rattle.intervals.proofs.Sorted.{index-is, median-has}
 use Rattle.intervals.proofs.MedianSteps.{below-append}
 
@@ -159,7 +159,7 @@ module _ (a : Arrivals) (full : a .count ≡ 16) (h : a .at < 16) (e : length (a
       rw (le-ltb _ _ l, m, kept-turned (medianOf (a .gaps) 8))
 
 -- and so is the capacity
-pub capacity-window : (l : Links) → l .count ≡ 16 → l .at < 16 → length (l .gaps) ≡ 16 → capacityOf l ≡ links.Known (linkRate (medianOf (linkGaps l) 7))
+pub capacity-window : (l : Links) → l .count ≡ 16 → l .at < 16 → length (l .gaps) ≡ 16 → capacityOf l ≡ PerSecond (linkRate (medianOf (linkGaps l) 7))
 unfolding capacityOf
 capacity-window l full h e =
     let k : 16 ≤ l .count = omega arith in

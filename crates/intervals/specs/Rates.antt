@@ -14,9 +14,8 @@ use Rattle.intervals.specs.declared.rates.Arrivals.{Arrivals}
 use Rattle.intervals.specs.declared.rates.Links.{Links}
 use Rattle.intervals.specs.declared.rates.Kept.{Kept}
 use Rattle.intervals.specs.declared.rates.Speed.{Speed}
-use Rattle.intervals.specs.declared.rates.Speed.the-variants as speeds
-use Rattle.intervals.specs.declared.rates.Link.{Link}
-use Rattle.intervals.specs.declared.rates.Link.the-variants as links
+use Rattle.intervals.specs.declared.rates.Rate.{Rate}
+use Rattle.intervals.specs.declared.rates.Rate.the-variants.{Unknown, PerSecond}
 
 -- a window is a ring of 16 places; `at` is the next to be written, so that the newest 16 stay
 abbrev pub nextPlace : ℕ → ℕ
@@ -87,13 +86,20 @@ keptOf gaps sizes ai (suc n) = takeIn ai (getD gaps n 0) (getD sizes n 0) (keptO
 unfoldable pub rateOf : ℕ → ℕ → ℕ
 rateOf n sum = n * 1000000 / sum
 
+-- packets and bytes are known together
+abbrev pub noSpeed : Speed
+noSpeed = record { packets = Unknown; bytes = Unknown }
+
+abbrev pub someSpeed : ℕ → ℕ → Speed
+someSpeed packets bytes = record { packets = PerSecond packets; bytes = PerSecond bytes }
+
 -- at most 8 left, none
 unfoldable pub speedKept : Kept → Speed
-speedKept k = cond (leb (k .count) 8) speeds.Unknown (speeds.Known (rateOf (k .count) (k .sum)) (rateOf (k .bytes) (k .sum)))
+speedKept k = cond (leb (k .count) 8) noSpeed (someSpeed (rateOf (k .count) (k .sum)) (rateOf (k .bytes) (k .sum)))
 
 -- newest 16 intervals (fewer: none), median index 8 = ai; they fill the ring, and where it begins does not matter
 unfoldable pub speedOf : Arrivals → Speed
-speedOf a = cond (ltb (a .count) 16) speeds.Unknown (speedKept (keptOf (a .gaps) (a .sizes) (medianOf (a .gaps) 8) 16))
+speedOf a = cond (ltb (a .count) 16) noSpeed (speedKept (keptOf (a .gaps) (a .sizes) (medianOf (a .gaps) 8) 16))
 
 -- link: an append of a number 16n sets the probe time; one of 16n + 1 records the interval since it, if set, and unsets it
 abbrev pub withProbe : Links → Moment → Links
@@ -116,8 +122,8 @@ linkOf l now number = cond (eqb (number % 16) 0) (withProbe l (At now)) (cond (e
 unfoldable pub linkRate : ℕ → ℕ
 linkRate m = cond (eqb m 0) 4294967295 (1000000 / m)
 
-unfoldable pub capacityOf : Links → Link
-capacityOf l = cond (ltb (l .count) 16) links.Unknown (links.Known (linkRate (medianOf (l .gaps) 7)))
+unfoldable pub capacityOf : Links → Rate
+capacityOf l = cond (ltb (l .count) 16) Unknown (PerSecond (linkRate (medianOf (l .gaps) 7)))
 
 -- windows of at most 16 intervals (each 0..2^31-1, size at most 1,456); probe and arrival times are readings
 unfoldable pub allUnder : ℕ → List ℕ → Bool

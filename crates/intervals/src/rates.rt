@@ -2,10 +2,10 @@
 ghost use mathlib.Core.Path.{_≡_};
 ghost use mathlib.Core.Bool.{true};
 ghost use Prim.Native.Nat.{_*_, _<_, _≤_, _^_};
-ghost use Rattle.numbers.specs.Instants.{sinceTime};
 ghost use Rattle.intervals.specs.Rates.{countAfter, windowOf, freshArrivals, freshLinks, arrivalOf, keeps, takeIn, keptOf, rateOf, speedOf, pairOf, linkOf, linkRate, capacityOf, allUnder, timeOk, intervalsOk, arrivalsOk, linksOk};
 ghost use Rattle.intervals.specs.Inner.{firstUnder};
 use numbers::instant::Moment;
+use numbers::instant::since;
 
 // Intervals between arrivals, with the sizes of what came; `at` is the next place to be written, `last` the last arrival.
 pub struct Arrivals {
@@ -31,24 +31,16 @@ struct Kept {
     bytes: u64,
 }
 
-pub enum Speed {
+// A rate, which may be unknown.
+pub enum Rate {
     Unknown,
-    Known { packets: u32, bytes: u32 },
+    PerSecond(u32),
 }
 
-pub enum Link {
-    Unknown,
-    Known(u32),
-}
-
-// The interval since a time; a time after `now` is read as `now`.
-pub fn since(now: i64, time: i64) -> u32
-    ensures { λ r. ⌜ r ≡ sinceTime now time ⌝ }
-{
-    if now < time {
-        return 0;
-    }
-    numbers::instant::interval(time, now) as u32
+// What arrives: both rates are known, or neither.
+pub struct Speed {
+    pub packets: Rate,
+    pub bytes: Rate,
 }
 
 pub fn one_more(count: usize) -> usize
@@ -97,7 +89,7 @@ fn keep(gaps: [u32; 16], sizes: [u32; 16], ai: u32) -> Kept
 }
 
 // n in `sum` µs, as so many a second. No packet is larger than 1,456 bytes, and none comes in less than 1 µs.
-fn rate(n: u64, sum: u64) -> u32
+fn rate_of(n: u64, sum: u64) -> u32
     requires { ⌜ (0 < sum) × (n ≤ 1456 * sum) × (n < 2 ^ 40) ⌝ }
     ensures { λ r. ⌜ r ≡ rateOf n sum ⌝ }
 {
@@ -221,18 +213,27 @@ impl Arrivals {
         ensures { λ r. ⌜ r ≡ speedOf self ⌝ }
     {
         if self.count < 16 {
-            return Speed::Unknown;
+            return Speed {
+                packets: Rate::Unknown,
+                bytes: Rate::Unknown,
+            };
         }
         let gaps = self.gaps;
         let sizes = self.sizes;
         let ai = crate::median::median(gaps, 8);
         let k = keep(gaps, sizes, ai);
         if k.count <= 8 {
-            return Speed::Unknown;
+            return Speed {
+                packets: Rate::Unknown,
+                bytes: Rate::Unknown,
+            };
         }
-        let packets = rate(k.count, k.sum);
-        let bytes = rate(k.bytes, k.sum);
-        Speed::Known { packets, bytes }
+        let packets = rate_of(k.count, k.sum);
+        let bytes = rate_of(k.bytes, k.sum);
+        Speed {
+            packets: Rate::PerSecond(packets),
+            bytes: Rate::PerSecond(bytes),
+        }
     }
 
     pub fn in_range(self) -> bool
@@ -310,15 +311,15 @@ impl Links {
     }
 
     // Packets a second, by the median interval of the pairs.
-    pub fn capacity(self) -> Link
+    pub fn capacity(self) -> Rate
         ensures { λ r. ⌜ r ≡ capacityOf self ⌝ }
     {
         if self.count < 16 {
-            return Link::Unknown;
+            return Rate::Unknown;
         }
         let gaps = self.gaps;
         let median = crate::median::median(gaps, 7);
-        Link::Known(link_rate(median))
+        Rate::PerSecond(link_rate(median))
     }
 
     pub fn in_range(self) -> bool

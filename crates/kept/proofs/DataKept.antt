@@ -6,7 +6,7 @@ use Prim.Native.Nat.{ℕ, _*_, _^_, _<_, _≤_}
 use native.Mathlib.Omega.{arith}
 use borrow.Author.Tests.{eqb-true, leb-false, ltb-false, not-false}
 use lib.Dec.{eqb, lit<}
-use lib.IntN.{ℤ, pos, natAbs}
+use lib.IntN.{ℤ, pos}
 use lib.ListN.{length}
 use Rattle.numbers.specs.Instants.{isReading}
 use Rattle.numbers.proofs.Flags.{by-test}
@@ -100,7 +100,7 @@ pub loss-kept : (h : Head) (ws list : List ℕ) (now : ℤ) → headOk h ≡ tru
 unfolding reportCallOf reportedOf
 loss-kept h ws list now e =
     by-refusal (λ (o : LossOutcome). headOk (o .reported .head) ≡ true) (firstRefusal (timedRules (headOk h) (length ws) (3 * h .window .capacity) now (h .latest))) _ _
-    (λ z. go (timed-ready h now (length ws) (3 * h .window .capacity) z .0 .reading) (reportOf (h .window) ws (natAbs now) (h .rtt .mean) list .answer))
+    (λ z. go (timed-ready h now (length ws) (3 * h .window .capacity) z .0 .reading) (reportOf (h .window) ws now (h .rtt .mean) list .answer))
     e
   where
     go : isReading now ≡ true → (a : ReportAnswer) → headOk (headAfter h a now) ≡ true
@@ -164,10 +164,10 @@ module _ (h : Head) (ws bs : List ℕ) (now : ℤ) (p : Packet) (payload : List 
   taken-in : PushReady h ws bs now p payload → InRange (takenOf h ws bs now p payload .handled .head)
   unfolding takenOf
   taken-in d =
-      let o = pushOf (h .window) ws bs (natAbs now) p payload in
-      let g = push-kept (h .window) ws bs (natAbs now) p payload (d .good) (d .payloads) (d .right) .0 in
+      let o = pushOf (h .window) ws bs now p payload in
+      let g = push-kept (h .window) ws bs now p payload (d .good) (d .payloads) (d .right) .0 in
       after-in h (d .head) now (d .reading) (p .number) (length payload) (d .right .bytes) (o .pushed .window) (from-window (o .pushed .window) (g .ranges)) (o .pushed .answer)
-      (push-says (h .window) ws bs (natAbs now) p payload)
+      (push-says (h .window) ws bs now p payload)
 
   pub data-kept : headOk h ≡ true → headOk (dataCallOf h ws bs now p payload .handled .head) ≡ true
   unfolding dataCallOf

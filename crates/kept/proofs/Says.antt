@@ -3,6 +3,7 @@ use mathlib.Core.Path.{_≡_, refl}
 use mathlib.Core.List.{List}
 use Prim.Native.Nat.{ℕ, _+_}
 use lib.Dec.{eqb, ltb}
+use lib.IntN.{ℤ}
 use Rattle.numbers.specs.Circular.{distance, before}
 use Rattle.numbers.specs.Order.{order}
 use Rattle.numbers.specs.declared.seq.Order.{Order}
@@ -25,7 +26,7 @@ Says l (pushes.PacketTooEarly room need) = Unit
 Says l pushes.PacketTooLate = Unit
 Says l pushes.DiscardedDuplicate = Unit
 
-module _ (w : Window) (ws bs : List ℕ) (time : ℕ) (p : Packet) (payload : List ℕ) where
+module _ (w : Window) (ws bs : List ℕ) (time : ℤ) (p : Packet) (payload : List ℕ) where
   abbrev Said : PushOutcome → Type 0
   Said o = Says (o .pushed .window .lrsn) (o .pushed .answer)
 

@@ -5,7 +5,7 @@ use mathlib.Core.List.{List}
 use Prim.Native.Nat.{ℕ, _<_, _^_}
 use borrow.Author.Tests.{eqb-true, not-false}
 use lib.Dec.{eqb, lit<}
-use lib.IntN.{ℤ, natAbs}
+use lib.IntN.{ℤ}
 use lib.ListN.{length}
 use Rattle.numbers.specs.Instants.{isReading}
 use Rattle.numbers.proofs.Flags.{by-test}
@@ -106,9 +106,9 @@ ack2-kept h a now number o =
     by-test (λ (x : Ack2Outcome). headOk (x .acked2 .head) ≡ true) (eqb n 0) _ _
     (λ z.
     let t = timed-ready h now (length a) 2048 (eqb-true n 0 z) .0 in
-    let k = ack2Of (h .history) a (natAbs now) number in
-    after-ack2 h now (t .head) (t .reading) (k .history) (k .answer) (histories.ack2-kept (h .history) (t .head .history) a (natAbs now) number)
-    (λ m e. histories.ack2-small (h .history) a (natAbs now) number e))
+    let k = ack2Of (h .history) a now number in
+    after-ack2 h now (t .head) (t .reading) (k .history) (k .answer) (histories.ack2-kept (h .history) (t .head .history) a now number)
+    (λ m e. histories.ack2-small (h .history) a now number e))
     (λ z. o)
 
 pub full-ack-kept : (h : Head) (a : List ℕ) (now : ℤ) → headOk h ≡ true → headOk (fullAckCallOf h a now .acked .head) ≡ true
@@ -119,12 +119,12 @@ full-ack-kept h a now o =
     (λ z.
     let t = timed-ready h now (length a) 2048 (eqb-true n 0 z) .0 in
     let w = in-window (h .window) (t .head .window) in
-    let k = fullAckOf (h .history) a (natAbs now) (h .rtt .mean) (h .latency) (h .window .lrsn) in
+    let k = fullAckOf (h .history) a now (h .rtt .mean) (h .latency) (h .window .lrsn) in
     by-test (λ (x : FullAckOutcome). headOk (x .acked .head) ≡ true) (eqb (roomOf (h .window)) 0) _ _
     (λ u. rtt-set h now (t .head) (t .reading) (h .history) (h .rtt) (t .head .history) (t .head .rtt))
     (λ u.
     after-ack h now (t .head) (t .reading) (k .acked .history) (k .acked .answer) o
-    (histories.full-ack-kept (h .history) (t .head .history) a (natAbs now) (h .rtt .mean) (h .latency) (h .window .lrsn) (w .lrsn))))
+    (histories.full-ack-kept (h .history) (t .head .history) a now (h .rtt .mean) (h .latency) (h .window .lrsn) (w .lrsn))))
     (λ z. o)
 
 pub clock-kept : (h : Head) (now : ℤ) (stamp : ℕ) → headOk h ≡ true → headOk (clockCallOf h now stamp .clocked .head) ≡ true

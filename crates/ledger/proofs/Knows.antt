@@ -7,7 +7,7 @@ use Prim.Native.Nat.{ℕ, _+_, _-_, _*_, _^_, _<_}
 use native.Mathlib.Omega.{arith}
 use borrow.Author.Tests.{ne-eqb}
 use lib.Dec.{eqb}
-use lib.IntN.{ℤ, natAbs}
+use lib.IntN.{ℤ}
 use lib.ListN.{length}
 use Rattle.numbers.proofs.Flags.{by-bool, by-test}
 use Rattle.numbers.specs.Circular.{distance}
@@ -108,11 +108,11 @@ module _ (h : Head) (ws bs : List ℕ) where
         let r = push-ready h ws bs now p payload z in
         let bytes : (i : ℕ) → length (withPayload bs (slotIn w i) payload) ≡ length bs =
         λ i. length-payload bs (slotIn w i) payload (r .right .bytes) (omega (arith, slot-lt (w .capacity) (w .start) i (r .good .ranges .some), r .payloads)) in
-        push-cases w ws bs (natAbs now) p payload (λ (o : PushOutcome). (length (o .slots) ≡ length ws) × (length (o .payloads) ≡ length bs))
+        push-cases w ws bs now p payload (λ (o : PushOutcome). (length (o .slots) ≡ length ws) × (length (o .payloads) ≡ length bs))
         (λ q c. (refl, refl))
         (λ q. (length-write _ _ _, bytes (w .held)))
         (λ q c. (refl, refl))
-        (λ q c. (length-write _ _ _ ∙ length-lost (w .capacity) (w .start) ws (natAbs now) (w .held) (distance 31 (p .number) (nextOf w)), bytes (w .held + distance 31 (p .number) (nextOf w))))
+        (λ q c. (length-write _ _ _ ∙ length-lost (w .capacity) (w .start) ws now (w .held) (distance 31 (p .number) (nextOf w)), bytes (w .held + distance 31 (p .number) (nextOf w))))
         (λ b. (refl, refl))
         (λ i n. (length-write _ _ _, bytes (distance 31 (p .number) (w .seqno0))))
         (λ i n. (refl, refl)))
@@ -139,7 +139,7 @@ module _ (h : Head) (ws bs : List ℕ) where
     unfolding dataCallOf takenOf
     data-latest =
         by-refusal (λ (o : DataOutcome). o .handled .head .latest ≡ byNumber (dataLine (o .handled .answer) .refusal) now (h .latest)) tests _ _
-        (λ z. let o = pushOf w ws bs (natAbs now) p payload in after-latest (o .pushed .window) (o .pushed .answer) (length payload))
+        (λ z. let o = pushOf w ws bs now p payload in after-latest (o .pushed .window) (o .pushed .answer) (length payload))
         (λ z. refused-latest tests now (h .latest) z)
 
     -- its acknowledgement number
@@ -162,8 +162,8 @@ module _ (h : Head) (ws bs : List ℕ) where
     data-acks =
         by-refusal (λ (o : DataOutcome). DataAcks (o .handled .head .window .lrsn) (o .handled .answer)) tests _ _
         (λ z.
-        let o = pushOf w ws bs (natAbs now) p payload in
-        after-acks (o .pushed .window) (o .pushed .answer) (length payload) (push-says w ws bs (natAbs now) p payload))
+        let o = pushOf w ws bs now p payload in
+        after-acks (o .pushed .window) (o .pushed .answer) (length payload) (push-says w ws bs now p payload))
         (λ z. tt)
 
   -- a pop
@@ -218,9 +218,9 @@ module _ (h : Head) (ws bs : List ℕ) where
     report-same =
         by-refusal Reported reportTests _ _
         (λ z.
-        let o = reportOf w ws (natAbs now) (h .rtt .mean) list in (
+        let o = reportOf w ws now (h .rtt .mean) list in (
           report-window (o .answer),
-          by-outcome w ws (natAbs now) (h .rtt .mean) list (λ (x : ReportOutcome). length (x .slots) ≡ length ws) refl refl (length-slots w ws (natAbs now) (h .rtt .mean) (w .held)),
+          by-outcome w ws now (h .rtt .mean) list (λ (x : ReportOutcome). length (x .slots) ≡ length ws) refl refl (length-slots w ws now (h .rtt .mean) (w .held)),
           report-read (o .answer),
         ))
         (λ z. (refl, refl, refused-latest reportTests now (h .latest) z))
@@ -251,7 +251,7 @@ module _ (h : Head) (b : List ℕ) (now : ℤ) where
       (λ z.
       by-test Acked (eqb (roomOf (h .window)) 0) (fullAckEnded (record { head = withLatest h now; answer = answered.Nothing }) b) (roomyAck h b now)
       (λ t. (refl, refl, tt))
-      (λ t. let k = fullAckOf (h .history) b (natAbs now) (h .rtt .mean) (h .latency) (h .window .lrsn) in go (k .acked .history) (k .acked .answer) (k .area)))
+      (λ t. let k = fullAckOf (h .history) b now (h .rtt .mean) (h .latency) (h .window .lrsn) in go (k .acked .history) (k .acked .answer) (k .area)))
       (λ z. (refl, refused-latest ackTests now (h .latest) z, tt))
     where
       go : (y : History) (x : AckAnswer) (area : List ℕ)
@@ -269,7 +269,7 @@ module _ (h : Head) (b : List ℕ) (now : ℤ) where
   unfolding ack2CallOf heldAck2
   ack2-same number =
       by-refusal Acked2 ackTests _ _
-      (λ z. let k = ack2Of (h .history) b (natAbs now) number in go (k .history) (k .answer))
+      (λ z. let k = ack2Of (h .history) b now number in go (k .history) (k .answer))
       (λ z. (refl, refused-latest ackTests now (h .latest) z))
     where
       go : (y : History) (x : Ack2Answer)

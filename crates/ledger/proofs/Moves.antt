@@ -50,7 +50,7 @@ pub by-refusal : {A : Type 0} (P : A → Type 0) (n : ℕ) (a b : A) → (n ≡ 
 by-refusal P n a b x y = by-test P (eqb n 0) a b (λ t. x (eqb-true n 0 t)) (λ t. y (eqb-false n 0 t))
 
 -- a push, case by case
-module _ (w : Window) (ws bs : List ℕ) (time : ℕ) (p : Packet) (payload : List ℕ) where
+module _ (w : Window) (ws bs : List ℕ) (time : ℤ) (p : Packet) (payload : List ℕ) where
   abbrev index : ℕ
   index = distance 31 (p .number) (w .seqno0)
 
@@ -143,7 +143,7 @@ module _ (h : Head) (ws bs : List ℕ) (now : ℤ) (p : Packet) (payload : List 
       let r = push-ready h ws bs now p payload z in
       let d : Admitted h ws bs now p payload = record { tests = z; good = r .good; right = r .right } in
       let t = reading-size now (r .reading) .1 in
-      push-cases w ws bs (natAbs now) p payload (λ (o : PushOutcome). entries (o .pushed .window) (o .slots) (o .payloads) ≡ afterPush w (natAbs now) p payload es (o .pushed .answer)
+      push-cases w ws bs now p payload (λ (o : PushOutcome). entries (o .pushed .window) (o .slots) (o .payloads) ≡ afterPush w now p payload es (o .pushed .answer)
       → LrsnRight (o .pushed .window) (entries (o .pushed .window) (o .slots) (o .payloads)) → Said P (made o))
       (λ q c s v. full d (same d q) c)
       (λ q s v.
@@ -155,8 +155,8 @@ module _ (h : Head) (ws bs : List ℕ) (now : ℤ) (p : Packet) (payload : List 
       let v = recoveredLrsn w (p .number) (writeAt ws (slotIn w at) (push.received p payload)) at in
       rw s (recovered d (lit true (withLrsn w v) v) v i l (subst (LrsnRight (withLrsn w v)) s u)))
       (λ i l s u. duplicate d i l)
-      (push-seen w ws bs (natAbs now) p payload (d .good) (r .payloads) (d .right) t hs)
-      (push-right w ws bs (natAbs now) p payload (d .good) (r .payloads) (d .right) t hs right))
+      (push-seen w ws bs now p payload (d .good) (r .payloads) (d .right) t hs)
+      (push-right w ws bs now p payload (d .good) (r .payloads) (d .right) t hs right))
       (λ z.
       let n = firstRefusal (pushRules (headOk h) (w .capacity) (length ws) (length bs) now (h .latest) p (length payload)) in
       refused n refl (omega (arith, z)) (refusal-under 6 0 (pushRules (headOk h) (w .capacity) (length ws) (length bs) now (h .latest) p (length payload)) (omega arith) (lit≤ tt, (lit≤ tt, (lit≤ tt, (lit≤ tt, (lit≤ tt, (lit≤ tt, (lit≤ tt, (lit≤ tt, (lit≤ tt, tt)))))))))))

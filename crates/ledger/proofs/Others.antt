@@ -4,7 +4,7 @@ use mathlib.Core.List.{List, [], map, append-nil}
 use Prim.Native.Nat.{ℕ, _+_, _*_}
 use native.Mathlib.Omega.{arith}
 use lib.Dec.{eqb}
-use lib.IntN.{ℤ, natAbs}
+use lib.IntN.{ℤ}
 use lib.ListN.{length}
 use Rattle.numbers.specs.Circular.{sum}
 use Rattle.numbers.proofs.Flags.{by-test}
@@ -57,7 +57,7 @@ module _ (S : ℕ → List ℕ → Type 0) (l : Ledger) (h : Head) (ws bs : List
   abbrev pub Reported : LossOutcome → Type 0
   Reported o = Moved S l l (o .reported .head .window) (entries (o .reported .head .window) (o .slots) bs) 0 []
 
-  report-places : (time mean : ℕ) (x : ReportAnswer) → map placeOf (views.afterReport time mean es x) ≡ map placeOf es
+  report-places : (time : ℤ) (mean : ℕ) (x : ReportAnswer) → map placeOf (views.afterReport time mean es x) ≡ map placeOf es
   report-places time mean reports.Nothing = refl
   report-places time mean (reports.Report words) = reported-places time mean es
   report-places time mean reports.ListShort = refl
@@ -75,13 +75,13 @@ module _ (S : ℕ → List ℕ → Type 0) (l : Ledger) (h : Head) (ws bs : List
       let t = timed-ready h now (length ws) (3 * w .capacity) z in
       let g = good w ws (t .0 .head .window) (t .1) in
       let u = reading-size now (t .0 .reading) .1 in
-      let o = reportOf w ws (natAbs now) (h .rtt .mean) list in
+      let o = reportOf w ws now (h .rtt .mean) list in
       subst (λ (v : Window). Moved S l l v (entries v (o .slots) bs) 0 []) (sym (report-window now (o .answer)))
       (still
       (record {
         front = a .front;
-        held = ap (map placeOf) (report-seen w ws bs g (natAbs now) (h .rtt .mean) list u) ∙ report-places (natAbs now) (h .rtt .mean) (o .answer) ∙ a .held;
-        right = report-right w ws bs g (natAbs now) (h .rtt .mean) list u (a .right);
+        held = ap (map placeOf) (report-seen w ws bs g now (h .rtt .mean) list u) ∙ report-places now (h .rtt .mean) (o .answer) ∙ a .held;
+        right = report-right w ws bs g now (h .rtt .mean) list u (a .right);
         ownGone = a .ownGone;
         ownHeld = a .ownHeld;
       })))
@@ -150,7 +150,7 @@ module _ (S : ℕ → List ℕ → Type 0) (l : Ledger) (h : Head) (ws bs : List
       by-test (λ (o : FullAckOutcome). Alike (o .acked .head .window)) (eqb (roomOf w) 0) _ _
       (λ t. still a)
       (λ t.
-      let k = fullAckOf (h .history) b (natAbs now) (h .rtt .mean) (h .latency) (w .lrsn) in
+      let k = fullAckOf (h .history) b now (h .rtt .mean) (h .latency) (w .lrsn) in
       alike (afterAck h (k .acked .history) (k .acked .answer) now .head .window) (go (k .acked .history) (k .acked .answer))))
       (λ z. still a)
     where
@@ -164,7 +164,7 @@ module _ (S : ℕ → List ℕ → Type 0) (l : Ledger) (h : Head) (ws bs : List
   ack2-stands b now number =
       by-refusal (λ (o : Ack2Outcome). Alike (o .acked2 .head .window)) (firstRefusal (timedRules (headOk h) (length b) 2048 now (h .latest))) _ _
       (λ z.
-      let k = ack2Of (h .history) b (natAbs now) number in
+      let k = ack2Of (h .history) b now number in
       alike (afterAck2 h (k .history) (k .answer) now .head .window) (go (k .history) (k .answer)))
       (λ z. still a)
     where

@@ -6,6 +6,7 @@ use Prim.Native.Nat.{ℕ, zero, suc, _+_, _-_, _^_, _<_, _≤_}
 use native.Mathlib.Omega.{arith}
 use borrow.Author.Tests.{eq-eqb, ne-eqb}
 use lib.Dec.{eqb, ltb, leb}
+use lib.IntN.{ℤ}
 use lib.ListN.{length, take, drop, set, replicate}
 use Rattle.numbers.specs.Circular.{sum}
 use Rattle.numbers.proofs.Flags.{by-bool}
@@ -102,12 +103,12 @@ given-long from to i [] = refl
 given-long from to i (x ∷ xs) = ap suc (given-long from to (suc i) xs)
 
 -- a loss report moves no place
-reported-place : (time mean : ℕ) (e : Seen) → placeOf (views.reportedSeen time mean e) ≡ placeOf e
+reported-place : (time : ℤ) (mean : ℕ) (e : Seen) → placeOf (views.reportedSeen time mean e) ≡ placeOf e
 reported-place time mean (views.lost k f) = by-bool (isDue time mean (Lost k f)) (λ t. rw t) (λ t. rw t)
 reported-place time mean (views.received l m t b) = refl
 reported-place time mean views.givenUp = refl
 
-pub reported-places : (time mean : ℕ) (es : List Seen) → map placeOf (map (views.reportedSeen time mean) es) ≡ map placeOf es
+pub reported-places : (time : ℤ) (mean : ℕ) (es : List Seen) → map placeOf (map (views.reportedSeen time mean) es) ≡ map placeOf es
 reported-places time mean [] = refl
 reported-places time mean (e ∷ es) = rw (reported-place time mean e, reported-places time mean es)
 

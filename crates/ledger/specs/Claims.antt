@@ -125,7 +125,7 @@ DataAcks n (datas.PacketTooEarly room need) = Unit
 
 abbrev pub FullAcks : ℕ → FullAckAnswer → Type 0
 FullAcks n acks.Nothing = Unit
-FullAcks n (acks.Ack number lrsn mean variance places speed link) = lrsn ≡ n
+FullAcks n (acks.Ack number lrsn mean variance places packets bytes link) = lrsn ≡ n
 FullAcks n (acks.Refused k) = Unit
 
 abbrev pub Acks : ℕ → Answer → Type 0

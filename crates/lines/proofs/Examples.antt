@@ -5,8 +5,7 @@ use mathlib.Core.List.{[], _∷_}
 use lib.IntN.{pos, negsuc}
 use Rattle.text.specs.Bytes.{bytes}
 use Rattle.text.specs.Decimal as decimals
-use Rattle.intervals.specs.declared.rates.Speed.the-variants as speeds
-use Rattle.intervals.specs.declared.rates.Link.the-variants as links
+use Rattle.intervals.specs.declared.rates.Rate.the-variants as rates
 use Rattle.receiver.specs.Paper.{dataLine, messageLine}
 use Rattle.feedback.specs.Paper.{lossLine, fullAckLine}
 use Rattle.receiver.specs.declared.data.DataAnswer.the-variants as datas
@@ -52,7 +51,7 @@ report-run : lineBytes 2 (lossLine (losses.Report 2) (4294967295 ∷ 0 ∷ 9 ∷
 unfolding endBytes badBytes shapes.lineOf shapes.closed shapes.spaced decimals.decimal decimals.digits decimals.signedDecimal
 report-run = refl
 
-no-rates : lineBytes 6 (fullAckLine (acks.Ack 1 3 10000 1000 5 speeds.Unknown links.Unknown)) ≡ bytes "6 ack 1 3 10000 1000 5 - - -\n"
+no-rates : lineBytes 6 (fullAckLine (acks.Ack 1 3 10000 1000 5 rates.Unknown rates.Unknown rates.Unknown)) ≡ bytes "6 ack 1 3 10000 1000 5 - - -\n"
 unfolding endBytes badBytes shapes.lineOf shapes.closed shapes.spaced decimals.decimal decimals.digits decimals.signedDecimal
 no-rates = refl
 

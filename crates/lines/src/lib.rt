@@ -120,8 +120,9 @@ pub fn full_ack_line(out: &mut [u8], at: usize, nth: u64, answer: FullAckAnswer)
             mean,
             variance,
             room,
-            speed,
-            link,
+            packet_receive_rate,
+            estimated_link_capacity,
+            data_receive_rate,
         } => line::ack(
             out,
             at,
@@ -132,8 +133,9 @@ pub fn full_ack_line(out: &mut [u8], at: usize, nth: u64, answer: FullAckAnswer)
             mean as u64,
             variance as u64,
             room as u64,
-            speed,
-            link,
+            packet_receive_rate,
+            estimated_link_capacity,
+            data_receive_rate,
         ),
         FullAckAnswer::Refused(n) => refused(out, at, nth, n),
     }

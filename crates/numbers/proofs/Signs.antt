@@ -87,6 +87,10 @@ pub reading-size : (z : ℤ) → isReading z ≡ true → (below z ≡ 0) × (na
 reading-size (pos n) e = (refl, ltb-true n (2 ^ 60) (sym (rw (le-leb 0 n (omega arith))) ∙ e))
 reading-size (negsuc n) e = absurd (let z : _≡_ {A = ℕ} 0 1 = cc in omega arith)
 
+-- a reading is one as the machine reads it back, z₁
+pub reading-on : (z : ℤ) {z₁ : ℤ} → isReading z ≡ true → z₁ ≡ z → isReading z₁ ≡ true
+reading-on z e p = rw p e
+
 -- a number that fits 32 bits fits 64; z₁ is z as the machine reads it back
 pub widens : {z z₁ : ℤ} → z₁ ≡ z → SFits w32 z → SFits w64 z₁
 widens p f = rw p (sfits-widen tt f)

@@ -5,16 +5,19 @@ use Prim.Native.Nat.{ℕ, _+_, _-_, _%_, _^_, _<_, _≤_}
 use native.Mathlib.Nat.{mod-lt, add-mod-mod, add-comm}
 use native.Mathlib.Omega.{arith}
 use borrow.Author.Needs.{needs}
-use lib.Dec.{ltb, leb, leb·zero}
-use lib.IntN.{ℤ, pos, negsuc, natAbs}
-use lib.Signed.{mag, leZ}
-use mir.Syntax.{w64}
+use lib.Dec.{T, ltb, leb, leb·zero}
+use lib.IntN.{ℤ, pos, negsuc, natAbs, _-ℤ_}
+use lib.Signed.{mag, ltZ, leZ, nonNeg}
+use mir.Syntax.{w32, w64}
 use mir.Val.{Fits, SFits}
 use lib.Pow.{pow-pos, mod-mod-pow}
 use Rattle.numbers.specs.Circular.{distance, after, before, saturating, sum, wrap}
 use Rattle.numbers.specs.Order.{order}
+use Rattle.numbers.specs.Instants.{intervalOf, sinceTime}
 use Rattle.numbers.specs.declared.seq.Order.the-variants.{Before, Equal, After}
 use Rattle.numbers.proofs.Flags.{impossible}
+use Rattle.numbers.proofs.Halves.{same, not-negative, above--, below--}
+use Rattle.numbers.proofs.Signs.{clamp-in, interval-above}
 use Rattle.numbers.proofs.Circle.{distance-is, equal-at, equal-not, after-at, after-not, before-test, saturating-near, saturating-far}
 
 -- a remainder at j + w bits, taken at w bits
@@ -90,4 +93,28 @@ unfolding wrap
 wrap-below w (pos n) o v a p e q = impossible (sym (leb·zero n) ∙ rw q at e)
 wrap-below w (negsuc n) o v a p e q = rw (o, v, a, p)
 
+-- since
+interval-self : (z : ℤ) → natAbs (intervalOf z z) ≡ 0
+unfolding intervalOf
+interval-self z =
+    let e : z -ℤ z ≡ pos 0 = same (above-- z z ∙ omega arith) (below-- z z ∙ omega arith) in
+    rw (e, clamp-in (pos 0) (omega arith) (omega arith))
+
+pub since-later : (now t : ℤ) {n u : ℤ} → ltZ n u ≡ true → n ≡ now → u ≡ t → 0 ≡ sinceTime now t
+unfolding sinceTime
+since-later now t e p q = rw (rw (p, q) at e) (sym (interval-self now))
+
+module _ (now t : ℤ) {n u n₁ u₁ r r₁ : ℤ} (e : ltZ n u ≡ false) (p : n ≡ now) (q : u ≡ t) (f : r ≡ intervalOf u₁ n₁) (p₁ : n₁ ≡ now) (q₁ : u₁ ≡ t) (g : r₁ ≡ r) where
+  pub since-on : natAbs r₁ ≡ sinceTime now t
+  unfolding sinceTime
+  since-on = rw (rw (p, q) at e, g, f, p₁, q₁)
+
+  pub since-sign : T (nonNeg r₁)
+  since-sign = rw (g, f, p₁, q₁) (not-negative (intervalOf t now) (interval-above t now (rw (p, q) at e) .0))
+
+  pub since-fits : Fits w32 (natAbs r₁)
+  since-fits = rw (g, f, p₁, q₁) (record { fits = omega (arith, interval-above t now (rw (p, q) at e) .1) })
+
 pub ruleset steps = (narrow-distance, narrow-sum, is-equal, is-after, is-before, after-flag, before-flag, near, far, mag-fits, size-above, size-below, wrap-above, wrap-below, needs)
+
+pub ruleset sinces = (since-later, since-on, since-sign, since-fits, needs)

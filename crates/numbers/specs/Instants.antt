@@ -23,6 +23,10 @@ clamp z = cond (ltZ z least) least (cond (ltZ most z) most z)
 unfoldable pub intervalOf : ℤ → ℤ → ℤ
 intervalOf begin end = clamp (end -ℤ begin)
 
--- the interval since a departure, probe or arrival time; one after `now` is read as `now`
+-- a departure, probe or arrival time after `now` is read as `now`
+abbrev pub readBy : ℤ → ℤ → ℤ
+readBy now t = cond (ltZ now t) now t
+
+-- the interval since such a time, which is not negative
 unfoldable pub sinceTime : ℤ → ℤ → ℕ
-sinceTime now t = natAbs (intervalOf (cond (ltZ now t) now t) now)
+sinceTime now t = natAbs (intervalOf (readBy now t) now)

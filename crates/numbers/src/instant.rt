@@ -2,7 +2,7 @@
 ghost use mathlib.Core.Path.{_≡_};
 ghost use lib.IntN.{natAbs};
 ghost use lib.Signed.{mag};
-ghost use Rattle.numbers.specs.Instants.{clamp, intervalOf, isReading};
+ghost use Rattle.numbers.specs.Instants.{clamp, intervalOf, isReading, sinceTime};
 
 // A time that may be unset.
 pub enum Moment {
@@ -62,4 +62,14 @@ pub fn interval(begin: i64, end: i64) -> i32
         return -0x8000_0000;
     }
     clamp(end - begin)
+}
+
+// The interval since a time; a time after `now` is read as `now`.
+pub fn since(now: i64, time: i64) -> u32
+    ensures { λ r. ⌜ r ≡ sinceTime now time ⌝ }
+{
+    if now < time {
+        return 0;
+    }
+    interval(time, now) as u32
 }

@@ -10,10 +10,8 @@ use lib.Ieee.{Float, nan}
 use lib.ListN.{length, take, length-map}
 use lib.Seq.{length-take-le}
 use Rattle.numbers.proofs.Flags.{by-test}
-use Rattle.intervals.specs.declared.rates.Speed.{Speed}
-use Rattle.intervals.specs.declared.rates.Speed.the-variants as speeds
-use Rattle.intervals.specs.declared.rates.Link.{Link}
-use Rattle.intervals.specs.declared.rates.Link.the-variants as links
+use Rattle.intervals.specs.declared.rates.Rate.{Rate}
+use Rattle.intervals.specs.declared.rates.Rate.the-variants.{Unknown, PerSecond}
 use Rattle.window.specs.declared.Window.{Window}
 use Rattle.window_report.specs.Report.{ReportOutcome, needed, reportOf}
 use Rattle.window_report.proofs.ReportLaws.{list-keeps}
@@ -44,7 +42,7 @@ use Rattle.feedback.specs.declared.acking.RttAnswer.{RttAnswer}
 use Rattle.feedback.specs.declared.acking.RttAnswer.the-variants as rtts
 use Rattle.head.specs.Paper.{Word, got, light, loss, refused, message, late, report, ack, rtt, gone, adjusted, unsteady, clear, none, made, room, received, other, Value, whole, dash, plain, Line}
 use Rattle.receiver.specs.Paper.{dataLine, messageLine}
-use Rattle.feedback.specs.Paper.{lossLine, clockLine, fullAckLine, rttLine}
+use Rattle.feedback.specs.Paper.{lossLine, clockLine, rateValue, fullAckLine, rttLine}
 use Rattle.upkeep.specs.Paper.{dropLine, clearLine, roomLine, shownLine}
 use Rattle.paper.specs.Reach.{madeLine}
 
@@ -162,7 +160,7 @@ pub loss-injective : (a b : LossAnswer) (l m : List ℕ) → Fits a (length l) �
 loss-injective a b l m i j e = sym (loss-back a l i) ∙ (ap (λ (x : Line). lossBack (x .word) (x .refusal) (x .values)) e ∙ loss-back b m j)
 
 -- so it is of every loss report: refusal 12 is tested before
-words-fit : (w : Window) (ws : List ℕ) (time mean : ℕ) (list : List ℕ) → Fits (answerOf (reportOf w ws time mean list .answer)) (length list)
+words-fit : (w : Window) (ws : List ℕ) (time : ℤ) (mean : ℕ) (list : List ℕ) → Fits (answerOf (reportOf w ws time mean list .answer)) (length list)
 unfolding reportOf
 words-fit w ws time mean list =
     let P : ReportOutcome → Type 0 = λ x. Fits (answerOf (x .answer)) (length list) in
@@ -175,7 +173,7 @@ unfolding reportCallOf reportedOf
 loss-fits h ws list now =
     let m = h .rtt .mean in
     by-test (λ (x : LossOutcome). Fits (x .reported .answer) (length (x .list))) (eqb (firstRefusal (timedRules (headOk h) (length ws) (3 * h .window .capacity) now (h .latest))) 0) _ _
-    (λ t. rw (list-keeps (h .window) ws (natAbs now) m list) (words-fit (h .window) ws (natAbs now) m list))
+    (λ t. rw (list-keeps (h .window) ws now m list) (words-fit (h .window) ws now m list))
     (λ t. tt)
 
 abbrev dropBack : Word → ℕ → List Value → DropAnswer
@@ -248,26 +246,23 @@ clock-back (clocks.Refused n) = refl
 pub clock-injective : (a b : ClockAnswer) → clockLine a ≡ clockLine b → a ≡ b
 clock-injective = by-reading clockLine (λ l. clockBack (l .word) (l .refusal) (l .values) (l .exact)) clock-back
 
-abbrev speedBack : Value → Value → Speed
-speedBack (whole packets) bytes = speeds.Known (natAbs packets) (natAbs (asWhole bytes))
-speedBack dash bytes = speeds.Unknown
+abbrev rateBack : Value → Rate
+rateBack (whole n) = PerSecond (natAbs n)
+rateBack dash = Unknown
 
-abbrev linkBack : Value → Link
-linkBack (whole n) = links.Known (natAbs n)
-linkBack dash = links.Unknown
+rate-back : (a : Rate) → rateBack (rateValue a) ≡ a
+rate-back Unknown = refl
+rate-back (PerSecond n) = refl
 
 abbrev fullAckBack : Word → ℕ → List Value → FullAckAnswer
 fullAckBack w n vs =
     cond (is w none) (acks.Nothing)
-    (cond (is w ack) (acks.Ack (natural vs 0) (natural vs 1) (natural vs 2) (natural vs 3) (natural vs 4) (speedBack (at vs 5) (at vs 6)) (linkBack (at vs 7)))
+    (cond (is w ack) (acks.Ack (natural vs 0) (natural vs 1) (natural vs 2) (natural vs 3) (natural vs 4) (rateBack (at vs 5)) (rateBack (at vs 6)) (rateBack (at vs 7)))
     (acks.Refused n))
 
 full-ack-back : (a : FullAckAnswer) → fullAckBack (fullAckLine a .word) (fullAckLine a .refusal) (fullAckLine a .values) ≡ a
 full-ack-back acks.Nothing = refl
-full-ack-back (acks.Ack number lrsn mean variance places speeds.Unknown links.Unknown) = refl
-full-ack-back (acks.Ack number lrsn mean variance places speeds.Unknown (links.Known n)) = refl
-full-ack-back (acks.Ack number lrsn mean variance places (speeds.Known packets bytes) links.Unknown) = refl
-full-ack-back (acks.Ack number lrsn mean variance places (speeds.Known packets bytes) (links.Known n)) = refl
+full-ack-back (acks.Ack number lrsn mean variance places packets bytes link) = rw (rate-back packets, rate-back bytes, rate-back link)
 full-ack-back (acks.Refused n) = refl
 
 pub full-ack-injective : (a b : FullAckAnswer) → fullAckLine a ≡ fullAckLine b → a ≡ b

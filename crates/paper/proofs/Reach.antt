@@ -7,7 +7,7 @@ use Prim.Native.Nat.{ℕ, _*_, _^_, _<_, _≤_}
 use native.Mathlib.Omega.{arith}
 use borrow.Author.Tests.{le-ltb, lt-leb, ne-eqb}
 use lib.Dec.{eqb}
-use lib.IntN.{ℤ, natAbs}
+use lib.IntN.{ℤ}
 use lib.ListN.{length}
 use lib.Signed.{ltZ}
 use Rattle.numbers.specs.Instants.{isReading}
@@ -144,7 +144,7 @@ module _ (h : Head) (ok : headOk h ≡ true) where
         → OnlyLater (calls.dataCallOf h ws bs now p payload .line)
     unfolding calls.dataCallOf calls.takenOf
     data-only ws bs p payload a b r =
-        let o = pushOf (h .window) ws bs (natAbs now) p payload in
+        let o = pushOf (h .window) ws bs now p payload in
         rw (none-refuses (pushRules (headOk h) (h .window .capacity) (length ws) (length bs) now (h .latest) p (length payload)) (good ok, (le-ltb _ _ a, (le-ltb _ _ b, (good reading, (later, (lt-leb _ _ (r .number), (lt-leb _ _ (r .message), (lt-leb _ _ (r .location), (le-ltb _ _ (r .bytes), tt)))))))))) (push-only h (o .pushed .window) (o .pushed .answer) now (p .number) (length payload))
 
     pub message-only : (ws bs out : List ℕ) → 3 * h .window .capacity ≤ length ws → 1456 * h .window .capacity ≤ length bs
@@ -156,7 +156,7 @@ module _ (h : Head) (ok : headOk h ≡ true) where
     pub loss-only : (ws list : List ℕ) → 3 * h .window .capacity ≤ length ws → OnlyLater (loss.reportCallOf h ws list now .line)
     unfolding loss.reportCallOf loss.reportedOf
     loss-only ws list a =
-        let o = reportOf (h .window) ws (natAbs now) (h .rtt .mean) list in
+        let o = reportOf (h .window) ws now (h .rtt .mean) list in
         rw (none-refuses (timedRules (headOk h) (length ws) (3 * h .window .capacity) now (h .latest)) (good ok, (le-ltb _ _ a, (good reading, (later, tt))))) (report-only (o .answer) (o .list))
 
     pub clock-only : (stamp : ℕ) → OnlyLater (sync.clockCallOf h now stamp .line)
@@ -167,7 +167,7 @@ module _ (h : Head) (ok : headOk h ≡ true) where
     pub full-ack-only : (a : List ℕ) → 2048 ≤ length a → OnlyLater (acking.fullAckCallOf h a now .line)
     unfolding acking.fullAckCallOf acking.dueAck acking.roomyAck
     full-ack-only a n =
-        let o = fullAckOf (h .history) a (natAbs now) (h .rtt .mean) (h .latency) (h .window .lrsn) in
+        let o = fullAckOf (h .history) a now (h .rtt .mean) (h .latency) (h .window .lrsn) in
         rw (none-refuses (timedRules (headOk h) (length a) 2048 now (h .latest)) (good ok, (le-ltb _ _ n, (good reading, (later, tt))))) (by-both (λ (x : acking.FullAckOutcome). OnlyLater (x .line)) (eqb (roomOf (h .window)) 0) _ _
         (inl refl)
         (ack-only h (o .acked .history) (o .acked .answer) now))
@@ -175,7 +175,7 @@ module _ (h : Head) (ok : headOk h ≡ true) where
     pub ack2-only : (a : List ℕ) (number : ℕ) → 2048 ≤ length a → OnlyLater (acking.ack2CallOf h a now number .line)
     unfolding acking.ack2CallOf acking.heldAck2
     ack2-only a number n =
-        let k = ack2Of (h .history) a (natAbs now) number in
+        let k = ack2Of (h .history) a now number in
         rw (none-refuses (timedRules (headOk h) (length a) 2048 now (h .latest)) (good ok, (le-ltb _ _ n, (good reading, (later, tt))))) (held-only h (k .history) (k .answer) now)
 
 -- the first refusal is one of those listed
@@ -213,7 +213,7 @@ push-both h w pushes.DiscardedDuplicate now number size = refl
 pub eight-with-both : (h : Head) (ws bs : List ℕ) (now : ℤ) (p : Packet) (payload : List ℕ) → withBoth (calls.dataCallOf h ws bs now p payload .handled .answer) ≡ true
 unfolding calls.dataCallOf calls.takenOf
 eight-with-both h ws bs now p payload =
-    let o = pushOf (h .window) ws bs (natAbs now) p payload in
+    let o = pushOf (h .window) ws bs now p payload in
     let l = pushRules (headOk h) (h .window .capacity) (length ws) (length bs) now (h .latest) p (length payload) in
     let n = firstRefusal l in
     let s = refusal-under 6 0 l (omega arith) (omega arith, (omega arith, (omega arith, (omega arith, (omega arith, (omega arith, (omega arith, (omega arith, (omega arith, tt))))))))) in

@@ -6,18 +6,17 @@ use mathlib.Core.List.{List, [], _∷_}
 use Prim.Native.Nat.{ℕ, _<_, _≤_, _^_}
 use borrow.Author.Needs.{needs}
 use denote.Enum.Declared.{tagOf}
-use lib.IntN.{ℤ, natAbs}
+use lib.IntN.{ℤ}
 use lib.ListN.{length}
 use types.Run.{OneOf, miss}
-use Rattle.numbers.specs.Instants.{isReading}
-use Rattle.numbers.proofs.Signs.{reading-size}
+use Rattle.numbers.proofs.Signs.{reading-on}
 use Rattle.intervals.specs.Rates.{arrivalOf, linkOf, arrivalsOk, linksOk}
 use Rattle.acks.specs.History.{lightAckOf}
 use Rattle.intervals.specs.declared.rates.Arrivals.{Arrivals}
 use Rattle.intervals.specs.declared.rates.Links.{Links}
 use Rattle.acks.specs.declared.history.LightAcked.{LightAcked}
 use Rattle.intervals.proofs.Windows.{arrival-ranges, link-ranges}
-use Rattle.window.specs.Push.{PushOutcome, pushEnded, pushOf}
+use Rattle.window.specs.Push.{pushEnded, pushOf}
 use Rattle.window.specs.declared.Window.{Window}
 use Rattle.window.specs.declared.push.Packet.{Packet}
 use Rattle.window.specs.declared.push.Pushed.{Pushed}
@@ -102,22 +101,14 @@ pub after-refused : (h : Head) (w : Window) (a : PushAnswer) (now : ℤ) (number
     → _≡_ {A = Handled} (record { head = h; answer = b }) (afterPush h w a now number size)
 after-refused h w a now number size p q e = rw e (others h w a now number size p q)
 
--- push_at
-pub reading-under : (now : ℤ) {n : ℤ} {t : ℕ} → isReading now ≡ true → t ≡ natAbs n → n ≡ now → t < 2 ^ 60
-reading-under now e f p = rw (f, p) (reading-size now e .1)
-
-module _ (w : Window) (ws bs : List ℕ) (now : ℤ) (p : Packet) (payload : List ℕ) where
-  pub pushed-at : {o : PushOutcome} {n : ℤ} {t : ℕ} → o ≡ pushOf w ws bs t p payload → t ≡ natAbs n → n ≡ now → o ≡ pushOf w ws bs (natAbs now) p payload
-  pushed-at e a b = e ∙ rw (a, b)
-
 -- take_packet
 pub taken-up : (h : Head) (ws bs : List ℕ) (now : ℤ) (p : Packet) (payload : List ℕ) {u : Pushed} {ws₁ bs₁ : List ℕ} {n n₁ : ℤ} {r : Handled}
     → r ≡ afterPush h (u .window) (u .answer) n₁ (p .number) (length payload) → n₁ ≡ now
-    → pushEnded u ws₁ bs₁ ≡ pushOf (h .window) ws bs (natAbs n) p payload → n ≡ now
+    → pushEnded u ws₁ bs₁ ≡ pushOf (h .window) ws bs n p payload → n ≡ now
     → dataEnded r ws₁ bs₁ ≡ takenOf h ws bs now p payload
 unfolding takenOf
 taken-up h ws bs now p payload {u} {ws₁} {bs₁} f c e b =
-    let q : pushEnded u ws₁ bs₁ ≡ pushOf (h .window) ws bs (natAbs now) p payload = e ∙ rw b in
+    let q : pushEnded u ws₁ bs₁ ≡ pushOf (h .window) ws bs now p payload = e ∙ rw b in
     rw (f, c, ← q)
 
 -- the call: its refusal, as the code and the definition have it
@@ -138,4 +129,4 @@ module _ (h : Head) (ws bs : List ℕ) (now : ℤ) (p : Packet) (payload : List 
     unfolding dataCallOf
     data-refused z = sym (refused (takenOf h ws bs now p payload) (λ n. dataEnded (record { head = h; answer = answers.Refused n }) ws bs) same z)
 
-pub ruleset datas = (put-in, too-early, arrivals-fit, links-fit, rated, acked-light, acked, got-recovered, got-appended, after-got, after-loss, after-refused, reading-under, pushed-at, taken-up, data-ready, data-taken, data-refused, needs)
+pub ruleset datas = (put-in, too-early, arrivals-fit, links-fit, rated, acked-light, acked, got-recovered, got-appended, after-got, after-loss, after-refused, reading-on, taken-up, data-ready, data-taken, data-refused, needs)

@@ -2,7 +2,7 @@
 use mathlib.Core.Bool.{Bool, cond}
 use mathlib.Core.List.{List}
 use Prim.Native.Nat.{ℕ}
-use lib.IntN.{ℤ, natAbs}
+use lib.IntN.{ℤ}
 use lib.ListN.{length}
 use Rattle.intervals.specs.Rates.{arrivalOf, linkOf}
 use Rattle.acks.specs.History.{lightAckOf}
@@ -78,10 +78,10 @@ afterPush h w pushes.PacketTooLate now number size = refusedOf h pushes.PacketTo
 afterPush h w pushes.DiscardedDuplicate now number size = refusedOf h pushes.DiscardedDuplicate
 
 module _ (h : Head) (ws bs : List ℕ) (now : ℤ) (p : Packet) (payload : List ℕ) where
-  -- the push, at a reading, which is not negative; a refusal of the window leaves its areas
+  -- the push; a refusal of the window leaves its areas
   unfoldable pub takenOf : DataOutcome
   takenOf =
-      let o = pushOf (h .window) ws bs (natAbs now) p payload in
+      let o = pushOf (h .window) ws bs now p payload in
       dataEnded (afterPush h (o .pushed .window) (o .pushed .answer) now (p .number) (length payload)) (o .slots) (o .payloads)
 
   unfoldable pub dataCallOf : DataOutcome

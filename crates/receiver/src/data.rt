@@ -1,11 +1,7 @@
 // A data packet comes, arq.rs `handle_data_packet`: 01, "Window" with refusals 1 to 10, and of "ACKs, RTT, rates" what a push does.
 ghost use mathlib.Core.Path.{_≡_};
 ghost use mathlib.Core.Bool.{true};
-ghost use lib.IntN.{natAbs};
-ghost use Rattle.numbers.specs.Instants.{isReading};
 ghost use Rattle.intervals.specs.Rates.{arrivalsOk, linksOk};
-ghost use Rattle.window.specs.Ready.{Good, Bytes, PacketRight};
-ghost use Rattle.window.specs.Push.{pushEnded, pushOf};
 ghost use Rattle.head.specs.Ready.{PushReady};
 ghost use Rattle.receiver.specs.Data.{placedOf, pushRefused, ratedOf, ackedOf, gotOf, afterPush, takenOf, dataEnded, packet, dataCallOf};
 use head::state::Head;
@@ -123,22 +119,6 @@ fn after_push(h: Head, pushed: Pushed, time: i64, number: u32, size: u32) -> Han
     got(h, window, lrsn, recovered, time, number, size)
 }
 
-// The push alone: a reading is not negative, so the window takes it without its sign.
-fn push_at(
-    w: Window,
-    words: &mut [u64],
-    bytes: &mut [u8],
-    time: i64,
-    p: Packet,
-    payload: &[u8],
-) -> Pushed
-    requires { ⌜ Good w (now words) × Bytes w (now bytes) × PacketRight p (now payload) × (isReading time ≡ true) ⌝ }
-    ensures { λ r. ⌜ pushEnded r (now (words .exit)) (now (bytes .exit)) ≡ pushOf w (now (words .entry)) (now (bytes .entry)) (natAbs time) p (now (payload .entry)) ⌝ }
-{
-    let t = numbers::instant::size(time);
-    window::push::push(w, words, bytes, t, p, payload)
-}
-
 // The call, once nothing refuses it.
 fn take_packet(
     h: Head,
@@ -154,7 +134,7 @@ fn take_packet(
     let w = h.window;
     let number = p.number;
     let size = payload.len() as u32;
-    let pushed = push_at(w, words, bytes, time, p, payload);
+    let pushed = window::push::push(w, words, bytes, time, p, payload);
     after_push(h, pushed, time, number, size)
 }
 

@@ -11,12 +11,10 @@ use lib.ListN.{length, getD, take}
 use lib.Seq.{take-suc}
 use Rattle.text.specs.Put.{putEnded, putOf}
 use Rattle.text.proofs.Puts.{put-cursor, put-then, puts, put-none}
-use Rattle.intervals.specs.declared.rates.Speed.{Speed}
-use Rattle.intervals.specs.declared.rates.Speed.the-variants as speeds
-use Rattle.intervals.specs.declared.rates.Link.{Link}
-use Rattle.intervals.specs.declared.rates.Link.the-variants as links
+use Rattle.intervals.specs.declared.rates.Rate.{Rate}
+use Rattle.intervals.specs.declared.rates.Rate.the-variants.{Unknown, PerSecond}
 use Rattle.head.specs.Paper.{Value, whole, plain}
-use Rattle.feedback.specs.Paper.{packetsValue, bytesValue, linkValue}
+use Rattle.feedback.specs.Paper.{rateValue}
 use Rattle.shapes.specs.Shapes.{valueBytes, spaced, closed}
 
 spaced-join : (us vs : List Value) → spaced (us ++ vs) ≡ spaced us ++ spaced vs
@@ -69,25 +67,15 @@ pair-spaced out at m k u v e w h t f = then-spaced out at m k (u ∷ []) e w h t
 
 -- rates
 module _ (out : List ℕ) (at : ℕ) {r : ℕ} {out₁ : List ℕ} where
-  pub no-speed : (s : Speed) → s ≡ speeds.Unknown → putEnded r out₁ ≡ putOf out at (32 ∷ 45 ∷ 32 ∷ 45 ∷ []) → putEnded r out₁ ≡ putOf out at (spaced (packetsValue s ∷ bytesValue s ∷ []))
+  pub no-rate : (a : Rate) → a ≡ Unknown → putEnded r out₁ ≡ putOf out at (32 ∷ 45 ∷ []) → putEnded r out₁ ≡ putOf out at (spaced (rateValue a ∷ []))
   unfolding spaced
-  no-speed s h e = rw h e
+  no-rate a h e = rw h e
 
-  pub no-speed-within : putEnded r out₁ ≡ putOf out at (32 ∷ 45 ∷ 32 ∷ 45 ∷ []) → r ≤ at + 42
-  no-speed-within e = omega (arith, put-cursor out at (32 ∷ 45 ∷ 32 ∷ 45 ∷ []) e)
+  pub no-rate-within : putEnded r out₁ ≡ putOf out at (32 ∷ 45 ∷ []) → r ≤ at + 21
+  no-rate-within e = omega (arith, put-cursor out at (32 ∷ 45 ∷ []) e)
 
-  pub some-speed : (s : Speed) {a b : ℕ} → s ≡ speeds.Known a b → putEnded r out₁ ≡ putOf out at (spaced (plain a ∷ plain b ∷ [])) → putEnded r out₁ ≡ putOf out at (spaced (packetsValue s ∷ bytesValue s ∷ []))
-  some-speed s h e = rw h e
-
-  pub no-link : (l : Link) → l ≡ links.Unknown → putEnded r out₁ ≡ putOf out at (32 ∷ 45 ∷ 10 ∷ []) → putEnded r out₁ ≡ putOf out at (closed (linkValue l ∷ []))
-  unfolding closed spaced
-  no-link l h e = rw h e
-
-  pub no-link-within : putEnded r out₁ ≡ putOf out at (32 ∷ 45 ∷ 10 ∷ []) → r ≤ at + 22
-  no-link-within e = omega (arith, put-cursor out at (32 ∷ 45 ∷ 10 ∷ []) e)
-
-  pub some-link : (l : Link) {n : ℕ} → l ≡ links.Known n → putEnded r out₁ ≡ putOf out at (closed (plain n ∷ [])) → putEnded r out₁ ≡ putOf out at (closed (linkValue l ∷ []))
-  some-link l h e = rw h e
+  pub some-rate : (a : Rate) {n : ℕ} → a ≡ PerSecond n → putEnded r out₁ ≡ putOf out at (spaced (plain n ∷ [])) → putEnded r out₁ ≡ putOf out at (spaced (rateValue a ∷ []))
+  some-rate a h e = rw h e
 
 -- the words of a report
 map-more : (list : List ℕ) (i : ℕ) → i < length list → map plain (take (i + 1) list) ≡ map plain (take i list) ++ (plain (getD list i 0) ∷ [])
@@ -125,6 +113,6 @@ module _ (out₀ : List ℕ) (at : ℕ) (list : List ℕ) (n : ℕ) (all : n ≤
       put-then out₀ at (spaced us) (closed []) e f (omega arith)
       ∙ ap (putOf out₀ at) (closed-join us [] ∙ ap closed (append-nil us))
 
-pub ruleset tails = (one-closed, sign-closed, two-closed, two-sign, pair-spaced, no-speed, no-speed-within, some-speed, no-link, no-link-within, some-link, needs)
+pub ruleset tails = (one-closed, sign-closed, two-closed, two-sign, pair-spaced, no-rate, no-rate-within, some-rate, needs)
 
 pub ruleset wording = (words-start, words-again, words-done, report-closed, needs)

@@ -3,14 +3,13 @@ ghost use mathlib.Core.List.{[], _∷_, map};
 ghost use Prim.Native.Nat.{_+_, _*_, _≤_};
 ghost use lib.ListN.{length, take};
 ghost use Rattle.head.specs.Paper.{whole, plain};
-ghost use Rattle.feedback.specs.Paper.{packetsValue, bytesValue, linkValue};
+ghost use Rattle.feedback.specs.Paper.{rateValue};
 ghost use Rattle.shapes.specs.Shapes.{lineOf};
 ghost use Rattle.shapes.specs.Ready.{LineRoom, Wrote};
 use crate::part::newline;
 use crate::part::open;
 use crate::tail;
-use intervals::rates::Link;
-use intervals::rates::Speed;
+use intervals::rates::Rate;
 
 pub fn bare(out: &mut [u8], at: usize, nth: u64, word: &[u8]) -> usize
     requires { ⌜ LineRoom (now out) at (now word) ⌝ }
@@ -78,14 +77,26 @@ pub fn ack(
     mean: u64,
     variance: u64,
     room: u64,
-    speed: Speed,
-    link: Link,
+    packets: Rate,
+    bytes: Rate,
+    link: Rate,
 ) -> usize
     requires { ⌜ LineRoom (now out) at (now word) ⌝ }
-    ensures { λ r. ⌜ Wrote (now (out .entry)) at (lineOf nth (now (word .entry)) (plain number ∷ plain lrsn ∷ plain mean ∷ plain variance ∷ plain room ∷ packetsValue speed ∷ bytesValue speed ∷ linkValue link ∷ [])) 256 r (now (out .exit)) ⌝ }
+    ensures { λ r. ⌜ Wrote (now (out .entry)) at (lineOf nth (now (word .entry)) (plain number ∷ plain lrsn ∷ plain mean ∷ plain variance ∷ plain room ∷ rateValue packets ∷ rateValue bytes ∷ rateValue link ∷ [])) 256 r (now (out .exit)) ⌝ }
 {
     let p = open(out, at, nth, word);
-    tail::ack(out, p, number, lrsn, mean, variance, room, speed, link)
+    tail::ack(
+        out,
+        p,
+        number,
+        lrsn,
+        mean,
+        variance,
+        room,
+        packets,
+        bytes,
+        link,
+    )
 }
 
 pub fn report(out: &mut [u8], at: usize, nth: u64, list: &[u32], n: usize) -> usize

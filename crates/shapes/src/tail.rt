@@ -4,14 +4,13 @@ ghost use mathlib.Core.List.{[], _∷_, map};
 ghost use Prim.Native.Nat.{_+_, _*_, _≤_};
 ghost use lib.ListN.{length, take};
 ghost use Rattle.head.specs.Paper.{whole as Paper·whole, plain};
-ghost use Rattle.feedback.specs.Paper.{packetsValue, bytesValue, linkValue};
+ghost use Rattle.feedback.specs.Paper.{rateValue};
 ghost use Rattle.shapes.specs.Shapes.{spaced, closed};
 ghost use Rattle.shapes.specs.Ready.{Wrote};
 use crate::part::newline;
 use crate::part::number;
 use crate::part::whole;
-use intervals::rates::Link;
-use intervals::rates::Speed;
+use intervals::rates::Rate;
 
 // One number, two, three, and four.
 pub fn tail1(out: &mut [u8], at: usize, a: u64) -> usize
@@ -89,41 +88,48 @@ pub fn range(out: &mut [u8], at: usize, a: u64, b: u64, z: i64) -> usize
     signed0(out, p, z)
 }
 
-// The figures of an ACK: `-` for no rate.
-fn speeds(out: &mut [u8], at: usize, speed: Speed) -> usize
-    requires { ⌜ at + 42 ≤ length (now out) ⌝ }
-    ensures { λ r. ⌜ Wrote (now (out .entry)) at (spaced (packetsValue speed ∷ bytesValue speed ∷ [])) 42 r (now (out .exit)) ⌝ }
+// The rates of an ACK: `-` for no rate.
+fn rate_value(out: &mut [u8], at: usize, a: Rate) -> usize
+    requires { ⌜ at + 21 ≤ length (now out) ⌝ }
+    ensures { λ r. ⌜ Wrote (now (out .entry)) at (spaced (rateValue a ∷ [])) 21 r (now (out .exit)) ⌝ }
 {
-    match speed {
-        Speed::Unknown => text::put_bytes(out, at, b" - -"),
-        Speed::Known { packets, bytes } => pair(out, at, packets as u64, bytes as u64),
+    match a {
+        Rate::Unknown => text::put_bytes(out, at, b" -"),
+        Rate::PerSecond(n) => number(out, at, n as u64),
     }
 }
 
-fn capacity(out: &mut [u8], at: usize, link: Link) -> usize
+// One rate, two, and three.
+fn rates1(out: &mut [u8], at: usize, a: Rate) -> usize
     requires { ⌜ at + 22 ≤ length (now out) ⌝ }
-    ensures { λ r. ⌜ Wrote (now (out .entry)) at (closed (linkValue link ∷ [])) 22 r (now (out .exit)) ⌝ }
+    ensures { λ r. ⌜ Wrote (now (out .entry)) at (closed (rateValue a ∷ [])) 22 r (now (out .exit)) ⌝ }
 {
-    match link {
-        Link::Unknown => text::put_bytes(out, at, b" -\n"),
-        Link::Known(n) => tail1(out, at, n as u64),
-    }
+    let p = rate_value(out, at, a);
+    newline(out, p)
 }
 
-fn rates(out: &mut [u8], at: usize, speed: Speed, link: Link) -> usize
+fn rates2(out: &mut [u8], at: usize, a: Rate, b: Rate) -> usize
+    requires { ⌜ at + 43 ≤ length (now out) ⌝ }
+    ensures { λ r. ⌜ Wrote (now (out .entry)) at (closed (rateValue a ∷ rateValue b ∷ [])) 43 r (now (out .exit)) ⌝ }
+{
+    let p = rate_value(out, at, a);
+    rates1(out, p, b)
+}
+
+fn rates3(out: &mut [u8], at: usize, a: Rate, b: Rate, c: Rate) -> usize
     requires { ⌜ at + 64 ≤ length (now out) ⌝ }
-    ensures { λ r. ⌜ Wrote (now (out .entry)) at (closed (packetsValue speed ∷ bytesValue speed ∷ linkValue link ∷ [])) 64 r (now (out .exit)) ⌝ }
+    ensures { λ r. ⌜ Wrote (now (out .entry)) at (closed (rateValue a ∷ rateValue b ∷ rateValue c ∷ [])) 64 r (now (out .exit)) ⌝ }
 {
-    let p = speeds(out, at, speed);
-    capacity(out, p, link)
+    let p = rate_value(out, at, a);
+    rates2(out, p, b, c)
 }
 
-fn room_rates(out: &mut [u8], at: usize, room: u64, speed: Speed, link: Link) -> usize
+fn room_rates(out: &mut [u8], at: usize, room: u64, a: Rate, b: Rate, c: Rate) -> usize
     requires { ⌜ at + 85 ≤ length (now out) ⌝ }
-    ensures { λ r. ⌜ Wrote (now (out .entry)) at (closed (plain room ∷ packetsValue speed ∷ bytesValue speed ∷ linkValue link ∷ [])) 85 r (now (out .exit)) ⌝ }
+    ensures { λ r. ⌜ Wrote (now (out .entry)) at (closed (plain room ∷ rateValue a ∷ rateValue b ∷ rateValue c ∷ [])) 85 r (now (out .exit)) ⌝ }
 {
     let p = number(out, at, room);
-    rates(out, p, speed, link)
+    rates3(out, p, a, b, c)
 }
 
 fn figures(
@@ -132,14 +138,15 @@ fn figures(
     mean: u64,
     variance: u64,
     room: u64,
-    speed: Speed,
-    link: Link,
+    packets: Rate,
+    bytes: Rate,
+    link: Rate,
 ) -> usize
     requires { ⌜ at + 127 ≤ length (now out) ⌝ }
-    ensures { λ r. ⌜ Wrote (now (out .entry)) at (closed (plain mean ∷ plain variance ∷ plain room ∷ packetsValue speed ∷ bytesValue speed ∷ linkValue link ∷ [])) 127 r (now (out .exit)) ⌝ }
+    ensures { λ r. ⌜ Wrote (now (out .entry)) at (closed (plain mean ∷ plain variance ∷ plain room ∷ rateValue packets ∷ rateValue bytes ∷ rateValue link ∷ [])) 127 r (now (out .exit)) ⌝ }
 {
     let p = pair(out, at, mean, variance);
-    room_rates(out, p, room, speed, link)
+    room_rates(out, p, room, packets, bytes, link)
 }
 
 pub fn ack(
@@ -150,14 +157,15 @@ pub fn ack(
     mean: u64,
     variance: u64,
     room: u64,
-    speed: Speed,
-    link: Link,
+    packets: Rate,
+    bytes: Rate,
+    link: Rate,
 ) -> usize
     requires { ⌜ at + 169 ≤ length (now out) ⌝ }
-    ensures { λ r. ⌜ Wrote (now (out .entry)) at (closed (plain number ∷ plain lrsn ∷ plain mean ∷ plain variance ∷ plain room ∷ packetsValue speed ∷ bytesValue speed ∷ linkValue link ∷ [])) 169 r (now (out .exit)) ⌝ }
+    ensures { λ r. ⌜ Wrote (now (out .entry)) at (closed (plain number ∷ plain lrsn ∷ plain mean ∷ plain variance ∷ plain room ∷ rateValue packets ∷ rateValue bytes ∷ rateValue link ∷ [])) 169 r (now (out .exit)) ⌝ }
 {
     let p = pair(out, at, number, lrsn);
-    figures(out, p, mean, variance, room, speed, link)
+    figures(out, p, mean, variance, room, packets, bytes, link)
 }
 
 fn wide(x: u32) -> u64

@@ -4,7 +4,7 @@ use mathlib.Core.Bool.{Bool, true, false, cond}
 use mathlib.Core.List.{List, [], _∷_, map}
 use Prim.Native.Nat.{ℕ, _*_}
 use lib.Dec.{eqb}
-use lib.IntN.{ℤ, natAbs}
+use lib.IntN.{ℤ}
 use lib.ListN.{length}
 use borrow.Author.Tests.{ne-eqb}
 use Rattle.numbers.proofs.Flags.{by-bool, by-test}
@@ -91,7 +91,7 @@ module _ (h : Head) (ws bs : List ℕ) (now : ℤ) where
     data-stays =
         by-refused (λ (o : DataOutcome). Stays h (o .line .refusal) (o .handled .head))
         (firstRefusal (pushRules (headOk h) (h .window .capacity) (length ws) (length bs) now (h .latest) p (length payload))) _ _
-        (let o = pushOf (h .window) ws bs (natAbs now) p payload in push-stays (o .pushed .window) (o .pushed .answer) (length payload))
+        (let o = pushOf (h .window) ws bs now p payload in push-stays (o .pushed .window) (o .pushed .answer) (length payload))
         (alike h (firstRefusal (pushRules (headOk h) (h .window .capacity) (length ws) (length bs) now (h .latest) p (length payload))))
 
     data-line : dataCallOf h ws bs now p payload .line ≡ dataLine (dataCallOf h ws bs now p payload .handled .answer)
@@ -127,7 +127,7 @@ module _ (h : Head) (ws bs : List ℕ) (now : ℤ) where
   unfolding reportCallOf reportedOf
   report-stays list =
       by-refused (λ (o : LossOutcome). Stays h (o .line .refusal) (o .reported .head)) (firstRefusal (timedRules (headOk h) (length ws) (3 * h .window .capacity) now (h .latest))) _ _
-      (let o = reportOf (h .window) ws (natAbs now) (h .rtt .mean) list in report-head (o .list) (o .answer))
+      (let o = reportOf (h .window) ws now (h .rtt .mean) list in report-head (o .list) (o .answer))
       (alike h (firstRefusal (timedRules (headOk h) (length ws) (3 * h .window .capacity) now (h .latest))))
 
   report-line : (list : List ℕ) → reportCallOf h ws list now .line ≡ lossLine (reportCallOf h ws list now .reported .answer) (reportCallOf h ws list now .list)
@@ -148,7 +148,7 @@ module _ (h : Head) (b : List ℕ) (now : ℤ) where
       by-refused Acked tests (dueAck h b now) _
       (by-test Acked (eqb (roomOf (h .window)) 0) (fullAckEnded (record { head = withLatest h now; answer = answered.Nothing }) b) (roomyAck h b now)
       (λ t. (refl, refl))
-      (λ t. let k = fullAckOf (h .history) b (natAbs now) (h .rtt .mean) (h .latency) (h .window .lrsn) in (go (k .acked .history) (k .acked .answer), refl)))
+      (λ t. let k = fullAckOf (h .history) b now (h .rtt .mean) (h .latency) (h .window .lrsn) in (go (k .acked .history) (k .acked .answer), refl)))
       (alike h tests, refl)
     where
       go : (y : History) (x : AckAnswer) → Stays h (fullAckLine (afterAck h y x now .answer) .refusal) (afterAck h y x now .head)
@@ -163,7 +163,7 @@ module _ (h : Head) (b : List ℕ) (now : ℤ) where
   unfolding ack2CallOf heldAck2
   ack2-stays number =
       by-refused Acked2 tests _ _
-      (let k = ack2Of (h .history) b (natAbs now) number in (go (k .history) (k .answer), refl))
+      (let k = ack2Of (h .history) b now number in (go (k .history) (k .answer), refl))
       (alike h tests, refl)
     where
       go : (y : History) (x : Ack2Answer) → Stays h (rttLine (afterAck2 h y x now .answer) .refusal) (afterAck2 h y x now .head)

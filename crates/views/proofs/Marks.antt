@@ -6,6 +6,7 @@ use Prim.Native.Nat.{ℕ, zero, suc, _+_, _^_, _<_, _≤_}
 use native.Mathlib.Omega.{arith}
 use borrow.Author.Tests.{le-leb, lt-leb, lt-ltb, le-ltb}
 use lib.Dec.{ltb, leb}
+use lib.IntN.{ℤ, natAbs}
 use Rattle.numbers.proofs.Flags.{by-bool, by-order}
 use Rattle.slots.specs.Words as words
 use Rattle.slots.specs.Ring.{slotOf}
@@ -39,12 +40,12 @@ module _ (capacity start : ℕ) (ws bs ws₁ : List ℕ) where
   entries-given from to (suc n) i h = rw (h i (omega arith) (omega arith), entries-given from to n (suc i) (λ j a b. h j (omega arith) (omega arith)))
 
 -- neither makes an entry received, nor one that was not
-reported-mark : (time mean : ℕ) (e : Seen) → isReceived (reportedSeen time mean e) ≡ isReceived e
+reported-mark : (time : ℤ) (mean : ℕ) (e : Seen) → isReceived (reportedSeen time mean e) ≡ isReceived e
 reported-mark time mean (lost k f) = by-bool (isDue time mean (Lost k f)) (λ t. rw t) (λ t. rw t)
 reported-mark time mean (received l m t b) = refl
 reported-mark time mean givenUp = refl
 
-gap-reported : (time mean : ℕ) (es : List Seen) → gapIn (map (reportedSeen time mean) es) ≡ gapIn es
+gap-reported : (time : ℤ) (mean : ℕ) (es : List Seen) → gapIn (map (reportedSeen time mean) es) ≡ gapIn es
 unfolding runOf
 gap-reported time mean [] = refl
 gap-reported time mean (e ∷ es) = rw (reported-mark time mean e, gap-reported time mean es)
@@ -61,7 +62,8 @@ gap-given from to i [] = refl
 gap-given from to i (e ∷ es) = rw (given-mark (leb from i && ltb i to) e, gap-given from to (suc i) es)
 
 -- one entry after a report, and one in the range of a drop request
-seen-reported : (time mean s : ℕ) (bs : List ℕ) (e : Entry) → seenOf bs s (cond (isDue time mean e) (Lost (kAfter e) time) e) ≡ reportedSeen time mean (seenOf bs s e)
+seen-reported : (time : ℤ) (mean s : ℕ) (bs : List ℕ) (e : Entry) → seenOf bs s (cond (isDue time mean e) (Lost (kAfter e) (natAbs time)) e) ≡ reportedSeen time mean (seenOf bs s e)
+unfolding isDue
 seen-reported time mean s bs (Lost k f) = by-bool (isDue time mean (Lost k f)) (λ t. rw t) (λ t. rw t)
 seen-reported time mean s bs (Received n l m t) = refl
 seen-reported time mean s bs GivenUp = refl
@@ -75,7 +77,7 @@ module _ (w : Window) (ws bs : List ℕ) (g : Good w ws) where
   abbrev es : List Seen
   es = entries w ws bs
 
-  module _ (time mean : ℕ) (list : List ℕ) (ht : time < 2 ^ 60) where
+  module _ (time : ℤ) (mean : ℕ) (list : List ℕ) (ht : natAbs time < 2 ^ 60) where
     -- a loss report, by its answer
     pub report-seen : entries w (reportOf w ws time mean list .slots) bs ≡ afterReport time mean es (reportOf w ws time mean list .answer)
     report-seen =

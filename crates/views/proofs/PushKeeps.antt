@@ -5,6 +5,7 @@ use Prim.Native.Nat.{ℕ, _+_, _-_, _^_, _<_}
 use native.Mathlib.Omega.{arith}
 use borrow.Author.Tests.{eqb-false, ltb-false}
 use lib.Dec.{eqb, ltb}
+use lib.IntN.{ℤ}
 use lib.ListN.{length}
 use Rattle.numbers.specs.Circular.{distance, before, successor}
 use Rattle.numbers.specs.Order.{order}
@@ -24,7 +25,7 @@ use Rattle.window.specs.declared.Window.{Window}
 use Rattle.window.specs.declared.push.Packet.{Packet}
 use Rattle.window.proofs.Pushes.{length-lost}
 
-module _ (w : Window) (ws bs : List ℕ) (time : ℕ) (p : Packet) (payload : List ℕ) (g : Good w ws) (gb : Bytes w bs) (r : PacketRight p payload) where
+module _ (w : Window) (ws bs : List ℕ) (time : ℤ) (p : Packet) (payload : List ℕ) (g : Good w ws) (gb : Bytes w bs) (r : PacketRight p payload) where
   abbrev Kept : PushOutcome → Type 0
   Kept o = Good (o .pushed .window) (o .slots) × Bytes (o .pushed .window) (o .payloads)
 

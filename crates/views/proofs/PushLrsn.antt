@@ -7,6 +7,7 @@ use native.Mathlib.Nat.{mod-eq-of-lt}
 use native.Mathlib.Omega.{arith}
 use borrow.Author.Tests.{eqb-true, eqb-false, ltb-false, eq-eqb, ne-eqb}
 use lib.Dec.{eqb, ltb}
+use lib.IntN.{ℤ, natAbs}
 use lib.ListN.{length, set, drop, replicate}
 use Rattle.numbers.specs.Circular.{distance, before, sum, successor}
 use Rattle.numbers.specs.Order.{order}
@@ -45,7 +46,7 @@ lost-behind es (suc n) k f fs h =
     (λ o. gap-append es (replicate (suc n) (lost k f) ++ fs) o)
     (λ o. let m = gap-most es in gap-whole es (replicate (suc n) (lost k f) ++ fs) (omega arith) ∙ omega arith)
 
-module _ (w : Window) (ws bs : List ℕ) (time : ℕ) (p : Packet) (payload : List ℕ) (g : Good w ws) (gb : Bytes w bs) (r : PacketRight p payload) (ht : time < 2 ^ 60) (hs : p .stamp < 2 ^ 32) (l : LrsnRight w (entries w ws bs)) where
+module _ (w : Window) (ws bs : List ℕ) (time : ℤ) (p : Packet) (payload : List ℕ) (g : Good w ws) (gb : Bytes w bs) (r : PacketRight p payload) (ht : natAbs time < 2 ^ 60) (hs : p .stamp < 2 ^ 32) (l : LrsnRight w (entries w ws bs)) where
   abbrev es : List Seen
   es = entries w ws bs
 
@@ -108,7 +109,7 @@ module _ (w : Window) (ws bs : List ℕ) (time : ℕ) (p : Packet) (payload : Li
       rw s
       (moved (w .held + gap) (omega arith) far (omega (arith, gap-held))
       ∙ l
-      ∙ ap (numberIn w) (sym (ap gapIn (append-assoc es (replicate gap (lost 2 time)) (packetSeen p payload ∷ [])) ∙ lost-behind es gap 2 time (packetSeen p payload ∷ []) some))))
+      ∙ ap (numberIn w) (sym (ap gapIn (append-assoc es (replicate gap (lost 2 (natAbs time))) (packetSeen p payload ∷ [])) ∙ lost-behind es gap 2 (natAbs time) (packetSeen p payload ∷ []) some))))
       (loss-seen w ws bs time p payload g gb r ht hs)
 
   recovered-right : (i : ℕ) → i ≡ distance 31 (p .number) (w .seqno0) → i < w .held → words.isLost (entryIn w ws i) ≡ true → RightAfter (recoveredOf w ws bs time p payload i)

@@ -8,6 +8,7 @@ use native.Mathlib.Numerals.{add-one}
 use native.Mathlib.Omega.{arith}
 use borrow.Author.Tests.{eqb-false, ltb-false}
 use lib.Dec.{eqb, ltb}
+use lib.IntN.{ℤ, natAbs}
 use lib.ListN.{length, set, replicate, replicate-append-replicate}
 use Rattle.numbers.specs.Circular.{distance, before, sum}
 use Rattle.numbers.specs.Order.{order}
@@ -35,7 +36,7 @@ use Rattle.window.proofs.Pushes.{length-lost}
 use Rattle.views.specs.View.{Seen, lost, seenAt, entriesFrom, entries, packetSeen, SeenAfter}
 use Rattle.views.proofs.Lists.{seen-other, seen-words, one-more, one-changed}
 
-module _ (w : Window) (ws bs : List ℕ) (time : ℕ) (p : Packet) (payload : List ℕ) (g : Good w ws) (gb : Bytes w bs) (r : PacketRight p payload) (ht : time < 2 ^ 60) (hs : p .stamp < 2 ^ 32) where
+module _ (w : Window) (ws bs : List ℕ) (time : ℤ) (p : Packet) (payload : List ℕ) (g : Good w ws) (gb : Bytes w bs) (r : PacketRight p payload) (ht : natAbs time < 2 ^ 60) (hs : p .stamp < 2 ^ 32) where
   abbrev pub es : List Seen
   es = entries w ws bs
 
@@ -73,7 +74,7 @@ module _ (w : Window) (ws bs : List ℕ) (time : ℕ) (p : Packet) (payload : Li
 
   -- after it: a run of lost entries ..
   lost-seen : (n : ℕ) → w .held + n ≤ w .capacity
-      → entriesFrom (w .capacity) (w .start) (withLost (w .capacity) (w .start) ws time (w .held) n) bs 0 (w .held + n) ≡ es ++ replicate n (lost 2 time)
+      → entriesFrom (w .capacity) (w .start) (withLost (w .capacity) (w .start) ws time (w .held) n) bs 0 (w .held + n) ≡ es ++ replicate n (lost 2 (natAbs time))
   unfolding withLost
   lost-seen zero h =
       let z : w .held + 0 ≡ w .held = omega arith in
@@ -82,13 +83,13 @@ module _ (w : Window) (ws bs : List ℕ) (time : ℕ) (p : Packet) (payload : Li
       let k = w .held + n in
       let vs = withLost (w .capacity) (w .start) ws time (w .held) n in
       let z : w .held + suc n ≡ k + 1 = omega arith in
-      let own : seenAt (writeAt vs (slotIn w k) (Lost 2 time)) bs (slotIn w k) ≡ lost 2 time = rw (read-same vs (slotIn w k) (Lost 2 time) (in-words k vs (length-lost (w .capacity) (w .start) ws time (w .held) n)) (omega arith)) in
+      let own : seenAt (writeAt vs (slotIn w k) (Lost 2 (natAbs time))) bs (slotIn w k) ≡ lost 2 (natAbs time) = rw (read-same vs (slotIn w k) (Lost 2 (natAbs time)) (in-words k vs (length-lost (w .capacity) (w .start) ws time (w .held) n)) (omega arith)) in
       rw z
-      (one-more (w .capacity) (w .start) vs bs (writeAt vs (slotIn w k) (Lost 2 time)) bs k (λ j l. seen-words vs bs (slotIn w k) (Lost 2 time) (slotIn w j) (slot-apart (w .capacity) (w .start) (g .ranges .starts) j k (omega arith) (omega arith) (omega arith)))
-      ∙ rw (own, lost-seen n (omega arith)) (append-assoc es (replicate n (lost 2 time)) (lost 2 time ∷ []) ∙ ap (λ (l : List Seen). es ++ l) (snoc n)))
+      (one-more (w .capacity) (w .start) vs bs (writeAt vs (slotIn w k) (Lost 2 (natAbs time))) bs k (λ j l. seen-words vs bs (slotIn w k) (Lost 2 (natAbs time)) (slotIn w j) (slot-apart (w .capacity) (w .start) (g .ranges .starts) j k (omega arith) (omega arith) (omega arith)))
+      ∙ rw (own, lost-seen n (omega arith)) (append-assoc es (replicate n (lost 2 (natAbs time))) (lost 2 (natAbs time) ∷ []) ∙ ap (λ (l : List Seen). es ++ l) (snoc n)))
     where
-      snoc : (n : ℕ) → replicate n (lost 2 time) ++ (lost 2 time ∷ []) ≡ replicate (suc n) (lost 2 time)
-      snoc n = replicate-append-replicate n 1 (lost 2 time) ∙ rw add-one
+      snoc : (n : ℕ) → replicate n (lost 2 (natAbs time)) ++ (lost 2 (natAbs time) ∷ []) ≡ replicate (suc n) (lost 2 (natAbs time))
+      snoc n = replicate-append-replicate n 1 (lost 2 (natAbs time)) ∙ rw add-one
 
   -- .. and then the packet
   pub loss-seen : SeenAfter w ws bs time p payload (appendWithLossOf w ws bs time p payload (distance 31 (p .number) (nextOf w)))

@@ -3,6 +3,7 @@ use mathlib.Core.Path.{_≡_}
 use mathlib.Core.Bool.{Bool, true, false, cond}
 use mathlib.Core.List.{List, [], _∷_, _++_, map}
 use Prim.Native.Nat.{ℕ, zero, suc, _<_, _≤_}
+use lib.IntN.{ℤ, natAbs}
 use lib.ListN.{length, set, take, drop, replicate}
 use Rattle.numbers.specs.Circular.{distance}
 use Rattle.slots.specs.Words.{entryAt}
@@ -62,17 +63,17 @@ LrsnRight w es = w .lrsn ≡ numberIn w (gapIn es)
 abbrev pub packetSeen : Packet → List ℕ → Seen
 packetSeen p payload = received (p .location) (p .message) (p .stamp) payload
 
-abbrev pub afterPush : Window → ℕ → Packet → List ℕ → List Seen → PushAnswer → List Seen
+abbrev pub afterPush : Window → ℤ → Packet → List ℕ → List Seen → PushAnswer → List Seen
 afterPush w time p payload es (answers.Got lrsn true) = set es (distance 31 (p .number) (w .seqno0)) (packetSeen p payload)
 afterPush w time p payload es (answers.Got lrsn false) = es ++ (packetSeen p payload ∷ [])
-afterPush w time p payload es (answers.Loss first last) = es ++ replicate (distance 31 (p .number) (nextOf w)) (lost 2 time) ++ (packetSeen p payload ∷ [])
+afterPush w time p payload es (answers.Loss first last) = es ++ replicate (distance 31 (p .number) (nextOf w)) (lost 2 (natAbs time)) ++ (packetSeen p payload ∷ [])
 afterPush w time p payload es answers.BufferFull = es
 afterPush w time p payload es (answers.PacketTooEarly room need) = es
 afterPush w time p payload es answers.PacketTooLate = es
 afterPush w time p payload es answers.DiscardedDuplicate = es
 
 -- the entries after a push are that list
-abbrev pub SeenAfter : Window → List ℕ → List ℕ → ℕ → Packet → List ℕ → PushOutcome → Type 0
+abbrev pub SeenAfter : Window → List ℕ → List ℕ → ℤ → Packet → List ℕ → PushOutcome → Type 0
 SeenAfter w ws bs time p payload o = entries (o .pushed .window) (o .slots) (o .payloads) ≡ afterPush w time p payload (entries w ws bs) (o .pushed .answer)
 
 -- lrsn is right after a push
@@ -105,12 +106,12 @@ pub record Handed (w : Window) (es : List Seen) (out : List ℕ) (x : PopOutcome
   pub output : x .output ≡ joined (take packets es) ++ drop bytes out
 
 -- what a loss report does to the list: only k and feedback of lost entries that are due change
-abbrev pub reportedSeen : ℕ → ℕ → Seen → Seen
-reportedSeen time mean (lost k f) = cond (isDue time mean (Lost k f)) (lost (kAfter (Lost k f)) time) (lost k f)
+abbrev pub reportedSeen : ℤ → ℕ → Seen → Seen
+reportedSeen time mean (lost k f) = cond (isDue time mean (Lost k f)) (lost (kAfter (Lost k f)) (natAbs time)) (lost k f)
 reportedSeen time mean (received l m t b) = received l m t b
 reportedSeen time mean givenUp = givenUp
 
-abbrev pub afterReport : ℕ → ℕ → List Seen → ReportAnswer → List Seen
+abbrev pub afterReport : ℤ → ℕ → List Seen → ReportAnswer → List Seen
 afterReport time mean es reports.Nothing = es
 afterReport time mean es (reports.Report words) = map (reportedSeen time mean) es
 afterReport time mean es reports.ListShort = es

@@ -3,6 +3,7 @@ use mathlib.Core.Path.{_≡_, refl}
 use mathlib.Core.Bool.{true, false}
 use mathlib.Core.List.{List}
 use Prim.Native.Nat.{ℕ}
+use lib.IntN.{pos}
 use lib.ListN.{replicate}
 use Rattle.numbers.specs.Circular as circular
 use Rattle.numbers.specs.Order as orders
@@ -26,16 +27,16 @@ whole number stamp = record { number = number; message = number; location = 3; s
 
 module _ (bs : List ℕ) where
   abbrev one : PushOutcome
-  one = pushOf fresh (replicate 12 0) bs 1000 (whole 2147483646 0) ten
+  one = pushOf fresh (replicate 12 0) bs (pos 1000) (whole 2147483646 0) ten
 
   abbrev two : PushOutcome
-  two = pushOf (one .pushed .window) (one .slots) (one .payloads) 2000 (whole 0 1000) ten
+  two = pushOf (one .pushed .window) (one .slots) (one .payloads) (pos 2000) (whole 0 1000) ten
 
   abbrev three : PushOutcome
-  three = pushOf (two .pushed .window) (two .slots) (two .payloads) 3000 (whole 2147483647 500) ten
+  three = pushOf (two .pushed .window) (two .slots) (two .payloads) (pos 3000) (whole 2147483647 500) ten
 
   abbrev four : PushOutcome
-  four = pushOf (three .pushed .window) (three .slots) (three .payloads) 3100 (whole 0 1000) ten
+  four = pushOf (three .pushed .window) (three .slots) (three .payloads) (pos 3100) (whole 0 1000) ten
 
   line1 : one .pushed .answer ≡ answers.Got 2147483647 false
   unfolding pushOf appendNextOf circular.distance circular.equal circular.after circular.sum circular.successor orders.order

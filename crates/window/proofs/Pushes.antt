@@ -7,12 +7,15 @@ use native.Mathlib.Numerals.{add-one}
 use native.Mathlib.Omega.{arith}
 use borrow.Author.Needs.{needs}
 use borrow.Author.Tests.{eq-eqb, ne-eqb, lt-ltb, le-ltb}
+use lib.IntN.{ℤ, natAbs}
 use lib.ListN.{length}
 use Rattle.numbers.specs.Circular.{distance, before, sum, successor}
+use Rattle.numbers.specs.Instants.{isReading}
 use Rattle.numbers.specs.Order.{order}
 use Rattle.numbers.specs.declared.seq.Order.{Order}
 use Rattle.numbers.specs.declared.seq.Order.the-variants.{Before, Equal, After}
 use Rattle.numbers.proofs.Circle.{distance-below, before-at, before-not, within, order-before}
+use Rattle.numbers.proofs.Signs.{reading-size, reading-on}
 use Rattle.slots.specs.Words.{isLost, entryAt, writeAt}
 use Rattle.slots.specs.Ring.{slotOf, withPayload}
 use Rattle.slots.specs.Inner.{nextSlot}
@@ -20,8 +23,8 @@ use Rattle.slots.specs.declared.entry.Entry.{Entry}
 use Rattle.slots.specs.declared.entry.Entry.the-variants.{Lost}
 use Rattle.slots.proofs.Laws.{length-write, slot-next, slot-words, slot-words-kept, slot-bytes}
 use Rattle.window.specs.Window.{slotIn, nextOf, lrsnFrom, roomOf}
-use Rattle.window.specs.Ready.{Good}
-use Rattle.window.specs.Push.{PushOutcome, pushEnded, received, movedPast, withLost, recoveredLrsn, refused, appendNextOf, appendWithLossOf, recoveredOf, recoverOf, pushOf}
+use Rattle.window.specs.Ready.{Ring, Good}
+use Rattle.window.specs.Push.{PushOutcome, pushEnded, received, movedPast, lostAt, withLost, recoveredLrsn, refused, appendNextOf, appendWithLossOf, recoveredOf, recoverOf, pushOf}
 use Rattle.window.specs.declared.Window.{Window}
 use Rattle.window.specs.declared.push.Packet.{Packet}
 use Rattle.window.specs.declared.push.PushAnswer.the-variants as answers
@@ -40,8 +43,15 @@ lrsn-found w n ws i e f = rw (eq-eqb _ _ e) f
 pub lrsn-stayed : (w : Window) (n : ℕ) (ws : List ℕ) (i : ℕ) → (w .lrsn ≡ n → ⊥) → w .lrsn ≡ recoveredLrsn w n ws i
 lrsn-stayed w n ws i h = rw (ne-eqb _ _ h)
 
--- the loop of append_lost
-module _ (capacity start : ℕ) (ws : List ℕ) (time from : ℕ) where
+-- write_lost; `z` is the time as the machine reads it back
+pub reading-fits : (time : ℤ) {z : ℤ} {f : ℕ} → isReading time ≡ true → f ≡ natAbs z → z ≡ time → f < 2 ^ 60
+reading-fits time e f q = rw (f, q) (reading-size time e .1)
+
+pub lost-written : (ws : List ℕ) (s : ℕ) (time : ℤ) {z : ℤ} {f : ℕ} {ws₁ : List ℕ} → ws₁ ≡ writeAt ws s (Lost 2 f) → f ≡ natAbs z → z ≡ time → ws₁ ≡ writeAt ws s (lostAt time)
+lost-written ws s time e f q = e ∙ rw (f, q)
+
+-- the loop of append_lost, which has the time as the machine reads it back
+module _ (capacity start : ℕ) (ws : List ℕ) (time : ℤ) (from : ℕ) where
   pub length-lost : (n : ℕ) → length (withLost capacity start ws time from n) ≡ length ws
   unfolding withLost
   length-lost zero = refl
@@ -51,14 +61,14 @@ module _ (capacity start : ℕ) (ws : List ℕ) (time from : ℕ) where
   unfolding withLost
   lost-start = refl
 
-  pub lost-again : (i : ℕ) {s : ℕ} {words words₁ : List ℕ}
-      → words ≡ withLost capacity start ws time from i → s ≡ slotOf capacity start (from + i) → words₁ ≡ writeAt words s (Lost 2 time)
+  pub lost-again : (i : ℕ) {s : ℕ} {z : ℤ} {words words₁ : List ℕ}
+      → words ≡ withLost capacity start ws time from i → s ≡ slotOf capacity start (from + i) → words₁ ≡ writeAt words s (lostAt z) → z ≡ time
       → words₁ ≡ withLost capacity start ws time from (i + 1)
   unfolding withLost
-  lost-again i a b c = rw (add-one i, ← a, ← b) c
+  lost-again i a b c q = rw (add-one i, ← a, ← b) (c ∙ rw q)
 
-  pub lost-done : (i n : ℕ) {words : List ℕ} → words ≡ withLost capacity start ws time from i → i ≤ n → n ≤ i → words ≡ withLost capacity start ws time from n
-  lost-done i n a h k = let e : i ≡ n = omega arith in rw (← e) a
+  pub lost-done : (i n : ℕ) {z : ℤ} {words : List ℕ} → words ≡ withLost capacity start ws z from i → z ≡ time → i ≤ n → n ≤ i → words ≡ withLost capacity start ws time from n
+  lost-done i n a q h k = let e : i ≡ n = omega arith in rw (← e, ← q) a
 
   pub lost-on : (i count : ℕ) {s t : ℕ} → s ≡ slotOf capacity start (from + i) → t ≡ nextSlot capacity s → start < capacity → i < count → from + count ≤ capacity → t ≡ slotOf capacity start (from + (i + 1))
   lost-on i count e f h k l =
@@ -75,7 +85,10 @@ pub good-kept : (w : Window) (ws : List ℕ) (s : ℕ) (e : Entry) {ws₁ : List
 good-kept w ws s e a g = let l = length-write ws s e in rw a (omega arith)
 
 -- append_next, append_with_loss, recover
-module _ (w : Window) (ws bs : List ℕ) (time : ℕ) (p : Packet) (payload : List ℕ) where
+pub lost-ring : (w : Window) (ws : List ℕ) (gap : ℕ) {room : ℕ} → Good w ws → room ≡ roomOf w → gap + 1 ≤ room → Ring (w .capacity) (w .start) (w .held + gap) ws
+lost-ring w ws gap g e h = omega arith
+
+module _ (w : Window) (ws bs : List ℕ) (time : ℤ) (p : Packet) (payload : List ℕ) where
   pub full : w .held ≡ w .capacity → refused w ws bs time p payload answers.BufferFull ≡ appendNextOf w ws bs time p payload
   unfolding appendNextOf
   full h = rw (eq-eqb _ _ h)
@@ -91,13 +104,13 @@ module _ (w : Window) (ws bs : List ℕ) (time : ℕ) (p : Packet) (payload : Li
   unfolding appendWithLossOf
   too-early gap e h = rw (← e, lt-ltb _ _ h)
 
-  pub lost : (gap : ℕ) {room s lrsn first last : ℕ} {ws₁ ws₂ bs₁ : List ℕ}
+  pub lost : (gap : ℕ) {room s lrsn first last : ℕ} {z : ℤ} {ws₁ ws₂ bs₁ : List ℕ}
       → room ≡ roomOf w → gap + 1 ≤ room → lrsn ≡ movedPast (w .lrsn) (p .number) → first ≡ nextOf w → last ≡ sum 31 (p .number) (2 ^ 31 - 1)
-      → s ≡ slotIn w (w .held + gap) → ws₁ ≡ withLost (w .capacity) (w .start) ws time (w .held) gap
+      → s ≡ slotIn w (w .held + gap) → ws₁ ≡ withLost (w .capacity) (w .start) ws z (w .held) gap → z ≡ time
       → ws₂ ≡ writeAt ws₁ s (received p payload) → bs₁ ≡ withPayload bs s payload
       → pushEnded (record { window = record { capacity = w .capacity; start = w .start; held = w .held + (gap + 1); seqno0 = w .seqno0; lrsn = lrsn }; answer = answers.Loss first last }) ws₂ bs₁ ≡ appendWithLossOf w ws bs time p payload gap
   unfolding appendWithLossOf
-  lost gap e h a f g b c d i = rw (← e, le-ltb _ _ h, d, c, i, b, a, f, g)
+  lost gap e h a f g b c q d i = rw (← e, le-ltb _ _ h, d, c, q, i, b, a, f, g)
 
   pub recovered : (i : ℕ) {s lrsn : ℕ} {ws₁ bs₁ : List ℕ}
       → s ≡ slotIn w i → ws₁ ≡ writeAt ws s (received p payload) → bs₁ ≡ withPayload bs s payload → lrsn ≡ recoveredLrsn w (p .number) ws₁ i
@@ -110,9 +123,9 @@ module _ (w : Window) (ws bs : List ℕ) (time : ℕ) (p : Packet) (payload : Li
   too-late c h = rw (before-at 31 (p .number) (w .seqno0) (omega arith))
 
   module _ {u : Bool} {i s : ℕ} {e : Entry} (c : i ≡ distance 31 (p .number) (w .seqno0)) (b : i < 2 ^ 30) (d : s ≡ slotIn w i) (f : e ≡ entryAt ws s) (g : u ≡ isLost e) where
-    pub recovers : {r : PushOutcome} → u ≡ true → r ≡ recoveredOf w ws bs time p payload i → r ≡ recoverOf w ws bs time p payload
+    pub recovers : {r : PushOutcome} {z : ℤ} → u ≡ true → r ≡ recoveredOf w ws bs z p payload i → z ≡ time → r ≡ recoverOf w ws bs time p payload
     unfolding recoverOf
-    recovers h j = rw (before-not 31 (p .number) (w .seqno0) (omega arith), ← c, ← d, ← f, ← g, h) j
+    recovers h j q = rw (before-not 31 (p .number) (w .seqno0) (omega arith), ← c, ← d, ← f, ← g, h) (j ∙ rw q)
 
     pub duplicate : u ≡ false → refused w ws bs time p payload answers.DiscardedDuplicate ≡ recoverOf w ws bs time p payload
     unfolding recoverOf
@@ -133,18 +146,18 @@ module _ (w : Window) (ws bs : List ℕ) (time : ℕ) (p : Packet) (payload : Li
   pub push-before : {o : Order} {n : ℕ} → n ≡ nextOf w → o ≡ order 31 (p .number) n → o ≡ Before → before 31 (p .number) (nextOf w) ≡ true
   push-before a b e = order-before 31 (p .number) (nextOf w) (rw (← a, ← b) e)
 
-  module _ {o : Order} {n : ℕ} {r : PushOutcome} (a : n ≡ nextOf w) (b : o ≡ order 31 (p .number) n) where
-    pub push-next : o ≡ Equal → r ≡ appendNextOf w ws bs time p payload → r ≡ pushOf w ws bs time p payload
+  module _ {o : Order} {n : ℕ} {z : ℤ} {r : PushOutcome} (a : n ≡ nextOf w) (b : o ≡ order 31 (p .number) n) where
+    pub push-next : o ≡ Equal → r ≡ appendNextOf w ws bs z p payload → z ≡ time → r ≡ pushOf w ws bs time p payload
     unfolding pushOf
-    push-next e f = rw (← a, ← b, e) f
+    push-next e f q = rw (← a, ← b, e) (f ∙ rw q)
 
-    pub push-loss : {gap : ℕ} → o ≡ After → gap ≡ distance 31 (p .number) n → r ≡ appendWithLossOf w ws bs time p payload gap → r ≡ pushOf w ws bs time p payload
+    pub push-loss : {gap : ℕ} → o ≡ After → gap ≡ distance 31 (p .number) n → r ≡ appendWithLossOf w ws bs z p payload gap → z ≡ time → r ≡ pushOf w ws bs time p payload
     unfolding pushOf
-    push-loss e g f = rw (← a, ← b, e, ← a, ← g) f
+    push-loss e g f q = rw (← a, ← b, e, ← a, ← g) (f ∙ rw q)
 
-    pub push-recover : o ≡ Before → r ≡ recoverOf w ws bs time p payload → r ≡ pushOf w ws bs time p payload
+    pub push-recover : o ≡ Before → r ≡ recoverOf w ws bs z p payload → z ≡ time → r ≡ pushOf w ws bs time p payload
     unfolding pushOf
-    push-recover e f = rw (← a, ← b, e) f
+    push-recover e f q = rw (← a, ← b, e) (f ∙ rw q)
 
 pub ruleset pushes = (
   slot-words,
@@ -155,10 +168,14 @@ pub ruleset pushes = (
   stayed,
   lrsn-found,
   lrsn-stayed,
+  reading-fits,
+  reading-on,
+  lost-written,
   lost-start,
   lost-again,
   lost-done,
   lost-on,
+  lost-ring,
   from-zero,
   kept-length,
   good-kept,

@@ -3,6 +3,7 @@ use mathlib.Core.Bool.{true, false, cond}
 use mathlib.Core.List.{List}
 use Prim.Native.Nat.{ℕ, zero, suc, _+_, _-_, _^_}
 use lib.Dec.{ltb, eqb}
+use lib.IntN.{ℤ, natAbs}
 use lib.ListN.{length}
 use Rattle.numbers.specs.Circular.{distance, before, sum, successor}
 use Rattle.numbers.specs.Order.{order}
@@ -41,16 +42,20 @@ abbrev pub grown : Window → Packet → ℕ → Window
 grown w p n =
     record { capacity = w .capacity; start = w .start; held = w .held + n; seqno0 = w .seqno0; lrsn = movedPast (w .lrsn) (p .number) }
 
--- the words with n entries from entry i on lost: feedback = now, k = 2
-unfoldable pub withLost : ℕ → ℕ → List ℕ → ℕ → ℕ → ℕ → List ℕ
+-- an entry that is lost from now on: feedback = now, as a word, which has no sign, k = 2
+abbrev pub lostAt : ℤ → Entry
+lostAt time = Lost 2 (natAbs time)
+
+-- the words with n entries from entry i on lost
+unfoldable pub withLost : ℕ → ℕ → List ℕ → ℤ → ℕ → ℕ → List ℕ
 withLost capacity start ws time i zero = ws
-withLost capacity start ws time i (suc n) = writeAt (withLost capacity start ws time i n) (slotOf capacity start (i + n)) (Lost 2 time)
+withLost capacity start ws time i (suc n) = writeAt (withLost capacity start ws time i n) (slotOf capacity start (i + n)) (lostAt time)
 
 -- on recovery of the number it names, lrsn is the first not received from there, else next expected
 abbrev pub recoveredLrsn : Window → ℕ → List ℕ → ℕ → ℕ
 recoveredLrsn w number ws i = cond (eqb (w .lrsn) number) (lrsnFrom w ws i) (w .lrsn)
 
-module _ (w : Window) (ws bs : List ℕ) (time : ℕ) (p : Packet) (payload : List ℕ) where
+module _ (w : Window) (ws bs : List ℕ) (time : ℤ) (p : Packet) (payload : List ℕ) where
   -- a refusal changes nothing
   abbrev pub refused : PushAnswer → PushOutcome
   refused a = pushEnded (record { window = w; answer = a }) ws bs

@@ -4,11 +4,12 @@ ghost use mathlib.Core.Bool.{true};
 ghost use Prim.Native.Nat.{_+_, _*_, _<_, _≤_, _^_};
 ghost use lib.ListN.{length};
 ghost use Rattle.numbers.specs.Circular.{before};
+ghost use Rattle.numbers.specs.Instants.{isReading};
 ghost use Rattle.slots.specs.Words.{writeAt};
 ghost use Rattle.slots.specs.Ring.{withPayload};
 ghost use Rattle.window.specs.Window.{nextOf};
 ghost use Rattle.window.specs.Ready.{Ring, Good, Bytes, PacketRight};
-ghost use Rattle.window.specs.Push.{pushEnded, received, movedPast, withLost, recoveredLrsn, appendNextOf, appendWithLossOf, recoveredOf, recoverOf, pushOf};
+ghost use Rattle.window.specs.Push.{pushEnded, received, movedPast, lostAt, withLost, recoveredLrsn, appendNextOf, appendWithLossOf, recoveredOf, recoverOf, pushOf};
 use crate::Window;
 use numbers::seq::Order;
 use slots::entry::Entry;
@@ -44,6 +45,15 @@ pub fn moved_past(lrsn: u32, number: u32) -> u32
     lrsn
 }
 
+// Puts a lost entry into slot s: feedback now, k = 2.
+fn write_lost(words: &mut [u64], s: usize, time: i64)
+    requires { ⌜ (3 * s + 3 ≤ length (now words)) × (isReading time ≡ true) ⌝ }
+    ensures { λ _. ⌜ now (words .exit) ≡ writeAt (now (words .entry)) s (lostAt time) ⌝ }
+{
+    let feedback = numbers::instant::size(time);
+    slots::entry::write_at(words, s, Entry::Lost { k: 2, feedback });
+}
+
 // Writes `count` entries from entry `from` on as lost.
 fn append_lost(
     words: &mut [u64],
@@ -51,23 +61,16 @@ fn append_lost(
     start: usize,
     from: usize,
     count: usize,
-    time: u64,
+    time: i64,
 )
-    requires { ⌜ Ring capacity start (from + count) (now words) × (time < 2 ^ 60) ⌝ }
+    requires { ⌜ Ring capacity start (from + count) (now words) × (isReading time ≡ true) ⌝ }
     ensures { λ _. ⌜ now (words .exit) ≡ withLost capacity start (now (words .entry)) time from count ⌝ }
 {
     let mut i = 0;
     let mut s = slots::ring::slot(capacity, start, from);
     while i < count {
         let next = slots::ring::next_slot(capacity, s);
-        slots::entry::write_at(
-            words,
-            s,
-            Entry::Lost {
-                k: 2,
-                feedback: time,
-            },
-        );
+        write_lost(words, s, time);
         i += 1;
         s = next;
     }
@@ -97,7 +100,7 @@ fn append_next(
     w: Window,
     words: &mut [u64],
     bytes: &mut [u8],
-    time: u64,
+    time: i64,
     p: Packet,
     payload: &[u8],
 ) -> Pushed
@@ -133,12 +136,12 @@ fn append_with_loss(
     w: Window,
     words: &mut [u64],
     bytes: &mut [u8],
-    time: u64,
+    time: i64,
     p: Packet,
     payload: &[u8],
     gap: usize,
 ) -> Pushed
-    requires { ⌜ Good w (now words) × Bytes w (now bytes) × PacketRight p (now payload) × (time < 2 ^ 60) × (gap < 2 ^ 31) ⌝ }
+    requires { ⌜ Good w (now words) × Bytes w (now bytes) × PacketRight p (now payload) × (isReading time ≡ true) × (gap < 2 ^ 31) ⌝ }
     ensures { λ r. ⌜ pushEnded r (now (words .exit)) (now (bytes .exit)) ≡ appendWithLossOf w (now (words .entry)) (now (bytes .entry)) time p (now (payload .entry)) gap ⌝ }
 {
     let room = crate::room(w);
@@ -183,7 +186,7 @@ fn take_recovered(
     w: Window,
     words: &mut [u64],
     bytes: &mut [u8],
-    time: u64,
+    time: i64,
     p: Packet,
     payload: &[u8],
     i: usize,
@@ -214,7 +217,7 @@ fn recover(
     w: Window,
     words: &mut [u64],
     bytes: &mut [u8],
-    time: u64,
+    time: i64,
     p: Packet,
     payload: &[u8],
 ) -> Pushed
@@ -244,11 +247,11 @@ pub fn push(
     w: Window,
     words: &mut [u64],
     bytes: &mut [u8],
-    time: u64,
+    time: i64,
     p: Packet,
     payload: &[u8],
 ) -> Pushed
-    requires { ⌜ Good w (now words) × Bytes w (now bytes) × PacketRight p (now payload) × (time < 2 ^ 60) ⌝ }
+    requires { ⌜ Good w (now words) × Bytes w (now bytes) × PacketRight p (now payload) × (isReading time ≡ true) ⌝ }
     ensures { λ r. ⌜ pushEnded r (now (words .exit)) (now (bytes .exit)) ≡ pushOf w (now (words .entry)) (now (bytes .entry)) time p (now (payload .entry)) ⌝ }
 {
     let next = crate::number(w, w.held);

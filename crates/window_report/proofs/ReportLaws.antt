@@ -7,6 +7,7 @@ use native.Mathlib.Numerals.{add-one}
 use native.Mathlib.Omega.{arith}
 use borrow.Author.Tests.{eq-eqb, ne-eqb}
 use lib.Dec.{ltb, eqb}
+use lib.IntN.{ℤ, natAbs}
 use lib.ListN.{length, drop, length-set}
 use lib.Seq.{drop-set-lt}
 use Rattle.numbers.proofs.Flags.{by-test, by-bool, by-order, impossible}
@@ -94,7 +95,8 @@ one-is true a b l m r i = refl
 one-is false a b l m r i = refl
 
 -- a due entry is lost, and its k stays within 16 bits
-due-lost : (time mean : ℕ) (e : Entry) → isDue time mean e ≡ true → isLost e ≡ true
+due-lost : (time : ℤ) (mean : ℕ) (e : Entry) → isDue time mean e ≡ true → isLost e ≡ true
+unfolding isDue
 due-lost time mean (Lost k f) t = refl
 due-lost time mean (Received n l m s) t = t
 due-lost time mean GivenUp t = t
@@ -105,15 +107,15 @@ k-small (Received n l m s) = omega arith
 k-small GivenUp = omega arith
 
 -- a slot just reported
-same : (time mean : ℕ) (ws : List ℕ) (s : ℕ) (e : Entry) → 3 * s + 3 ≤ length ws → time < 2 ^ 60 → entryAt ws s ≡ e
-    → entryAt (cond (isDue time mean e) (writeReport ws s (kAfter e) time) ws) s ≡ cond (isDue time mean e) (Lost (kAfter e) time) e
+same : (time : ℤ) (mean : ℕ) (ws : List ℕ) (s : ℕ) (e : Entry) → 3 * s + 3 ≤ length ws → natAbs time < 2 ^ 60 → entryAt ws s ≡ e
+    → entryAt (cond (isDue time mean e) (writeReport ws s (kAfter e) (natAbs time)) ws) s ≡ cond (isDue time mean e) (Lost (kAfter e) (natAbs time)) e
 same time mean ws s e h k p =
     by-bool (isDue time mean e)
-    (λ t. rw t (read-report ws s (kAfter e) time h (rw p (due-lost time mean e t)) (k-small e) k))
+    (λ t. rw t (read-report ws s (kAfter e) (natAbs time) h (rw p (due-lost time mean e t)) (k-small e) k))
     (λ t. rw t p)
 
 -- the search for an entry that is due: its end, a slot that has one, and one that has none
-module _ (ws : List ℕ) (time mean : ℕ) where
+module _ (ws : List ℕ) (time : ℤ) (mean : ℕ) where
   module _ (s to : ℕ) where
     pub due-end : to ≤ s → dueFrom ws time mean s (to - s) ≡ false
     unfolding dueFrom
@@ -139,7 +141,7 @@ module _ (ws : List ℕ) (time mean : ℕ) where
       (λ l. due-none n (s + 1) j (rw t at e) (omega arith) (omega arith))
       (λ l. let f : j ≡ s = omega arith in rw f t))
 
-module _ (w : Window) (ws : List ℕ) (time mean : ℕ) where
+module _ (w : Window) (ws : List ℕ) (time : ℤ) (mean : ℕ) where
   pub runs-more : (i : ℕ) → runsTo w ws time mean (i + 1) ≡ runsAfter (runsTo w ws time mean i) i (dueAt w ws time mean i)
   unfolding runsTo
   runs-more i = rw (add-one i)
@@ -227,9 +229,9 @@ module _ (w : Window) (ws : List ℕ) (time mean : ℕ) where
   abbrev pub entryAfter : ℕ → Entry
   entryAfter j =
       let e = entryAt ws (slotNo w ws time mean j) in
-      cond (dueAt w ws time mean j) (Lost (kAfter e) time) e
+      cond (dueAt w ws time mean j) (Lost (kAfter e) (natAbs time)) e
 
-  slots-behind : (i j : ℕ) → Good w ws → time < 2 ^ 60 → j < i → i ≤ w .capacity → entryAt (slotsTo w ws time mean i) (slotNo w ws time mean j) ≡ entryAfter j
+  slots-behind : (i j : ℕ) → Good w ws → natAbs time < 2 ^ 60 → j < i → i ≤ w .capacity → entryAt (slotsTo w ws time mean i) (slotNo w ws time mean j) ≡ entryAfter j
   unfolding slotsTo
   slots-behind zero j g ht h k = absurd (omega arith)
   slots-behind (suc i) j g ht h k =
@@ -249,7 +251,7 @@ module _ (w : Window) (ws : List ℕ) (time mean : ℕ) where
       (slots-ahead i i (g .ranges .starts) (omega arith) (omega arith))))
 
   -- a report changes only k and feedback time of due entries: those held, those that are not, and the words past the capacity
-  pub report-held : (j : ℕ) → Good w ws → time < 2 ^ 60 → j < w .held → entryAt (slotsTo w ws time mean (w .held)) (slotNo w ws time mean j) ≡ entryAfter j
+  pub report-held : (j : ℕ) → Good w ws → natAbs time < 2 ^ 60 → j < w .held → entryAt (slotsTo w ws time mean (w .held)) (slotNo w ws time mean j) ≡ entryAfter j
   report-held j g ht h = slots-behind (w .held) j g ht h (g .ranges .holds)
 
   pub report-not-held : (j : ℕ) → Good w ws → w .held ≤ j → j < w .capacity → entryAt (slotsTo w ws time mean (w .held)) (slotNo w ws time mean j) ≡ entryAt ws (slotNo w ws time mean j)

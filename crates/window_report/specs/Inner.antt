@@ -3,6 +3,7 @@ use mathlib.Core.Path.{_≡_}
 use mathlib.Core.Bool.{Bool, true, false, cond}
 use mathlib.Core.List.{List}
 use Prim.Native.Nat.{ℕ, zero, suc, _+_, _-_, _*_, _<_, _≤_, min}
+use lib.IntN.{ℤ, natAbs}
 use Rattle.slots.specs.Words.{entryAt, writeReport}
 use Rattle.window.specs.declared.Window.{Window}
 use Rattle.window_report.specs.Report.{isDue, kAfter, runsAfter, runPut, slotsTo, runsTo, listTo}
@@ -24,24 +25,24 @@ abbrev pub reporting : List ℕ → List ℕ → Runs → Reporting
 reporting ws list r = record { slots = ws; list = list; runs = r }
 
 -- and after entry i, which lies in slot s: written if it is due; if not, the run before it is written
-unfoldable pub reportOne : Window → ℕ → ℕ → ℕ → ℕ → Reporting → Reporting
+unfoldable pub reportOne : Window → ℤ → ℕ → ℕ → ℕ → Reporting → Reporting
 reportOne w time mean s i x =
     let e = entryAt (x .slots) s in
     cond (isDue time mean e)
-    (reporting (writeReport (x .slots) s (kAfter e) time) (x .list) (runsAfter (x .runs) i true))
+    (reporting (writeReport (x .slots) s (kAfter e) (natAbs time)) (x .list) (runsAfter (x .runs) i true))
     (reporting (x .slots) (runPut w (x .list) (x .runs) i) (runsAfter (x .runs) i false))
 
 -- after the first i entries
-abbrev pub reportedTo : Window → List ℕ → ℕ → ℕ → List ℕ → ℕ → Reporting
+abbrev pub reportedTo : Window → List ℕ → ℤ → ℕ → List ℕ → ℕ → Reporting
 reportedTo w ws time mean list i = reporting (slotsTo w ws time mean i) (listTo w ws time mean list i) (runsTo w ws time mean i)
 
 -- whether one of the n slots from s on holds an entry that is due
-unfoldable pub dueFrom : List ℕ → ℕ → ℕ → ℕ → ℕ → Bool
+unfoldable pub dueFrom : List ℕ → ℤ → ℕ → ℕ → ℕ → Bool
 dueFrom ws time mean s zero = false
 dueFrom ws time mean s (suc n) = cond (isDue time mean (entryAt ws s)) true (dueFrom ws time mean (s + 1) n)
 
 -- and whether one of the slots in use does: those up to the end of the ring, then those from slot 0 on
-abbrev pub anyDue : Window → List ℕ → ℕ → ℕ → Bool
+abbrev pub anyDue : Window → List ℕ → ℤ → ℕ → Bool
 anyDue w ws time mean =
     cond (dueFrom ws time mean (w .start) (min (w .held) (w .capacity - w .start)))
     true

@@ -3,7 +3,9 @@ use mathlib.Core.Bool.{Bool, true, false, cond}
 use mathlib.Core.List.{List}
 use Prim.Native.Nat.{ℕ, zero, suc, _+_, _-_, _*_, _^_, min}
 use lib.Dec.{ltb, eqb}
+use lib.IntN.{ℤ, pos, natAbs, _+ℤ_}
 use lib.ListN.{length, set}
+use lib.Signed.{ltZ}
 use Rattle.slots.specs.Words.{entryAt, writeReport}
 use Rattle.slots.specs.Ring.{slotOf}
 use Rattle.slots.specs.declared.entry.Entry.{Entry}
@@ -24,12 +26,12 @@ abbrev pub reportEnded : ReportAnswer → List ℕ → List ℕ → ReportOutcom
 reportEnded r ws list = record { answer = r; slots = ws; list = list }
 
 -- lost entries with now > feedback + k × mean RTT
-abbrev pub isDue : ℕ → ℕ → Entry → Bool
-isDue time mean (Lost k f) = ltb (f + k * mean) time
+unfoldable pub isDue : ℤ → ℕ → Entry → Bool
+isDue time mean (Lost k f) = ltZ (pos f +ℤ pos (k * mean)) time
 isDue time mean (Received n l m t) = false
 isDue time mean GivenUp = false
 
--- each gets k + 1 (at most 65,535), and, in `slotsTo`, feedback now
+-- each gets k + 1 (at most 65,535), and, in `slotsTo`, feedback now, as a word, which has no sign
 abbrev pub kAfter : Entry → ℕ
 kAfter (Lost k f) = min (k + 1) 65535
 kAfter (Received n l m t) = 0
@@ -54,7 +56,7 @@ runPut w list r i =
     (set (set list (r .words) (2 ^ 31 + numberIn w (r .first))) (r .words + 1) (numberIn w (i - 1))))
     list
 
-module _ (w : Window) (ws : List ℕ) (time mean : ℕ) where
+module _ (w : Window) (ws : List ℕ) (time : ℤ) (mean : ℕ) where
   -- the slot of entry i, and whether it is due
   abbrev pub slotNo : ℕ → ℕ
   slotNo i = slotOf (w .capacity) (w .start) i
@@ -65,7 +67,7 @@ module _ (w : Window) (ws : List ℕ) (time mean : ℕ) where
   -- the slot area after the first i entries
   unfoldable pub slotsTo : ℕ → List ℕ
   slotsTo zero = ws
-  slotsTo (suc i) = cond (dueAt i) (writeReport (slotsTo i) (slotNo i) (kAfter (entryAt ws (slotNo i))) time) (slotsTo i)
+  slotsTo (suc i) = cond (dueAt i) (writeReport (slotsTo i) (slotNo i) (kAfter (entryAt ws (slotNo i))) (natAbs time)) (slotsTo i)
 
   -- the runs of the first i entries, and the words that all of them need
   unfoldable pub runsTo : ℕ → Runs

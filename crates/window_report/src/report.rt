@@ -22,12 +22,12 @@ pub enum ReportAnswer {
 }
 
 // A lost entry whose feedback time is more than k mean round trips ago.
-fn is_due(e: Entry, time: u64, mean: u32) -> bool
+fn is_due(e: Entry, time: i64, mean: u32) -> bool
     requires { ⌜ Fit e × (mean < 2 ^ 31) ⌝ }
     ensures { λ r. ⌜ r ≡ isDue time mean e ⌝ }
 {
     match e {
-        Entry::Lost { k, feedback } => feedback + (k as u64) * (mean as u64) < time,
+        Entry::Lost { k, feedback } => (feedback as i64) + (k as i64) * (mean as i64) < time,
         Entry::Received {
             length: _,
             location: _,
@@ -93,7 +93,7 @@ fn runs_after(r: Runs, i: usize, due: bool) -> Runs
 }
 
 // The runs of all entries, and so how many words they need.
-fn count_runs(w: window::Window, words: &[u64], time: u64, mean: u32) -> Runs
+fn count_runs(w: window::Window, words: &[u64], time: i64, mean: u32) -> Runs
     requires { ⌜ Good w (now words) × (mean < 2 ^ 31) ⌝ }
     ensures { λ r. ⌜ r ≡ runsTo w (now (words .entry)) time mean (w .held) ⌝ }
 {
@@ -114,7 +114,7 @@ fn count_runs(w: window::Window, words: &[u64], time: u64, mean: u32) -> Runs
 }
 
 // How many words the report needs.
-fn words_needed(w: window::Window, words: &[u64], time: u64, mean: u32) -> usize
+fn words_needed(w: window::Window, words: &[u64], time: i64, mean: u32) -> usize
     requires { ⌜ Good w (now words) × (mean < 2 ^ 31) ⌝ }
     ensures { λ n. ⌜ n ≡ needed w (now (words .entry)) time mean ⌝ }
 {
@@ -163,7 +163,7 @@ fn report_one(
     w: window::Window,
     words: &mut [u64],
     list: &mut [u32],
-    time: u64,
+    time: i64,
     mean: u32,
     s: usize,
     i: usize,
@@ -174,7 +174,9 @@ fn report_one(
 {
     let e = slots::entry::read_at(words, s);
     if is_due(e, time, mean) {
-        slots::entry::write_report(words, s, k_after(e), time);
+        let k = k_after(e);
+        let feedback = numbers::instant::size(time);
+        slots::entry::write_report(words, s, k, feedback);
         return runs_after(r, i, true);
     }
     run_end(w, list, r, i)
@@ -185,7 +187,7 @@ fn report_entries(
     w: window::Window,
     words: &mut [u64],
     list: &mut [u32],
-    time: u64,
+    time: i64,
     mean: u32,
 ) -> Runs
     requires { ⌜ Good w (now words) × (mean < 2 ^ 31) × (needed w (now words) time mean ≤ length (now list)) ⌝ }
@@ -212,7 +214,7 @@ fn report_in(
     w: window::Window,
     words: &mut [u64],
     list: &mut [u32],
-    time: u64,
+    time: i64,
     mean: u32,
 ) -> ReportAnswer
     requires { ⌜ Good w (now words) × (mean < 2 ^ 31) × (needed w (now words) time mean ≤ length (now list)) ⌝ }
@@ -231,7 +233,7 @@ fn report_counted(
     w: window::Window,
     words: &mut [u64],
     list: &mut [u32],
-    time: u64,
+    time: i64,
     mean: u32,
 ) -> ReportAnswer
     requires { ⌜ Good w (now words) × (mean < 2 ^ 31) ⌝ }
@@ -248,7 +250,7 @@ fn report_counted(
 }
 
 // Whether one of the slots from `from` to before `to` holds an entry that is due.
-fn due_between(words: &[u64], from: usize, to: usize, time: u64, mean: u32) -> bool
+fn due_between(words: &[u64], from: usize, to: usize, time: i64, mean: u32) -> bool
     requires { ⌜ (3 * to ≤ length (now words)) × (mean < 2 ^ 31) ⌝ }
     ensures { λ r. ⌜ r ≡ dueFrom (now (words .entry)) time mean from (to - from) ⌝ }
 {
@@ -264,7 +266,7 @@ fn due_between(words: &[u64], from: usize, to: usize, time: u64, mean: u32) -> b
 
 // Whether some entry is due. Where none is, the report ends with this walk: it minds no runs, and takes the ring as one or two
 // stretches of slots, so that a step is one addition.
-fn any_due(w: window::Window, words: &[u64], time: u64, mean: u32) -> bool
+fn any_due(w: window::Window, words: &[u64], time: i64, mean: u32) -> bool
     requires { ⌜ Good w (now words) × (mean < 2 ^ 31) ⌝ }
     ensures { λ r. ⌜ r ≡ anyDue w (now (words .entry)) time mean ⌝ }
 {
@@ -283,7 +285,7 @@ pub fn loss_report(
     w: window::Window,
     words: &mut [u64],
     list: &mut [u32],
-    time: u64,
+    time: i64,
     mean: u32,
 ) -> ReportAnswer
     requires { ⌜ Good w (now words) × (mean < 2 ^ 31) ⌝ }

@@ -7,6 +7,7 @@ write-ack-spec =
     tie.close
     (tie.spec
     (λ c. search histories)
+    (λ c κs. search histories)
     (λ c. search histories)
     (λ c. search histories)
     (λ c. search histories)

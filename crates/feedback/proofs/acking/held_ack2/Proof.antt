@@ -8,5 +8,4 @@ held-ack2-spec =
     (tie.spec
     (λ c κs. search ackings)
     (λ c κs. search ackings)
-    (λ c κs. search ackings)
     (λ c. search ackings))

@@ -8,6 +8,5 @@ roomy-ack-spec =
     (tie.spec
     (λ c κs. search ackings)
     (λ c κs. search ackings)
-    (λ c κs. search ackings)
     (λ c. search ackings)
     (λ c. search ackings))

@@ -8,7 +8,6 @@ report-spec =
     (tie.spec
     (λ c κs. search losses)
     (λ c κs. search losses)
-    (λ c κs. search losses)
     (λ c. search losses)
     (λ c. search losses)
     (λ c. search losses))

@@ -8,7 +8,6 @@ take-packet-spec =
     (tie.spec
     (λ c κs. search pushes-in)
     (λ c κs. search pushes-in)
-    (λ c κs. search pushes-in)
     (λ c. search pushes-in)
     (λ c. search pushes-in)
     (λ c. search pushes-in))

@@ -1,6 +1,8 @@
 use mathlib.Core.Path.{_≡_}
 use Prim.Native.Nat.{_+_, _-_, _≤_}
 use lib.ListN.{length}
+use mir.Syntax.{w64}
+use mir.Val.{toZ}
 use Rattle.slots.specs.Ring.{slotOf}
 use Rattle.window.specs.Push.{withLost}
 use Rattle.window.proofs.Pushes.{pushes}
@@ -9,7 +11,7 @@ use Rattle.window.proofs.push.append_lost.Tie as tie
 
 abbrev Inv-loop : tie.InvT-loop
 Inv-loop words₀ capacity start from count time i₀ s₀ words i s =
-    (i ≤ count) × (s ≡ slotOf capacity start (from + i)) × (length words ≡ length words₀) × (words ≡ withLost capacity start words₀ time from i)
+    (i ≤ count) × (s ≡ slotOf capacity start (from + i)) × (length words ≡ length words₀) × (words ≡ withLost capacity start words₀ (toZ w64 time) from i)
 
 abbrev μ-loop : tie.MeasureT-loop
 μ-loop words₀ capacity start from count time i₀ s₀ words i s = count - i

@@ -14,4 +14,6 @@ is-due-spec =
     (λ c. search reports)
     (λ c. search reports)
     (λ c. search reports)
+    (λ c. search reports)
+    (λ c. search reports)
     (λ c. search reports))

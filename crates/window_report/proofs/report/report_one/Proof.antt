@@ -11,6 +11,7 @@ report-one-spec =
     (λ c κs. search reports)
     (λ c κs. search reports)
     (λ c κs. search reports)
+    (λ c κs. search reports)
     (λ c. search reports)
     (λ c. search reports)
     (λ c κs. search reports)

@@ -1,9 +1,9 @@
 use Rattle.intervals.proofs.RateSteps.{rateSteps}
-use Rattle.intervals.proofs.rates.rate.Statement.{statement}
-use Rattle.intervals.proofs.rates.rate.Tie as tie
+use Rattle.intervals.proofs.rates.rate_of.Statement.{statement}
+use Rattle.intervals.proofs.rates.rate_of.Tie as tie
 
-pub rate-spec : {M : Type 1} → statement M
-rate-spec =
+pub rate-of-spec : {M : Type 1} → statement M
+rate-of-spec =
     tie.close
     (tie.spec
     (λ c. search rateSteps)

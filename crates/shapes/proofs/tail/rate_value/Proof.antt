@@ -1,9 +1,9 @@
 use Rattle.shapes.proofs.Tails.{tails}
-use Rattle.shapes.proofs.tail.capacity.Statement.{statement}
-use Rattle.shapes.proofs.tail.capacity.Tie as tie
+use Rattle.shapes.proofs.tail.rate_value.Statement.{statement}
+use Rattle.shapes.proofs.tail.rate_value.Tie as tie
 
-pub capacity-spec : {M : Type 1} → statement M
-capacity-spec =
+pub rate-value-spec : {M : Type 1} → statement M
+rate-value-spec =
     tie.close
     (tie.spec
     (λ c. search tails)

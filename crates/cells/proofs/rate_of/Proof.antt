@@ -1,9 +1,9 @@
 use Rattle.cells.proofs.Numbers.{numbers}
-use Rattle.cells.proofs.bytes_of.Statement.{statement}
-use Rattle.cells.proofs.bytes_of.Tie as tie
+use Rattle.cells.proofs.rate_of.Statement.{statement}
+use Rattle.cells.proofs.rate_of.Tie as tie
 
-pub bytes-of-spec : {M : Type 1} → statement M
-bytes-of-spec =
+pub rate-of-spec : {M : Type 1} → statement M
+rate-of-spec =
     tie.close
     (tie.spec
     (λ c. search numbers)
