@@ -57,10 +57,13 @@ right p payload e h =
 pub right-by : {p : Packet} {payload : List ℕ} {a : Bool} → a ≡ packetOk p → a ≡ true → length payload ≤ 1456 → PacketRight p payload
 right-by {p} {payload} q e h = right p payload (sym q ∙ e) h
 
+pub reading-by : (z : ℤ) {b : Bool} → b ≡ isReading z → b ≡ true → isReading z ≡ true
+reading-by z p e = sym p ∙ e
+
 pub pop-by : {k : SynchronizedRemoteClock} {latency : ℕ} {w : Window} {ws bs : List ℕ} {now : ℤ} {a b : Bool}
     → Good w ws → Bytes w bs → latency ≤ 65535000 → a ≡ clockOk k → a ≡ true → b ≡ isReading now → b ≡ true → PopReady k latency w ws bs now
 pop-by {k} {latency} {w} {ws} {bs} {now} g h l p e q f =
     let r = ready k now (sym p ∙ e) (sym q ∙ f) in
     record { good = g; payloads = h; reference = r .reference; reading = r .reading; setting = l }
 
-pub ruleset steps = (widens, good-by, tested-by, right-by, pop-by, needs)
+pub ruleset steps = (widens, good-by, tested-by, right-by, reading-by, pop-by, needs)

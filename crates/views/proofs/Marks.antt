@@ -63,6 +63,7 @@ gap-given from to i (e ∷ es) = rw (given-mark (leb from i && ltb i to) e, gap-
 
 -- one entry after a report, and one in the range of a drop request
 seen-reported : (time : ℤ) (mean s : ℕ) (bs : List ℕ) (e : Entry) → seenOf bs s (cond (isDue time mean e) (Lost (kAfter e) (natAbs time)) e) ≡ reportedSeen time mean (seenOf bs s e)
+unfolding isDue
 seen-reported time mean s bs (Lost k f) = by-bool (isDue time mean (Lost k f)) (λ t. rw t) (λ t. rw t)
 seen-reported time mean s bs (Received n l m t) = refl
 seen-reported time mean s bs GivenUp = refl

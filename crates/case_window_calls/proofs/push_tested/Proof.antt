@@ -6,6 +6,7 @@ pub push-tested-spec : {M : Type 1} → statement M
 push-tested-spec =
     tie.close
     (tie.spec
+    (λ c κs. search steps)
     (λ c. search steps)
     (λ c κs. search steps)
     (λ c. search steps)
