@@ -1,2 +1,3 @@
--- Proofs of the loops of the replay.
+-- Laws for the code of the replay.
 pub mod Counting
+pub mod Reading
