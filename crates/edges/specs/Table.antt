@@ -1,6 +1,6 @@
 -- 01, "Both sides of the edge": P1 to P8. Each row is a whole file of the trace and all that it must give, as bytes.
 use mathlib.Core.List.{List, [], _∷_, _++_}
-use Prim.Native.Nat.{ℕ, zero, suc, _*_, _/_, _%_}
+use Prim.Native.Nat.{ℕ, zero, suc, _/_, _%_}
 use lib.ListN.{replicate}
 use Rattle.text.specs.Bytes.{bytes}
 

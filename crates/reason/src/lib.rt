@@ -7,7 +7,9 @@ ghost use Rattle.head.specs.Head.{madeOf};
 ghost use Rattle.dlt.specs.Bytes.{byteAt};
 ghost use Rattle.dlt.specs.Record.{leastSize};
 ghost use Rattle.reason.specs.Reason.{isMarked, formReason, settingReason, headerReason, needIn, cutReason, wrongReason, recordReason};
+
 pub mod tell;
+
 use dlt::bytes::half;
 use dlt::header::HeaderRead;
 use dlt::record::RecordRead;
@@ -16,32 +18,17 @@ use head::state::Head;
 pub enum Reason {
     // Nothing is wrong.
     Nothing,
-    HeaderCut {
-        have: usize,
-    },
+    HeaderCut { have: usize },
     NoMark,
-    Version {
-        version: u16,
-    },
-    LateDrop {
-        value: u8,
-    },
+    Version { version: u16 },
+    LateDrop { value: u8 },
     // Over 32.
-    Capacity {
-        capacity: usize,
-    },
+    Capacity { capacity: usize },
     Setting,
     // The bytes that the record needs are 0 if they are not known yet.
-    Cut {
-        have: usize,
-        need: usize,
-    },
-    Kind {
-        kind: u8,
-    },
-    Length {
-        length: u16,
-    },
+    Cut { have: usize, need: usize },
+    Kind { kind: u8 },
+    Length { length: u16 },
 }
 
 fn is_marked(piece: &[u8]) -> bool
@@ -56,8 +43,7 @@ fn form(piece: &[u8]) -> Reason
     requires { ⌜ 24 ≤ length (now piece) ⌝ }
     ensures { λ r. ⌜ r ≡ formReason (now (piece .entry)) ⌝ }
 {
-    if is_marked(piece) {
-    } else {
+    if is_marked(piece) {} else {
         return Reason::NoMark;
     }
     let version = half(piece, 3);

@@ -27,10 +27,20 @@ fn put_reason(reason: Reason, nth: u64) {
         Reason::Nothing => put(b"nothing is wrong"),
         Reason::HeaderCut { have } => around(b"the header is cut, ", have as u64, b" of 24 bytes"),
         Reason::NoMark => put(b"not a trace (no mark DLT)"),
-        Reason::Version { version } => around(b"version ", version as u64, b"; this program reads version 1"),
+        Reason::Version { version } => around(
+            b"version ",
+            version as u64,
+            b"; this program reads version 1",
+        ),
         Reason::LateDrop { value } => around(b"late-drop is ", value as u64, b", not 0 or 1"),
-        Reason::Capacity { capacity } => around(b"capacity ", capacity as u64, b"; a trace has 32 slots at most"),
-        Reason::Setting => put(b"a setting is refused (start, latency, first number or capacity out of range)"),
+        Reason::Capacity { capacity } => around(
+            b"capacity ",
+            capacity as u64,
+            b"; a trace has 32 slots at most",
+        ),
+        Reason::Setting => put(
+            b"a setting is refused (start, latency, first number or capacity out of range)",
+        ),
         Reason::Cut { have, need } => {
             around(b"record ", nth, b" is cut, ");
             put_need(have, need);

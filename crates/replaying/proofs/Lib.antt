@@ -1,3 +1,4 @@
--- Proofs of the loops of the replay.
+-- Laws for the code of the replay.
 pub mod Counting
+pub mod Reading
 pub mod Sames

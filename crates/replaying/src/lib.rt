@@ -2,11 +2,11 @@
 // behind the lines that are still to be written out. That the turns give together what the whole file gives is the trace's law `loop-whole`; no contract
 // can speak of what is read or written, so here the code only follows that loop.
 ghost use mathlib.Core.Path.{_≡_};
-ghost use Prim.Native.Nat.{_-_, _≤_, min};
-ghost use lib.ListN.{length, replicate};
+ghost use Prim.Native.Nat.{_-_, _≤_};
+ghost use lib.ListN.{length};
 ghost use Rattle.io.specs.Counts.{Counts};
 ghost use Rattle.trace.specs.Lends.{slotsLent, payloadsLent, historyLent, listLent};
-ghost use Rattle.replaying.specs.Reads.{grew, wantingOf, filledOf, flushedOf};
+ghost use Rattle.replaying.specs.Reads.{wantingOf, filledOf, flushedOf};
 ghost use Rattle.replaying.specs.Same.{sameBytes};
 use libc::STDERR_FILENO;
 use libc::STDIN_FILENO;
@@ -17,31 +17,27 @@ use trace::Status;
 use trace::Trace;
 use trace::Turned;
 
-// The areas of capacity 32, of zeros. With them no record is refused by 2, 11 or 12: the theorem `replay-areas`. An output has the length of the payloads.
+// The areas of capacity 32. With them no record is refused by 2, 11 or 12: the theorem `replay-areas`. An output has the length of the payloads.
 fn slot_area() -> [u64; 96]
-    ensures { λ r. ⌜ r ≡ replicate slotsLent 0 ⌝ }
-    ensures { λ r. ⌜ 96 ≡ length r ⌝ }
+    ensures { λ r. ⌜ slotsLent ≡ length r ⌝ }
 {
     [0; 96]
 }
 
 fn payload_area() -> [u8; 46592]
-    ensures { λ r. ⌜ r ≡ replicate payloadsLent 0 ⌝ }
-    ensures { λ r. ⌜ 46592 ≡ length r ⌝ }
+    ensures { λ r. ⌜ payloadsLent ≡ length r ⌝ }
 {
     [0; 46592]
 }
 
 fn history_area() -> [u64; 2048]
-    ensures { λ r. ⌜ r ≡ replicate historyLent 0 ⌝ }
-    ensures { λ r. ⌜ 2048 ≡ length r ⌝ }
+    ensures { λ r. ⌜ historyLent ≡ length r ⌝ }
 {
     [0; 2048]
 }
 
 fn loss_words() -> [u32; 64]
-    ensures { λ r. ⌜ r ≡ replicate listLent 0 ⌝ }
-    ensures { λ r. ⌜ 64 ≡ length r ⌝ }
+    ensures { λ r. ⌜ listLent ≡ length r ⌝ }
 {
     [0; 64]
 }
@@ -79,14 +75,12 @@ struct State {
 // n, or as many bytes as there are.
 fn within(n: usize, part: &[u8]) -> usize
     ensures { λ r. ⌜ Counts r (now (part .entry)) ⌝ }
-    ensures { λ r. ⌜ r ≡ min n (length (now (part .entry))) ⌝ }
 {
     if n < part.len() { n } else { part.len() }
 }
 
 fn least(a: usize, b: usize) -> usize
     ensures { λ r. ⌜ r ≤ b ⌝ }
-    ensures { λ r. ⌜ r ≡ min a b ⌝ }
 {
     if a < b { a } else { b }
 }
@@ -117,16 +111,14 @@ fn wanting(s: State, want: Want) -> State
     }
 }
 
-// What a read gave: the bytes at hand end here, and its answer, by which they grew.
+// What a read gave: the bytes at hand end here, and its answer.
 struct Got {
     end: usize,
     answer: isize,
 }
 
 // The bytes at hand go to the front, and one read behind them.
-fn read_behind(fd: i32, hand: &mut [u8], from: usize, to: usize) -> Got
-    ensures { λ r. ⌜ grew from to (length (now (hand .entry))) r ⌝ }
-{
+fn read_behind(fd: i32, hand: &mut [u8], from: usize, to: usize) -> Got {
     let end = within(to, hand);
     let at = least(from, end);
     shift(hand, at, end);
@@ -439,7 +431,12 @@ fn tell_record(name: &[u8], hand: &[u8], from: usize, to: usize, t: Trace) {
     let end = within(to, hand);
     let at = least(from, end);
     let reason = reason::of_record(&hand[at..end]);
-    reason::tell::tell(name, t.offset, std::num::wrapping_add_u64(t.count, 1), reason);
+    reason::tell::tell(
+        name,
+        t.offset,
+        std::num::wrapping_add_u64(t.count, 1),
+        reason,
+    );
 }
 
 // The lines that are left, and what failed. errno is told before anything else can change it.

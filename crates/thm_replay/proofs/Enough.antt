@@ -111,9 +111,13 @@ module _ (h : Head) (ws bs : List ℕ) (now : ℤ) (p : Packet) (payload : List 
       (λ z. let o = pushOf (h .window) ws bs now p payload in push-enough (o .pushed .window) (o .pushed .answer) (p .number) (length payload))
       (λ z. first-enough 0 pushTests refl (
         λ e. refl,
-        (long-enough (length ws) (3 * h .window .capacity) a,
-        (long-enough (length bs) (1456 * h .window .capacity) b,
-        (λ e. refl, (λ e. refl, (λ e. refl, (λ e. refl, (λ e. refl, (λ e. refl, tt)))))))),
+        (
+          long-enough (length ws) (3 * h .window .capacity) a,
+          (
+            long-enough (length bs) (1456 * h .window .capacity) b,
+            (λ e. refl, (λ e. refl, (λ e. refl, (λ e. refl, (λ e. refl, (λ e. refl, tt)))))),
+          ),
+        ),
       ))
 
   data-capacity : dataCallOf h ws bs now p payload .handled .head .window .capacity ≡ h .window .capacity

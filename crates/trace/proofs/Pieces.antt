@@ -104,8 +104,8 @@ closes-off t a hand pieces last e m =
     let x = turnLeft (endsWith t (long t a hand) (eqb (length hand) 0)) a in (
       wroteIn x,
       by-bool (eqb (length hand) 0)
-      (λ b. ends t a hand pieces last (long t a hand) x (turn-closes t a hand last e m) (rw b))
-      (λ b. fails t a hand pieces last (long t a hand) x (turn-closes t a hand last e m) (rw b)),
+          (λ b. ends t a hand pieces last (long t a hand) x (turn-closes t a hand last e m) (rw b))
+          (λ b. fails t a hand pieces last (long t a hand) x (turn-closes t a hand last e m) (rw b)),
     )
 
 gives-on : (n : ℕ) → EndsWithin n → (t : Trace) (a : Areas) (hand : List ℕ) (pieces : List (List ℕ)) (last : Bool) → toGo hand pieces last < suc n
