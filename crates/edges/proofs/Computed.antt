@@ -46,6 +46,5 @@ use Rattle.trace.specs.Lends.{areasMade}
 use Rattle.edges.specs.Table.{Row, table, be}
 
 pub edges : map (λ (r : Row). outputOf false areasMade (r .file)) table ≡ map (λ (r : Row). r .gives) table
-
 unfolding tallyTally.tallied tallyTally.tallyBytes numbersCircular.distance numbersCircular.equal numbersCircular.after numbersCircular.before numbersCircular.saturating numbersCircular.sum numbersCircular.successor numbersCircular.wrap numbersCircular.signed numbersCircular.difference numbersOrder.order numbersInstants.clamp numbersInstants.intervalOf dltBytes.bigFrom dltBytes.big dltBytes.field dltBytes.timeAt dltHeader.isHeader dltHeader.headerOf dltRecord.leastSize dltRecord.dataOf dltRecord.fieldsOf dltRecord.recordOf textDecimal.digits textDecimal.decimal textDecimal.signedDecimal textPut.put textPut.putOf clockBase.freshBase clockBase.instantOf clockBase.stampOf clockBase.driftOf clockBase.shifted clockBase.moved clockBase.adjusted clockRanges.clockOk clockRelease.released clockRelease.releaseOf clockRoot.root clockSamples.noSamples clockSamples.distanceOf clockSamples.meanWith clockSamples.squaresWith clockSamples.sampled clockSamples.varianceOf clockSamples.deviationOf clockSamples.truncatedOf clockSync.freshClock clockSync.adjustedBy clockSync.judged clockSync.sampleTaken clockSync.synchronized acksHistory.departureAt acksHistory.writeAck acksHistory.freshHistory acksHistory.isRecent acksHistory.noneDue acksHistory.isWorn acksHistory.isExpired acksHistory.firstKept acksHistory.leaving acksHistory.nextAck acksHistory.firstAfter acksHistory.appendOf acksHistory.fullAckOf acksHistory.ack2Of acksHistory.lightAckOf acksHistory.clearedOf acksHistory.historyOk intervalsMedian.insert intervalsMedian.sort intervalsMedian.medianOf numbersInstants.sinceTime intervalsRates.windowOf intervalsRates.freshArrivals intervalsRates.freshLinks intervalsRates.arrivalOf intervalsRates.takeIn intervalsRates.keptOf intervalsRates.rateOf intervalsRates.speedKept intervalsRates.speedOf intervalsRates.pairOf intervalsRates.linkOf intervalsRates.linkRate intervalsRates.capacityOf intervalsRates.allUnder intervalsRates.arrivalsOk intervalsRates.linksOk acksRtt.freshRtt acksRtt.updated acksRtt.rttOk slotsRing.slotOf slotsWords.entryOf slotsWords.entryAt slotsWords.writeAt slotsWords.writeReport windowPush.withLost windowPush.appendNextOf windowPush.appendWithLossOf windowPush.recoveredOf windowPush.recoverOf windowPush.pushOf windowShow.shownOf windowWindow.firstGap windowpopPop.runFrom windowpopPop.messageOf windowpopPop.filled windowpopPop.isLate windowpopPop.walkFrom windowpopPop.dueOf windowpopPop.limitOf windowpopPop.discardFront windowpopPop.discarded windowpopPop.releasedOf windowpopPop.lateOf windowpopPop.frontOf windowpopPop.popOf windowreportDrop.giveUp windowreportDrop.sweep windowreportDrop.endIn windowreportDrop.dropOf windowreportReport.isDue windowreportReport.runPut windowreportReport.slotsTo windowreportReport.runsTo windowreportReport.listTo windowreportReport.reportOf headHead.headOk headHead.freshHead headHead.madeOf headRules.thenOf feedbackAcking.roomyAck feedbackAcking.dueAck feedbackAcking.fullAckCallOf feedbackAcking.heldAck2 feedbackAcking.ack2CallOf receiverData.ackedOf receiverData.ratedOf receiverData.gotOf receiverData.takenOf receiverData.dataCallOf feedbackLoss.reportedOf feedbackLoss.reportCallOf receiverMessage.takenOf receiverMessage.popCallOf upkeepRequest.dropCallOf upkeepRequest.clearedOf upkeepRequest.clearCallOf upkeepRequest.roomCallOf upkeepShow.placeCallOf upkeepShow.shownCallOf feedbackSync.syncOf feedbackSync.clockCallOf shapesShapes.spaced shapesShapes.closed shapesShapes.lineOf linesLines.endBytes linesLines.badBytes traceTrace.linesOf traceTrace.outputOf be
 edges = refl

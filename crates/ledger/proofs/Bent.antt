@@ -17,7 +17,7 @@ use Rattle.receiver.specs.Data as receiving
 use Rattle.receiver.specs.Paper.{dataLine}
 use Rattle.receiver.specs.declared.data.DataAnswer.{DataAnswer}
 use Rattle.receiver.specs.declared.data.DataAnswer.the-variants as datas
-use Rattle.step.specs.Step.{State, stateOf, Lent, Ended, stepOf}
+use Rattle.step.specs.Step.{State, stateOf, Lent, Ended, lineOf, stepOf}
 use Rattle.step.specs.declared.Call.{Call}
 use Rattle.step.specs.declared.Call.the-variants as calls
 use Rattle.step.specs.declared.Answer.{Answer}
@@ -30,10 +30,11 @@ use Rattle.ledger.specs.Claims.{DataAcks, Judges, Later, Refuses, earlyR
 use Rattle.ledger.proofs.Theorem.{ledger-theorem}
 use Rattle.ledger.proofs.RuledOut.{small, small-fresh, packet, small-tests, told, refuses, acks-so, answer-is, must-append, grown, must-be-full}
 
--- the receiver's step with its answer and its state bent
+-- the receiver's step with its answer, and so its line, and its state bent
 abbrev pub bentBy : (Answer → Answer) → (State → State) → State → Lent → Call → Ended
 bentBy f g s t c =
-    record { answer = f (stepOf s t c .answer); line = stepOf s t c .line; state = g (stepOf s t c .state); output = stepOf s t c .output; list = stepOf s t c .list }
+    let r = stepOf s t c in
+    record { answer = f (r .answer); line = lineOf (f (r .answer)) (r .list); state = g (r .state); output = r .output; list = r .list }
 
 abbrev unmoved : State → State
 unmoved s = s

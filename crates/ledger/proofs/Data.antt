@@ -138,7 +138,7 @@ module _ (S : ℕ → List ℕ → Type 0) (l : Ledger) (h : Head) (ws bs : List
       (λ n q x y. still a)
       (λ d q c. still a)
       (λ d x y c. still a)
-      (λ d b. still a)
+      (λ d q b. still a)
       (λ d i n. still a)
       next
       (λ d some room r.

@@ -1,6 +1,6 @@
 -- What each answer says is so: duplicates, lost places, fresh packets, messages and late drops. Assumes nothing.
 use mathlib.Core.Path.{_≡_, refl, ap, sym, _∙_, subst}
-use mathlib.Core.Bool.{Bool, true, false, _||_}
+use mathlib.Core.Bool.{Bool, true, false, _||_, not}
 use mathlib.Core.List.{List, [], _∷_, _++_, map}
 use Prim.Native.Nat.{ℕ, zero, suc, _+_, _-_, _^_, _<_, _≤_}
 use native.Mathlib.Nat.{mod-eq-of-lt}
@@ -9,7 +9,7 @@ use borrow.Author.Tests.{ltb-true}
 use lib.Dec.{ltb}
 use lib.IntN.{ℤ}
 use lib.ListN.{length, getD, set}
-use Rattle.numbers.specs.Circular.{distance, before, after, sum}
+use Rattle.numbers.specs.Circular.{distance, equal, before, after, sum}
 use Rattle.numbers.proofs.Flags.{impossible, and-left}
 use Rattle.numbers.proofs.Circle.{stepped, around, before-not, after-at, sum-sum, distance-sum, distance-self}
 use Rattle.numbers.proofs.Places.{place-distance}
@@ -54,6 +54,17 @@ lost-so : (bs : List ℕ) (s : ℕ) (e : Entry) → words.isLost e ≡ true → 
 lost-so bs s (Lost k f) e = refl
 lost-so bs s (Received n l m t) e = impossible (sym e)
 lost-so bs s GivenUp e = impossible (sym e)
+
+-- what is before is not after
+neither : (x y : Bool) → not (x || y) ≡ true → y ≡ false
+neither true true e = impossible (sym e)
+neither true false e = refl
+neither false true e = impossible (sym e)
+neither false false e = refl
+
+not-both : (w a b : ℕ) → before w a b ≡ true → after w a b ≡ false
+unfolding before
+not-both w a b e = neither (equal w a b) (after w a b) e
 
 module _ (S : ℕ → List ℕ → Type 0) (l : Ledger) (h : Head) (ws bs : List ℕ) (time : ℤ) (p : Packet) (payload : List ℕ) (hs : p .stamp < 2 ^ 32)
     (a : Stands S l (h .window) (entries (h .window) ws bs)) where
@@ -200,8 +211,8 @@ module _ (S : ℕ → List ℕ → Type 0) (l : Ledger) (h : Head) (ws bs : List
         gap = λ z e x. absurd (omega (arith, window-count ws bs a, n, r, x, d .good .ranges .holds));
       }
 
-  late : Admitted h ws bs time p payload → before 31 (p .number) (w .seqno0) ≡ true → Judged (datas.Refused 9)
-  late d b =
+  late : Admitted h ws bs time p payload → before 31 (p .number) (windows.nextOf w) ≡ true → before 31 (p .number) (w .seqno0) ≡ true → Judged (datas.Refused 9)
+  late d q b =
       record {
         inOrder = λ e. impossible (sym e);
         forLost = λ e. impossible (sym e);
@@ -214,7 +225,7 @@ module _ (S : ℕ → List ℕ → Type 0) (l : Ledger) (h : Head) (ws bs : List
         unplaced = λ c m i k e. not-late (d .good) b i (omega (arith, window-count ws bs a)) e;
         duplicate = λ e. absurd (omega arith);
         taken = λ z i k e x. absurd (not-late (d .good) b i (omega (arith, window-count ws bs a)) e);
-        late = λ e. ap (before 31 (p .number)) (sym (a .front)) ∙ b;
+        late = λ e. (ap (before 31 (p .number)) (sym (a .front)) ∙ b, ap (after 31 (p .number)) (sym next-is) ∙ not-both 31 (p .number) (windows.nextOf w) q);
         next = λ z e x. absurd (not-late (d .good) b (w .held) (omega arith) (ap (λ (y : ℕ). numberOf l (frontOf l + y)) (window-count ws bs a) ∙ sym e));
         gap =
             λ z e x.

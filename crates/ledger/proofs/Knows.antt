@@ -5,8 +5,8 @@ use mathlib.Core.Bool.{Bool, true, false, cond}
 use mathlib.Core.List.{List, []}
 use Prim.Native.Nat.{ℕ, _+_, _-_, _*_, _^_, _<_}
 use native.Mathlib.Omega.{arith}
-use borrow.Author.Tests.{ne-eqb}
-use lib.Dec.{eqb}
+use borrow.Author.Tests.{ne-eqb, eqb-false, ltb-true, ltb-false}
+use lib.Dec.{eqb, ltb, lit≤}
 use lib.IntN.{ℤ}
 use lib.ListN.{length}
 use Rattle.numbers.proofs.Flags.{by-bool, by-test}
@@ -34,19 +34,19 @@ use Rattle.window.proofs.Pushes.{length-lost}
 use Rattle.window_pop.specs.Pop.{PopOutcome, discardFront, popOf}
 use Rattle.window_pop.specs.declared.pop.PopAnswer.{PopAnswer}
 use Rattle.window_pop.specs.declared.pop.PopAnswer.the-variants as pops
-use Rattle.window_pop.proofs.PopLaws.{pop-cases}
+use Rattle.window_pop.proofs.PopLaws.{pop-cases, pop-length}
 use Rattle.window_report.specs.Drop.{dropFrom, dropTo, dropOf}
-use Rattle.window_report.specs.Report.{ReportOutcome, reportOf}
+use Rattle.window_report.specs.Report.{ReportOutcome, needed, reportOf}
 use Rattle.window_report.specs.declared.report.ReportAnswer.{ReportAnswer}
 use Rattle.window_report.specs.declared.report.ReportAnswer.the-variants as reports
-use Rattle.window_report.proofs.ReportLaws.{by-outcome, length-slots}
+use Rattle.window_report.proofs.ReportLaws.{by-outcome, length-slots, list-keeps, needed-held}
 use Rattle.window_report.proofs.DropLaws.{sweep-long}
 use Rattle.head.specs.Rules.{firstRefusal, pushRules, popRules, timedRules, dropRules, clockRules}
 use Rattle.head.specs.Head.{headOk}
 use Rattle.head.specs.declared.state.Head.{Head}
 use Rattle.head.specs.Parts.{withLatest}
 use Rattle.feedback.specs.declared.acking.FullAckAnswer.the-variants as answered
-use Rattle.head.proofs.Ready.{push-ready}
+use Rattle.head.proofs.Ready.{push-ready, pop-ready}
 use Rattle.receiver.specs.Data as receiving
 use Rattle.receiver.specs.Data.{DataOutcome, packet, gotAnswer, ackedOf, gotOf, takenOf, dataCallOf}
 use Rattle.receiver.specs.Paper.{dataLine, messageLine}
@@ -58,6 +58,7 @@ use Rattle.feedback.specs.Paper.{lossLine, clockLine, fullAckLine, rttLine}
 use Rattle.feedback.specs.Sync.{ClockOutcome, afterSync, syncOf, clockCallOf}
 use Rattle.upkeep.specs.Request.{DropOutcome, dropCallOf}
 use Rattle.upkeep.specs.Paper.{dropLine}
+use Rattle.paper.proofs.Reach.{refusal-under}
 use Rattle.kept.proofs.Says.{Says, push-says}
 use Rattle.step.specs.Step.{State, Lent, lineOf, stepOf}
 use Rattle.step.specs.declared.Call.{Call}
@@ -66,7 +67,7 @@ use Rattle.step.specs.declared.Answer.{Answer}
 use Rattle.views.specs.View.{entries, LrsnRight}
 use Rattle.ledger.specs.Seen.{NotClear, readingIn, refusalIn}
 use Rattle.ledger.specs.Runs.{Desk, noted, Known}
-use Rattle.ledger.specs.Claims.{DataAcks, FullAcks, Acks}
+use Rattle.ledger.specs.Claims.{Reports, DataAcks, FullAcks, Acks}
 use Rattle.ledger.proofs.Moves.{by-refusal, push-cases, data-moves}
 
 -- the settings that a head has beside its capacity
@@ -101,7 +102,7 @@ module _ (h : Head) (ws bs : List ℕ) where
     pub data-capacity : p .stamp < 2 ^ 32 → LrsnRight w (entries w ws bs) → dataCallOf h ws bs now p payload .handled .head .window .capacity ≡ w .capacity
     data-capacity hs r =
         data-moves h ws bs now p payload hs r (λ v fs x. v .capacity ≡ w .capacity)
-        (λ n t a b. refl) (λ d q c. refl) (λ d a b c. refl) (λ d b. refl) (λ d i n. refl) (λ d light lrsn q z. refl) (λ d a b z. refl) (λ d light lrsn i n z. refl)
+        (λ n t a b. refl) (λ d q c. refl) (λ d a b c. refl) (λ d q b. refl) (λ d i n. refl) (λ d light lrsn q z. refl) (λ d a b z. refl) (λ d light lrsn i n z. refl)
 
     abbrev Long : DataOutcome → Type 0
     Long o = (length (o .slots) ≡ length ws) × (length (o .payloads) ≡ length bs)
@@ -119,7 +120,7 @@ module _ (h : Head) (ws bs : List ℕ) where
         (λ q. (length-write _ _ _, bytes (w .held)))
         (λ q c. (refl, refl))
         (λ q c. (length-write _ _ _ ∙ length-lost (w .capacity) (w .start) ws now (w .held) (distance 31 (p .number) (nextOf w)), bytes (w .held + distance 31 (p .number) (nextOf w))))
-        (λ b. (refl, refl))
+        (λ q b. (refl, refl))
         (λ i n. (length-write _ _ _, bytes (distance 31 (p .number) (w .seqno0))))
         (λ i n. (refl, refl)))
         (λ z. (refl, refl))
@@ -217,6 +218,13 @@ module _ (h : Head) (ws bs : List ℕ) where
         (λ z. let o = popOf (h .clock) (h .latency) (h .dropping) w ws now bs out in answer-settings (o .popped .window) (o .popped .clock) (o .popped .answer))
         (λ z. (refl, refl))
 
+    pub pop-long : length (popCallOf h ws bs out now .output) ≡ length out
+    unfolding popCallOf message.takenOf
+    pop-long =
+        by-refusal (λ (o : MessageOutcome). length (o .output) ≡ length out) popTests _ _
+        (λ z. let r = pop-ready h now ws bs z in pop-length (h .clock) (h .latency) (h .dropping) w ws now bs out (r .good .ranges .starts) (r .payloads))
+        (λ z. refl)
+
     answer-latest : (v : Window) (k : SynchronizedRemoteClock) (a : PopAnswer) → message.headAfter h v k a now .latest ≡ byNumber (messageLine (message.answerOf a) .refusal) now (h .latest)
     answer-latest v k pops.Nothing = refl
     answer-latest v k (pops.Message time bytes packets) = refl
@@ -270,6 +278,35 @@ module _ (h : Head) (ws bs : List ℕ) where
         ))
         (λ z. (refl, (refl, refl), refl, refused-latest reportTests now (h .latest) z))
 
+    pub list-long : length (reportCallOf h ws list now .list) ≡ length list
+    unfolding reportCallOf reportedOf
+    list-long =
+        by-refusal (λ (o : LossOutcome). length (o .list) ≡ length list) reportTests _ _
+        (λ z. list-keeps w ws now (h .rtt .mean) list)
+        (λ z. refl)
+
+    -- its words, and refusal 12
+    abbrev Told : ReportOutcome → Type 0
+    Told x = length (x .list) ≡ length list → Reports (w .held) (answerOf (x .answer)) (x .list)
+
+    report-told : Told (reportOf w ws now (h .rtt .mean) list)
+    unfolding reportOf
+    report-told =
+        let n = needed w ws now (h .rtt .mean) in
+        by-test Told (eqb n 0) _ _
+        (λ t e. tt)
+        (λ t.
+        by-test Told (ltb (length list) n) _ _
+        (λ u e z. omega (arith, ltb-true (length list) n u, needed-held w ws now (h .rtt .mean)))
+        (λ u e. (omega (arith, eqb-false n 0 t), omega (arith, ltb-false (length list) n u, e))))
+
+    pub report-says : Reports (w .held) (reportCallOf h ws list now .reported .answer) (reportCallOf h ws list now .list)
+    unfolding reportCallOf reportedOf
+    report-says =
+        by-refusal (λ (o : LossOutcome). Reports (w .held) (o .reported .answer) (o .list)) reportTests _ _
+        (λ z. report-told (list-keeps w ws now (h .rtt .mean) list))
+        (λ z e. absurd (omega (arith, e, refusal-under 4 0 (timedRules (headOk h) (length ws) (3 * w .capacity) now (h .latest)) (omega arith) (lit≤ tt, (lit≤ tt, (lit≤ tt, (lit≤ tt, tt)))))))
+
   -- a drop request
   pub drop-long : (first last : ℕ) → length (dropCallOf h ws first last .slots) ≡ length ws
   unfolding dropCallOf dropOf
@@ -289,7 +326,7 @@ module _ (h : Head) (b : List ℕ) (now : ℤ) where
       × Settings h (o .acked .head)
       × (length (o .area) ≡ length b)
       × (o .acked .head .latest ≡ byNumber (fullAckLine (o .acked .answer) .refusal) now (h .latest))
-      × FullAcks (o .acked .head .window .lrsn) (o .acked .answer)
+      × FullAcks (o .acked .head .window .lrsn) (roomOf (o .acked .head .window)) (o .acked .answer)
 
   pub full-ack-same : Acked (fullAckCallOf h b now)
   unfolding fullAckCallOf dueAck roomyAck
@@ -308,10 +345,10 @@ module _ (h : Head) (b : List ℕ) (now : ℤ) where
           × Settings h (afterAck h y x now .head)
           × (length area ≡ length b)
           × (afterAck h y x now .head .latest ≡ byNumber (fullAckLine (afterAck h y x now .answer) .refusal) now (h .latest))
-          × FullAcks (afterAck h y x now .head .window .lrsn) (afterAck h y x now .answer)
+          × FullAcks (afterAck h y x now .head .window .lrsn) (roomOf (afterAck h y x now .head .window)) (afterAck h y x now .answer)
       go y acks.Nothing area e = (refl, (refl, refl), e, refl, tt)
       go y acks.Worn area e = (refl, (refl, refl), e, refl, tt)
-      go y (acks.Ack n) area e = (refl, (refl, refl), e, refl, refl)
+      go y (acks.Ack n) area e = (refl, (refl, refl), e, refl, (refl, refl))
 
   abbrev Acked2 : Ack2Outcome → Type 0
   Acked2 o =
@@ -416,7 +453,7 @@ known-after {c = c} {a = a} k q =
       latest = q .latest ∙ ap (λ (z : ℤ). cond (eqb (refusalIn a) 0) (readingIn c z) z) (k .latest);
     }
 
-pub step-acks : (s : State) (t : Lent) (c : Call) → NotClear c → Acks (stepOf s t c .state .head .window .lrsn) (stepOf s t c .answer)
+pub step-acks : (s : State) (t : Lent) (c : Call) → NotClear c → Acks (stepOf s t c .state .head .window .lrsn) (roomOf (stepOf s t c .state .head .window)) (stepOf s t c .answer)
 step-acks s t (calls.Data time number message location stamp) k = data-acks (s .head) (s .slots) (s .payloads) time (packet number message location stamp) (t .payload)
 step-acks s t (calls.Pop time) k = tt
 step-acks s t (calls.Report time) k = tt
@@ -435,3 +472,14 @@ step-line s t (calls.Ack2 time number) = refl
 step-line s t (calls.Drop first last) = refl
 step-line s t (calls.Clock time stamp) = refl
 step-line s t calls.Clear = refl
+
+-- output and list are as long as they were lent
+pub step-lent : (s : State) (t : Lent) (c : Call) → (length (stepOf s t c .output) ≡ length (t .output)) × (length (stepOf s t c .list) ≡ length (t .list))
+step-lent s t (calls.Data time number message location stamp) = (refl, refl)
+step-lent s t (calls.Pop time) = (pop-long (s .head) (s .slots) (s .payloads) (t .output) time, refl)
+step-lent s t (calls.Report time) = (refl, list-long (s .head) (s .slots) (s .payloads) (t .list) time)
+step-lent s t (calls.FullAck time) = (refl, refl)
+step-lent s t (calls.Ack2 time number) = (refl, refl)
+step-lent s t (calls.Drop first last) = (refl, refl)
+step-lent s t (calls.Clock time stamp) = (refl, refl)
+step-lent s t calls.Clear = (refl, refl)

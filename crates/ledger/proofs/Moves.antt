@@ -76,7 +76,7 @@ module _ (w : Window) (ws bs : List ℕ) (time : ℤ) (p : Packet) (payload : Li
       → (order 31 (p .number) (nextOf w) ≡ Equal → P appended)
       → (order 31 (p .number) (nextOf w) ≡ After → roomOf w < gap + 1 → P (push.refused w ws bs time p payload (pushes.PacketTooEarly (roomOf w) (gap + 1))))
       → (order 31 (p .number) (nextOf w) ≡ After → gap + 1 ≤ roomOf w → P appendedWithLoss)
-      → (before 31 (p .number) (w .seqno0) ≡ true → P (push.refused w ws bs time p payload pushes.PacketTooLate))
+      → (order 31 (p .number) (nextOf w) ≡ Before → before 31 (p .number) (w .seqno0) ≡ true → P (push.refused w ws bs time p payload pushes.PacketTooLate))
       → (index < w .held → words.isLost (entryIn w ws index) ≡ true → P (recoveredOf w ws bs time p payload index))
       → (index < w .held → words.isLost (entryIn w ws index) ≡ false → P (push.refused w ws bs time p payload pushes.DiscardedDuplicate))
       → P (pushOf w ws bs time p payload)
@@ -88,7 +88,7 @@ module _ (w : Window) (ws bs : List ℕ) (time : ℤ) (p : Packet) (payload : Li
       go After q = by-test P (ltb (roomOf w) (gap + 1)) _ _ (λ t. early q (ltb-true (roomOf w) (gap + 1) t)) (λ t. loss q (ltb-false (roomOf w) (gap + 1) t))
       go Before q =
           by-test P (before 31 (p .number) (w .seqno0)) _ _
-          late
+          (late q)
           (λ t.
           let h = within 31 (p .number) (w .seqno0) (w .held) (order-before 31 (p .number) (nextOf w) q) t in
           by-test P (words.isLost (entryIn w ws index)) _ _ (recovered h) (duplicate h))
@@ -126,7 +126,7 @@ module _ (h : Head) (ws bs : List ℕ) (now : ℤ) (p : Packet) (payload : List 
       → ((n : ℕ) → n ≡ firstRefusal (pushRules (headOk h) (w .capacity) (length ws) (length bs) now (h .latest) p (length payload)) → 1 ≤ n → n ≤ 6 → P w es (datas.Refused n))
       → (Admitted h ws bs now p payload → p .number ≡ nextOf w → w .held ≡ w .capacity → P w es (datas.Refused 7))
       → (Admitted h ws bs now p payload → 0 < missing → missing < 2 ^ 30 → roomOf w < missing + 1 → P w es (datas.PacketTooEarly (roomOf w) (missing + 1)))
-      → (Admitted h ws bs now p payload → before 31 (p .number) (w .seqno0) ≡ true → P w es (datas.Refused 9))
+      → (Admitted h ws bs now p payload → before 31 (p .number) (nextOf w) ≡ true → before 31 (p .number) (w .seqno0) ≡ true → P w es (datas.Refused 9))
       → (Admitted h ws bs now p payload → at < w .held → words.isLost (entryIn w ws at) ≡ false → P w es (datas.Refused 10))
       → (Admitted h ws bs now p payload → (light : Bool) (lrsn : ℕ) → p .number ≡ nextOf w → LrsnRight (grown w p 1) (es ++ (packetSeen p payload ∷ []))
       → P (grown w p 1) (es ++ (packetSeen p payload ∷ [])) (gotAnswer light lrsn false))
@@ -150,7 +150,7 @@ module _ (h : Head) (ws bs : List ℕ) (now : ℤ) (p : Packet) (payload : List 
       rw s (next d (lit false (grown w p 1) (movedPast (w .lrsn) (p .number))) (movedPast (w .lrsn) (p .number)) (same d q) (subst (LrsnRight (grown w p 1)) s v)))
       (λ q c s v. early d (order-after 31 (p .number) (nextOf w) q .0) (order-after 31 (p .number) (nextOf w) q .1) c)
       (λ q m s v. rw s (loss d (order-after 31 (p .number) (nextOf w) q .0) m (subst (LrsnRight (grown w p (missing + 1))) s v)))
-      (λ b s v. late d b)
+      (λ q b s v. late d (order-before 31 (p .number) (nextOf w) q) b)
       (λ i l s u.
       let v = recoveredLrsn w (p .number) (writeAt ws (slotIn w at) (push.received p payload)) at in
       rw s (recovered d (lit true (withLrsn w v) v) v i l (subst (LrsnRight (withLrsn w v)) s u)))

@@ -1,14 +1,14 @@
 -- Wrong programs that demand 3 rules out: 01, "Each proof's duty". Each theorem speaks of any step that meets it. docs/RULED_OUT.md lists them. Assumes nothing.
 use mathlib.Core.Path.{_≡_, refl, ap, sym, _∙_, subst}
-use mathlib.Core.Bool.{true, false, _||_}
+use mathlib.Core.Bool.{Bool, true, false, _||_}
 use mathlib.Core.List.{List, [], _∷_, map}
 use mathlib.Core.Logic.{_⊎_, inl, inr}
-use Prim.Native.Nat.{ℕ, _+_, _-_, _^_, _<_, _≤_}
+use Prim.Native.Nat.{ℕ, zero, suc, _+_, _-_, _^_, _<_, _≤_}
 use native.Mathlib.Omega.{arith}
 use borrow.Author.Tests.{ltb-true}
 use lib.Dec.{ltb}
 use lib.IntN.{ℤ, pos}
-use lib.ListN.{length, length-append, length-map, length-drop, replicate}
+use lib.ListN.{length, length-append, length-map, length-drop, replicate, getD, take}
 use Rattle.numbers.specs.Circular.{distance, before, after, sum}
 use Rattle.numbers.proofs.Circle.{distance-self, before-not}
 use Rattle.numbers.proofs.Flags.{impossible, and-left, by-bool, by-order}
@@ -20,6 +20,7 @@ use Rattle.head.proofs.Ready.{in-parts}
 use Rattle.receiver.specs.Paper.{dataLine}
 use Rattle.receiver.specs.declared.data.DataAnswer.{DataAnswer}
 use Rattle.receiver.specs.declared.data.DataAnswer.the-variants as datas
+use Rattle.receiver.specs.declared.message.MessageAnswer.{MessageAnswer}
 use Rattle.receiver.specs.declared.message.MessageAnswer.the-variants as messages
 use Rattle.upkeep.specs.declared.request.DropAnswer.the-variants as drops
 use Rattle.step.specs.Step.{State, Lent, Ended}
@@ -27,12 +28,14 @@ use Rattle.step.specs.declared.Call.{Call}
 use Rattle.step.specs.declared.Call.the-variants as calls
 use Rattle.step.specs.declared.Answer.{Answer}
 use Rattle.step.specs.declared.Answer.the-variants as answers
+use Rattle.views.specs.Lists.{runOf}
 use Rattle.views.specs.View.{Seen, entries}
 use Rattle.views.proofs.Lists.{entries-length}
-use Rattle.ledger.specs.Seen.{NotClear, appends, recovers, isLoss, kindIn, refusalIn}
-use Rattle.ledger.specs.Ledger.{Place, received, Ledger, numberOf, frontOf, nextOf, ackOf, lostCount, enterData, enter}
-use Rattle.ledger.specs.Runs.{Event, Book, bookAfter, Fresh, freshDesk, fresh, NoneClear, placeOf}
-use Rattle.ledger.specs.Claims.{DataAcks, Acks, Judges, Later, Refuses, earlyRefusal, Says, Demand3}
+use Rattle.ledger.specs.Seen.{NotClear, appends, recovers, isLoss, kindIn, refusalIn, kindOf}
+use Rattle.ledger.specs.Ledger.{Place, received, Ledger, numberOf, frontOf, nextOf, ackOf, lostCount, enterData, enter, lost, Fate, released, discarded, isReceived, receivedRun, releasedBytes}
+use Rattle.ledger.specs.Runs.{Event, Book, bookAfter, Fresh, freshDesk, fresh, NoneClear, placeOf, handedOut, Sent}
+use Rattle.ledger.specs.Runs as runs
+use Rattle.ledger.specs.Claims.{DataAcks, Acks, Judges, Later, Refuses, earlyRefusal, Says, Demand3, Tells, frontBytes}
 
 abbrev sight : State → List Seen
 sight s = entries (s .head .window) (s .slots) (s .payloads)
@@ -57,6 +60,36 @@ one-more l number bytes (datas.Light lrsn false) e = length-append (l .held) (re
 one-more l number bytes (datas.Loss a b) e = impossible (sym e)
 one-more l number bytes (datas.Refused n) e = impossible (sym e)
 one-more l number bytes (datas.PacketTooEarly room need) e = impossible (sym e)
+
+-- of the received places in front: each is received, and there are no more than are held
+run-received : (xs : List Place) (i : ℕ) → i < receivedRun xs → isReceived (getD xs i lost) ≡ true
+unfolding runOf
+run-received [] i h = absurd (omega arith)
+run-received (x ∷ xs) zero h = by-bool (isReceived x) (λ t. t) (λ t. absurd (let k = rw t at h in omega arith))
+run-received (x ∷ xs) (suc i) h =
+    by-bool (isReceived x)
+    (λ t. run-received xs i (let k = rw t at h in omega arith))
+    (λ t. absurd (let k = rw t at h in omega arith))
+
+run-within : (xs : List Place) → receivedRun xs ≤ length xs
+unfolding runOf
+run-within [] = omega arith
+run-within (x ∷ xs) = by-bool (isReceived x) (λ t. rw t (let k = run-within xs in omega arith)) (λ t. rw t (omega arith))
+
+-- no packet among these calls
+abbrev pub NoData : List Event → Type 0
+NoData [] = Unit
+NoData (e ∷ past) = (kindOf (e .call) ≡ 1 → ⊥) × NoData past
+
+none-sent : (past : List Event) (number : ℕ) (bytes : List ℕ) → NoData past → Sent past number bytes → ⊥
+none-sent _ _ _ d (runs.now time number message location stamp t past) = d .0 refl
+none-sent _ _ _ d (runs.before e past number bytes h) = none-sent past number bytes (d .1) h
+
+none-released : (fs : List Fate) → ((i : ℕ) (bytes : List ℕ) → getD fs i discarded ≡ released bytes → ⊥) → releasedBytes fs ≡ []
+unfolding releasedBytes
+none-released [] h = refl
+none-released (released bytes ∷ fs) h = absurd (h 0 bytes refl)
+none-released (discarded ∷ fs) h = none-released fs (λ i bytes e. h (suc i) bytes e)
 
 -- what is held fits the capacity that the station knows
 fits : (step : State → Lent → Call → Ended) → Demand3 step → (first : ℕ) (s : State) (f : Fresh first s) (past : List Event) → NoneClear past
@@ -100,13 +133,13 @@ module _ (step : State → Lent → Call → Ended) (demand : Demand3 step) (fir
     earlier = earlyRefusal (b .desk) t c
 
     pub told : (x : DataAnswer) → r t c .answer ≡ answers.Data x → Judges l (b .desk .capacity) earlier number x
-    told x q = subst (λ (a : Answer). Says l (b .desk) t c a (r t c .output)) q (demand first s f past p .told (event c t) k .says)
+    told x q = subst (λ (a : Answer). Says l (b .desk) t c a (r t c .output) (r t c .list)) q (demand first s f past p .told (event c t) k .says)
 
     pub refuses : (x : DataAnswer) → r t c .answer ≡ answers.Data x → Refuses earlier c (answers.Data x)
     refuses x q = subst (λ (a : Answer). Refuses earlier c a) q (demand first s f past p .told (event c t) k .refuses)
 
     pub acks-so : (x : DataAnswer) → r t c .answer ≡ answers.Data x → DataAcks (ackOf (enterData l number (t .payload) x)) x
-    acks-so x q = subst (λ (a : Answer). Acks (ackOf (enter l c (t .payload) a)) a) q (demand first s f past p .told (event c t) k .acks)
+    acks-so x q = subst (λ (a : Answer). Acks (ackOf (enter l c (t .payload) a)) (b .desk .capacity - length (enter l c (t .payload) a .held)) a) q (demand first s f past p .told (event c t) k .acks)
 
     pub answer-is : (x : DataAnswer) × (r t c .answer ≡ answers.Data x)
     answer-is = data-only (r t c .answer) (demand first s f past p .told (event c t) k .kind)
@@ -192,7 +225,7 @@ module _ (step : State → Lent → Call → Ended) (demand : Demand3 step) (fir
           absurd
           (by-order y 9
           (λ i. not-after e (says-so .early (omega arith) .0))
-          (λ i. by-order y 10 (λ j. not-before e (says-so .late (omega arith))) (λ j. no-duplicate e x (answer-is .1) (omega arith)))))
+          (λ i. by-order y 10 (λ j. not-before e (says-so .late (omega arith) .0)) (λ j. no-duplicate e x (answer-is .1) (omega arith)))))
 
       pub must-be-full : dataLine (answer-is .0) .refusal ≡ 7
       must-be-full = go (refuses x (answer-is .1) .tested)
@@ -222,16 +255,39 @@ module _ (step : State → Lent → Call → Ended) (demand : Demand3 step) (fir
       → lostCount (map placeOf (sight (b .state))) ≡ lostCount (map placeOf (sight (r t (calls.Drop from last) .state))) + n
   drop-count from last t n q =
       let c = calls.Drop from last in
-      let u = subst (λ (a : Answer). Says l (b .desk) t c a (r t c .output)) q (demand first s f past p .told (event c t) tt .says) in
+      let u = subst (λ (a : Answer). Says l (b .desk) t c a (r t c .output) (r t c .list)) q (demand first s f past p .told (event c t) tt .says) in
       let v = held-then c t tt ∙ ap (λ (a : Answer). enter l c (t .payload) a .held) q in
       ap lostCount (demand first s f past p .holds .agrees .entries) ∙ u ∙ ap (λ (x : List Place). lostCount x + n) (sym v)
 
--- got every time: the first packet of a run is taken in order only if it has the first number
-pub got-in-order : (step : State → Lent → Call → Ended) → Demand3 step → (first : ℕ) (s : State) → Fresh first s → (time : ℤ) (number message location stamp : ℕ) (t : Lent) → stamp < 2 ^ 32
-    → (lrsn : ℕ) → step s t (calls.Data time number message location stamp) .answer ≡ answers.Data (datas.Got lrsn false) → number ≡ sum 31 first 0
-unfolding bookAfter
-got-in-order step demand first s f time number message location stamp t k lrsn q =
-    told step demand first s f [] tt time number message location stamp t k (datas.Got lrsn false) q .inOrder refl
+  -- what a pop answers
+  pop-told : (time : ℤ) (t : Lent) (a : MessageAnswer) → r t (calls.Pop time) .answer ≡ answers.Pop a → Tells l (b .desk) a (r t (calls.Pop time) .output)
+  pop-told time t a q =
+      let c = calls.Pop time in
+      subst (λ (x : Answer). Says l (b .desk) t c x (r t c .output) (r t c .list)) q (demand first s f past p .told (event c t) tt .says)
+
+  -- a message is the bytes of the places in front, none of which is a hole, and those places leave: so a program that hands out other bytes is ruled out, one
+  -- that releases over a place that is lost, and one that leaves the front where it was and releases it again
+  pub own-bytes : (time : ℤ) (t : Lent) (at : ℤ) (bytes packets : ℕ) → r t (calls.Pop time) .answer ≡ answers.Pop (messages.Message at bytes packets)
+      → take bytes (r t (calls.Pop time) .output) ≡ frontBytes l packets
+  own-bytes time t at bytes packets q = pop-told time t (messages.Message at bytes packets) q .2
+
+  pub no-hole : (time : ℤ) (t : Lent) (at : ℤ) (bytes packets : ℕ) → r t (calls.Pop time) .answer ≡ answers.Pop (messages.Message at bytes packets)
+      → (i : ℕ) → i < packets → isReceived (getD (l .held) i lost) ≡ true
+  no-hole time t at bytes packets q i h = run-received (l .held) i (omega (arith, h, pop-told time t (messages.Message at bytes packets) q .1))
+
+  pub released-once : (time : ℤ) (t : Lent) (at : ℤ) (bytes packets : ℕ) → r t (calls.Pop time) .answer ≡ answers.Pop (messages.Message at bytes packets)
+      → r t (calls.Pop time) .state ≡ b .state → ⊥
+  released-once time t at bytes packets q e =
+      let u = pop-told time t (messages.Message at bytes packets) q in
+      let n = message-count time t at bytes packets q in
+      let m = ap (λ (x : State). length (sight x)) e in
+      omega (arith, u .0, u .1, run-within (l .held), held-now)
+
+  -- what was never handed in is never handed out
+  pub never-sent : NoData past → handedOut step (fresh f) past ≡ []
+  never-sent d =
+      let h = demand first s f past p .holds in
+      h .handed ∙ none-released (bookAfter step (fresh f) past .ledger .gone) (λ i bytes e. none-sent past _ bytes d (h .own i bytes e))
 
 -- a receiver of one slot, fresh, and a packet that no test of 1 to 6 refuses: so these theorems speak of something
 abbrev pub small : State
@@ -254,10 +310,29 @@ unfolding small-fresh bookAfter sum
 doing-nothing step demand still =
     idle step demand 0 small small-fresh [] tt (pos 0) 0 0 3 0 packet (omega arith) refl small-tests (omega arith) (still small packet (calls.Data (pos 0) 0 0 3 0))
 
--- refusing all, by whatever number
-pub refusing-all : (step : State → Lent → Call → Ended) → Demand3 step → (n : ℕ)
-    → ((s : State) (t : Lent) (time : ℤ) (number message location stamp : ℕ) → step s t (calls.Data time number message location stamp) .answer ≡ answers.Data (datas.Refused n)) → ⊥
+-- refusing all, by whatever numbers: no packet is ever taken
+pub refusing-all : (step : State → Lent → Call → Ended) → Demand3 step
+    → ((s : State) (t : Lent) (time : ℤ) (number message location stamp : ℕ) (a : DataAnswer) → step s t (calls.Data time number message location stamp) .answer ≡ answers.Data a
+    → (appends a || recovers a || isLoss a) ≡ false) → ⊥
 unfolding small-fresh bookAfter sum
-refusing-all step demand n all =
-    let u = told step demand 0 small small-fresh [] tt (pos 0) 0 0 3 0 packet (omega arith) (datas.Refused n) (all small packet (pos 0) 0 0 3 0) in
-    impossible (sym (u .next small-tests refl (omega arith)))
+refusing-all step demand none =
+    let x = answer-is step demand 0 small small-fresh [] tt (pos 0) 0 0 3 0 packet (omega arith) in
+    let m = must-append step demand 0 small small-fresh [] tt (pos 0) 0 0 3 0 packet (omega arith) refl small-tests (omega arith) in
+    impossible (sym (ap (λ (y : Bool). y || recovers (x .0) || isLoss (x .0)) m) ∙ none small packet (pos 0) 0 0 3 0 (x .0) (x .1))
+
+-- got every time: every packet is said to be taken in order, or for a lost place; the one just before the first number is neither
+pub got-every-time : (step : State → Lent → Call → Ended) → Demand3 step
+    → ((s : State) (t : Lent) (time : ℤ) (number message location stamp : ℕ) (a : DataAnswer) → step s t (calls.Data time number message location stamp) .answer ≡ answers.Data a
+    → (appends a || recovers a) ≡ true) → ⊥
+unfolding small-fresh bookAfter sum
+got-every-time step demand all =
+    let x = answer-is step demand 0 small small-fresh [] tt (pos 0) 2147483647 0 3 0 packet (omega arith) in
+    let j = told step demand 0 small small-fresh [] tt (pos 0) 2147483647 0 3 0 packet (omega arith) (x .0) (x .1) in
+    by-bool (appends (x .0))
+    (λ u. let z = j .inOrder u in omega arith)
+    (λ u.
+    by-bool (recovers (x .0))
+    (λ v. let z = j .forLost v .1 in omega arith)
+    (λ v.
+    let z : (appends (x .0) || recovers (x .0)) ≡ false = rw (u, v) in
+    impossible (sym (all small packet (pos 0) 2147483647 0 3 0 (x .0) (x .1)) ∙ z)))

@@ -2,12 +2,13 @@
 use mathlib.Core.Path.{_≡_, refl, ap, sym, _∙_}
 use mathlib.Core.Bool.{Bool, true, false, _&&_}
 use mathlib.Core.List.{List, [], _∷_, map}
-use Prim.Native.Nat.{ℕ, zero, suc, _+_, _^_, _<_}
+use Prim.Native.Nat.{ℕ, zero, suc, _+_, _*_, _^_, _<_, _≤_}
 use native.Mathlib.Nat.{mod-eq-of-lt}
 use native.Mathlib.Omega.{arith}
-use borrow.Author.Tests.{ltb-true, lt-ltb, leb-false, eqb-true, eqb-false}
+use borrow.Author.Tests.{ltb-true, ltb-false, lt-ltb, leb-false, eqb-true, eqb-false}
 use lib.Dec.{eqb, ltb, lit<}
-use lib.ListN.{length, take, drop, getD}
+use lib.ListN.{length, take, drop, getD, length-drop}
+use lib.Seq.{length-take-le}
 use Rattle.numbers.specs.Circular.{distance, sum}
 use Rattle.numbers.proofs.Flags.{impossible, and-left, and-right, by-bool, by-test}
 use Rattle.numbers.proofs.Circle.{stepped, distance-sum}
@@ -15,8 +16,9 @@ use Rattle.slots.specs.Words as words
 use Rattle.slots.specs.Ring.{payloadAt, payloadStart}
 use Rattle.slots.specs.declared.entry.Entry.{Entry}
 use Rattle.slots.specs.declared.entry.Entry.the-variants.{Lost, Received, GivenUp}
+use Rattle.slots.proofs.Laws.{length-read, slot-lt}
 use Rattle.window.specs.Window.{slotIn, entryIn}
-use Rattle.window.specs.Ready.{InWindow}
+use Rattle.window.specs.Ready.{InWindow, Bytes}
 use Rattle.window.specs.Show.{nowhere, shownOf}
 use Rattle.window.specs.declared.Window.{Window}
 use Rattle.window.specs.declared.show.Part.{Part}
@@ -54,7 +56,7 @@ place-received bs s GivenUp bytes t = absurd (let z : _≡_ {A = ℕ} 0 1 = cc i
 same-bytes : {xs ys : List ℕ} → received xs ≡ received ys → xs ≡ ys
 same-bytes e = cc
 
-module _ (S : ℕ → List ℕ → Type 0) (l : Ledger) (w : Window) (ws bs : List ℕ) (a : Stands S l w (entries w ws bs)) (r : InWindow w) (number : ℕ) (n : number < 2 ^ 31) where
+module _ (S : ℕ → List ℕ → Type 0) (l : Ledger) (w : Window) (ws bs : List ℕ) (a : Stands S l w (entries w ws bs)) (r : InWindow w) (gb : Bytes w bs) (number : ℕ) (n : number < 2 ^ 31) where
   abbrev at : ℕ
   at = distance 31 number (w .seqno0)
 
@@ -79,7 +81,18 @@ module _ (S : ℕ → List ℕ → Type 0) (l : Ledger) (w : Window) (ws bs : Li
   abbrev ShownIn : Part → Type 0
   ShownIn p =
       (i : ℕ) (bytes : List ℕ) → i < length (l .held) → numberOf l (frontOf l + i) ≡ number → getD (l .held) i lost ≡ received bytes
-      → (p .received ≡ true) × (take (p .len) (drop (p .at) bs) ≡ bytes)
+      → (p .received ≡ true) × (take (p .len) (drop (p .at) bs) ≡ bytes) × (p .len ≡ length bytes)
+
+  abbrev Inside : Part → Type 0
+  Inside p = p .received ≡ true → p .at + p .len ≤ length bs
+
+  fits : payloadStart (slotIn w at) + words.lengthIn (entryIn w ws at) ≤ length bs
+  fits = omega (arith, length-read ws (slotIn w at), slot-lt (w .capacity) (w .start) at (r .some))
+
+  whole : length (take (words.lengthIn (entryIn w ws at)) (drop (payloadStart (slotIn w at)) bs)) ≡ words.lengthIn (entryIn w ws at)
+  whole =
+      let m : words.lengthIn (entryIn w ws at) ≤ length (drop (payloadStart (slotIn w at)) bs) = rw length-drop (omega (arith, fits)) in
+      length-take-le (words.lengthIn (entryIn w ws at)) (drop (payloadStart (slotIn w at)) bs) m
 
   abbrev Blank : Part → Type 0
   Blank p = p .received ≡ false → p .len ≡ 0
@@ -106,7 +119,9 @@ module _ (S : ℕ → List ℕ → Type 0) (l : Ledger) (w : Window) (ws bs : Li
       let h = ltb-true at (w .held) (and-left (ltb at (w .held)) (words.isReceived (entryIn w ws at)) t) in
       let u = and-right (ltb at (w .held)) (words.isReceived (entryIn w ws at)) t in
       let p = place-is at h ∙ received-place bs (slotIn w at) (entryIn w ws at) u in
-      λ i bytes k e q. (refl, same-bytes (sym p ∙ ap (λ (x : ℕ). getD (l .held) x lost) (index-is i (omega (arith, window-count ws bs a)) e) ∙ q)))
+      λ i bytes k e q.
+      let y = same-bytes (sym p ∙ ap (λ (x : ℕ). getD (l .held) x lost) (index-is i (omega (arith, window-count ws bs a)) e) ∙ q) in
+      (refl, y, sym whole ∙ ap length y))
       (λ t i bytes k e q.
       let h : i < w .held = omega (arith, window-count ws bs a) in
       let y = index-is i h e in
@@ -115,6 +130,13 @@ module _ (S : ℕ → List ℕ → Type 0) (l : Ledger) (w : Window) (ws bs : Li
       let g : words.isReceived (entryIn w ws at) ≡ true = ap (λ (x : ℕ). words.isReceived (entryIn w ws x)) y ∙ v in
       let c : test ≡ true = rw (f, g) in
       impossible (sym c ∙ t))
+
+  inside-so : Inside (shownOf w ws number)
+  unfolding shownOf
+  inside-so =
+      by-test Inside test (record { received = true; at = payloadStart (slotIn w at); len = words.lengthIn (entryIn w ws at) }) nowhere
+      (λ t e. fits)
+      (λ t e. impossible (sym e))
 
   empty-so : Blank (shownOf w ws number)
   unfolding shownOf
@@ -134,6 +156,11 @@ module _ (S : ℕ → List ℕ → Type 0) (l : Ledger) (h : Head) (ws bs : List
       leb-false (2 ^ 31) number
       (clear (showRules (headOk h) (h .window .capacity) (length ws) (length bs) number) (lit< tt, (lit< tt, (lit< tt, (lit< tt, tt)))) z .1 .1 .1 .0)
 
+  long-enough : tests ≡ 0 → Bytes (h .window) bs
+  long-enough z =
+      ltb-false (length bs) (1456 * h .window .capacity)
+      (clear (showRules (headOk h) (h .window .capacity) (length ws) (length bs) number) (lit< tt, (lit< tt, (lit< tt, (lit< tt, tt)))) z .1 .1 .0)
+
   abbrev Right : Part → ShowAnswer → Type 0
   Right p x = Shows l tests number bs p x
 
@@ -144,18 +171,21 @@ module _ (S : ℕ → List ℕ → Type 0) (l : Ledger) (h : Head) (ws bs : List
       (λ t.
       let z = eqb-true tests 0 t in
       let n = in-number z in
+      let g = long-enough z in
       let r = in-window (h .window) (in-parts h ok .window) in
       rw t
       (record {
-        found = found-so S l (h .window) ws bs a r number n;
-        shown = λ e. shown-so S l (h .window) ws bs a r number n;
-        empty = empty-so S l (h .window) ws bs a r number n;
+        found = found-so S l (h .window) ws bs a r g number n;
+        inside = inside-so S l (h .window) ws bs a r g number n;
+        shown = λ e. shown-so S l (h .window) ws bs a r g number n;
+        empty = empty-so S l (h .window) ws bs a r g number n;
         answer = rw t;
       }))
       (λ t.
       rw t
       (record {
         found = λ e. impossible (sym e);
+        inside = λ e. impossible (sym e);
         shown = λ e. absurd (eqb-false tests 0 t e);
         empty = λ e. refl;
         answer = rw t;

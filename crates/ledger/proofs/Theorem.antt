@@ -2,7 +2,7 @@
 use mathlib.Core.Path.{_≡_, refl, ap, sym, _∙_, subst}
 use mathlib.Core.Bool.{Bool, true}
 use mathlib.Core.List.{List, [], _∷_, _++_, map}
-use Prim.Native.Nat.{ℕ, _+_, _^_, _<_}
+use Prim.Native.Nat.{ℕ, _+_, _-_, _^_, _<_}
 use native.Mathlib.Omega.{arith}
 use borrow.Author.Tests.{leb-false}
 use lib.Dec.{lit<}
@@ -17,11 +17,13 @@ use Rattle.head.specs.declared.state.Head.{Head}
 use Rattle.head.specs.declared.state.Made.{Made}
 use Rattle.head.proofs.Gates.{clear}
 use Rattle.head.proofs.Ready.{in-parts}
+use Rattle.window.specs.Window.{roomOf}
 use Rattle.window.proofs.Ranges.{in-window}
 use Rattle.receiver.specs.Data.{packet, dataCallOf}
 use Rattle.receiver.specs.Paper.{dataLine}
 use Rattle.receiver.specs.declared.data.DataAnswer.{DataAnswer}
 use Rattle.window.specs.declared.show.Part.{Part}
+use Rattle.feedback.specs.Loss.{reportCallOf}
 use Rattle.upkeep.specs.Request.{ClearOutcome, clearedOf, clearCallOf}
 use Rattle.upkeep.specs.Show.{refusalOf, placeCallOf, shownCallOf}
 use Rattle.upkeep.specs.declared.show.ShowAnswer.{ShowAnswer}
@@ -36,15 +38,15 @@ use Rattle.views.specs.Lists.{runOf}
 use Rattle.views.specs.View.{Seen, entriesFrom, entries, gapIn}
 use Rattle.ledger.specs.Runs.{placeOf}
 use Rattle.views.proofs.Lists.{entries-length}
-use Rattle.ledger.specs.Ledger.{Place, receivedRun, Ledger, opened, numberOf, frontOf, nextOf, enter, releasedBytes}
+use Rattle.ledger.specs.Ledger.{ackOf, Place, receivedRun, Ledger, opened, numberOf, frontOf, nextOf, enter, releasedBytes}
 use Rattle.ledger.specs.Seen.{NotClear, outBytes, kindOf, kindIn}
 use Rattle.ledger.specs.Runs.{Event, Desk, Known, Book, opening, answered, turned, bookAfter, Fresh, freshDesk, fresh, NoneClear, handedOut, Sent, now, before, Empty}
-use Rattle.ledger.specs.Claims.{Holds, Judges, earlyRefusal, Acks, Says, Told, Demand3, Stretch, showRefusal, Shows, DemandShown}
+use Rattle.ledger.specs.Claims.{Holds, Judges, Reports, earlyRefusal, Acks, Says, Told, Demand3, Stretch, showRefusal, Shows, DemandShown}
 use Rattle.ledger.proofs.Owned.{nothing, empty}
 use Rattle.ledger.proofs.Moved.{Stands, Moved, held-count, window-count, lrsn-said}
 use Rattle.ledger.proofs.Moves.{by-refusal}
 use Rattle.ledger.proofs.Data.{data-stands}
-use Rattle.ledger.proofs.Knows.{step-same, known-after, step-acks, step-line}
+use Rattle.ledger.proofs.Knows.{step-same, known-after, step-acks, step-line, step-lent, report-says}
 use Rattle.ledger.proofs.Refusals.{refusalNow, known-refusal, station-refuses}
 use Rattle.ledger.proofs.Shown.{shows}
 use Rattle.ledger.proofs.Pop.{pop-stands, pop-tells}
@@ -92,7 +94,7 @@ step-kind s t calls.Clear = refl
 
 -- what its answer says is so
 step-says : (S : ℕ → List ℕ → Type 0) (l : Ledger) (d : Desk) (s : State) (t : Lent) (c : Call) → NotClear c → Stands S l (s .head .window) (seen s) → Known d s → headOk (s .head) ≡ true
-    → Says l d t c (stepOf s t c .answer) (stepOf s t c .output)
+    → Says l d t c (stepOf s t c .answer) (stepOf s t c .output) (stepOf s t c .list)
 step-says S l d s t (calls.Data time number message location stamp) p a k o =
     let x = dataCallOf (s .head) (s .slots) (s .payloads) time (packet number message location stamp) (t .payload) .handled .answer in
     let c = calls.Data time number message location stamp in
@@ -100,12 +102,22 @@ step-says S l d s t (calls.Data time number message location stamp) p a k o =
     (subst (λ (n : ℕ). Judges l n (refusalNow s t c) number x) (k .capacity)
     (data-judged S l (s .head) (s .slots) (s .payloads) time (packet number message location stamp) (t .payload) p a))
 step-says S l d s t (calls.Pop time) p a k o = pop-tells S l (s .head) (s .slots) (s .payloads) (t .output) time a d (k .dropping)
-step-says S l d s t (calls.Report time) p a k o = tt
+step-says S l d s t (calls.Report time) p a k o =
+    subst (λ (n : ℕ). Reports n (reportCallOf (s .head) (s .slots) (t .list) time .reported .answer) (reportCallOf (s .head) (s .slots) (t .list) time .list)) (window-count (s .slots) (s .payloads) a)
+    (report-says (s .head) (s .slots) (s .payloads) (t .list) time)
 step-says S l d s t (calls.FullAck time) p a k o = tt
 step-says S l d s t (calls.Ack2 time number) p a k o = tt
 step-says S l d s t (calls.Drop first last) p a k o = drop-counted S l (s .head) (s .slots) (s .payloads) a first last
 step-says S l d s t (calls.Clock time stamp) p a k o = tt
 step-says S l d s t calls.Clear p a k o = absurd p
+
+-- what an answer acknowledges, and its room, as the ledger has them
+acks-said : {S : ℕ → List ℕ → Type 0} {l : Ledger} {d : Desk} {s : State} (x : Answer) → Stands S l (s .head .window) (seen s) → Known d s
+    → Acks (s .head .window .lrsn) (roomOf (s .head .window)) x → Acks (ackOf l) (d .capacity - length (l .held)) x
+acks-said {l = l} {d = d} {s = s} x a k q =
+    let room : roomOf (s .head .window) ≡ d .capacity - length (l .held) =
+    ap (λ (y : ℕ). y - s .head .window .held) (k .capacity) ∙ ap (λ (y : ℕ). d .capacity - y) (window-count (s .slots) (s .payloads) a) in
+    subst (λ (y : ℕ). Acks y (d .capacity - length (l .held)) x) (lrsn-said a) (subst (λ (y : ℕ). Acks (s .head .window .lrsn) y x) room q)
 
 -- a head in range stays there
 step-kept : (s : State) (t : Lent) (c : Call) → NotClear c → headOk (s .head) ≡ true → headOk (stepOf s t c .state .head) ≡ true
@@ -281,12 +293,13 @@ module _ (first : ℕ) (d : Desk) (s : State) (f : Empty first s) (g : Known d s
       record {
         kind = step-kind (at past .state) (e .lent) (e .call);
         line = step-line (at past .state) (e .lent) (e .call);
-        acks = subst (λ (x : ℕ). Acks x (then e past .answer)) (lrsn-said (one-more e past q (run-stands past p) .stands)) (step-acks (at past .state) (e .lent) (e .call) q);
+        lent = step-lent (at past .state) (e .lent) (e .call);
+        acks = acks-said (then e past .answer) (one-more e past q (run-stands past p) .stands) (known-after (run-known past p) (step-same (at past .state) (e .lent) (e .call) q (run-stands past p .right))) (step-acks (at past .state) (e .lent) (e .call) q);
         refuses = station-refuses (at past .state) (e .lent) (e .call) q (run-known past p) (run-kept past p);
         says = step-says (Sent past) (at past .ledger) (at past .desk) (at past .state) (e .lent) (e .call) q (run-stands past p) (run-known past p) (run-kept past p);
       }
 
-  run-shows : (past : List Event) → NoneClear past → (number : ℕ)
+  pub run-shows : (past : List Event) → NoneClear past → (number : ℕ)
       → Shows (at past .ledger) (showRefusal (at past .desk) number) number (at past .state .payloads) (placeNow (at past .state) number) (questionNow (at past .state) number)
   run-shows past p number =
       let s₁ = at past .state in
@@ -322,7 +335,7 @@ fresh-never-duplicate first s f past p time number message location stamp t k e 
     let h = ledger-theorem first s f past p .holds in
     let u = ledger-theorem first s f past p .told (record { call = c; lent = t }) k .says in
     let v : Judges (b .ledger) (b .desk .capacity) (earlyRefusal (b .desk) t c) number a =
-    subst (λ (y : Answer). Says (b .ledger) (b .desk) t c y (stepOf (b .state) t c .output)) x u in
+    subst (λ (y : Answer). Says (b .ledger) (b .desk) t c y (stepOf (b .state) t c .output) (stepOf (b .state) t c .list)) x u in
     let d = v .duplicate q in
     let w = b .state .head .window in
     let r = in-window w (in-parts (b .state .head) (h .inRange) .window) in

@@ -19,6 +19,8 @@ use Rattle.receiver.specs.declared.data.DataAnswer.{DataAnswer}
 use Rattle.receiver.specs.declared.data.DataAnswer.the-variants as datas
 use Rattle.feedback.specs.declared.acking.FullAckAnswer.{FullAckAnswer}
 use Rattle.feedback.specs.declared.acking.FullAckAnswer.the-variants as acks
+use Rattle.feedback.specs.declared.loss.LossAnswer.{LossAnswer}
+use Rattle.feedback.specs.declared.loss.LossAnswer.the-variants as losses
 use Rattle.receiver.specs.declared.message.MessageAnswer.{MessageAnswer}
 use Rattle.receiver.specs.declared.message.MessageAnswer.the-variants as messages
 use Rattle.upkeep.specs.declared.request.DropAnswer.{DropAnswer}
@@ -68,8 +70,8 @@ pub record Judges (l : Ledger) (capacity earlier number : ℕ) (a : DataAnswer) 
   pub full : dataLine a .refusal ≡ 7 → (number ≡ numberOf l (nextOf l)) × (length (l .held) ≡ capacity)
   pub early : dataLine a .refusal ≡ 8 → (after 31 number (numberOf l (nextOf l)) ≡ true) × (capacity < length (l .held) + distance 31 number (numberOf l (nextOf l)) + 1)
   pub room : EarlyIs a (capacity - length (l .held)) (distance 31 number (numberOf l (nextOf l)) + 1)
-  -- 9: it is before the front; 7, 8 and 9: it has no held place
-  pub late : dataLine a .refusal ≡ 9 → before 31 number (numberOf l (frontOf l)) ≡ true
+  -- 9: it is before the front, and not after the next expected, which is tested before; 7, 8 and 9: it has no held place
+  pub late : dataLine a .refusal ≡ 9 → (before 31 number (numberOf l (frontOf l)) ≡ true) × (after 31 number (numberOf l (nextOf l)) ≡ false)
   pub unplaced : 7 ≤ dataLine a .refusal → dataLine a .refusal ≤ 9 → (i : ℕ) → i < length (l .held) → numberOf l (frontOf l + i) ≡ number → ⊥
   -- 10, a duplicate: its held place is received or given up
   pub duplicate : dataLine a .refusal ≡ 10 → (i : ℕ) × (i < length (l .held)) × (numberOf l (frontOf l + i) ≡ number) × (getD (l .held) i lost ≡ lost → ⊥)
@@ -96,6 +98,12 @@ Tells l d (messages.Refused n) out = n ≡ 11 → (packets : ℕ) × (0 < packet
 abbrev pub Counts : Ledger → ℕ → ℕ → DropAnswer → Type 0
 Counts l first last (drops.Gone n) = lostCount (l .held) ≡ lostCount (enterDrop l first last (drops.Gone n) .held) + n
 Counts l first last (drops.Refused n) = Unit
+
+-- a loss report has words, as many as the list has room for at most; 12 comes only if the list that was lent has less than a word for each held place
+abbrev pub Reports : (held : ℕ) → LossAnswer → (list : List ℕ) → Type 0
+Reports held losses.Nothing list = Unit
+Reports held (losses.Report words) list = (0 < words) × (words ≤ length list)
+Reports held (losses.Refused n) list = n ≡ 12 → length list < held
 
 -- the first of the refusals 1 to 6 whose test holds for a call, else 0: ok says that the head is in range; the other arguments are capacity, the lengths of
 -- the areas, and the latest reading
@@ -131,18 +139,18 @@ pub record Refuses (earlier : ℕ) (c : Call) (a : Answer) : Type 0 where
   pub tested : (refusalIn a ≡ earlier) ⊎ ((earlier ≡ 0) × Later c (refusalIn a))
   pub numbered : lineOf a [] .word ≡ paper.refused → 0 < refusalIn a
 
--- what an answer says is so
-abbrev pub Says : Ledger → Desk → Lent → Call → Answer → (output : List ℕ) → Type 0
-Says l d t c (answers.Data a) out = Judges l (d .capacity) (earlyRefusal d t c) (numberIn c) a
-Says l d t c (answers.Pop a) out = Tells l d a out
-Says l d t c (answers.Report a) out = Unit
-Says l d t c (answers.FullAck a) out = Unit
-Says l d t c (answers.Ack2 a) out = Unit
-Says l d t c (answers.Drop a) out = Counts l (numberIn c) (lastIn c) a
-Says l d t c (answers.Clock a) out = Unit
-Says l d t c (answers.Clear a) out = Unit
+-- what an answer says is so, with the output and the list as they are after it
+abbrev pub Says : Ledger → Desk → Lent → Call → Answer → (output list : List ℕ) → Type 0
+Says l d t c (answers.Data a) out list = Judges l (d .capacity) (earlyRefusal d t c) (numberIn c) a
+Says l d t c (answers.Pop a) out list = Tells l d a out
+Says l d t c (answers.Report a) out list = Reports (length (l .held)) a list
+Says l d t c (answers.FullAck a) out list = Unit
+Says l d t c (answers.Ack2 a) out list = Unit
+Says l d t c (answers.Drop a) out list = Counts l (numberIn c) (lastIn c) a
+Says l d t c (answers.Clock a) out list = Unit
+Says l d t c (answers.Clear a) out list = Unit
 
--- the acknowledgement number that an answer tells is the ledger's, after the call
+-- the acknowledgement number that an answer tells is the ledger's, after the call, and so is the room that a full ACK tells
 abbrev pub DataAcks : (lrsn : ℕ) → DataAnswer → Type 0
 DataAcks n (datas.Got lrsn recovered) = lrsn ≡ n
 DataAcks n (datas.Light lrsn recovered) = lrsn ≡ n
@@ -150,28 +158,30 @@ DataAcks n (datas.Loss a b) = Unit
 DataAcks n (datas.Refused k) = Unit
 DataAcks n (datas.PacketTooEarly room need) = Unit
 
-abbrev pub FullAcks : (lrsn : ℕ) → FullAckAnswer → Type 0
-FullAcks n acks.Nothing = Unit
-FullAcks n (acks.Ack number lrsn mean variance places packets bytes link) = lrsn ≡ n
-FullAcks n (acks.Refused k) = Unit
+abbrev pub FullAcks : (lrsn room : ℕ) → FullAckAnswer → Type 0
+FullAcks n m acks.Nothing = Unit
+FullAcks n m (acks.Ack number lrsn mean variance places packets bytes link) = (lrsn ≡ n) × (places ≡ m)
+FullAcks n m (acks.Refused k) = Unit
 
-abbrev pub Acks : (lrsn : ℕ) → Answer → Type 0
-Acks n (answers.Data a) = DataAcks n a
-Acks n (answers.Pop a) = Unit
-Acks n (answers.Report a) = Unit
-Acks n (answers.FullAck a) = FullAcks n a
-Acks n (answers.Ack2 a) = Unit
-Acks n (answers.Drop a) = Unit
-Acks n (answers.Clock a) = Unit
-Acks n (answers.Clear a) = Unit
+abbrev pub Acks : (lrsn room : ℕ) → Answer → Type 0
+Acks n m (answers.Data a) = DataAcks n a
+Acks n m (answers.Pop a) = Unit
+Acks n m (answers.Report a) = Unit
+Acks n m (answers.FullAck a) = FullAcks n m a
+Acks n m (answers.Ack2 a) = Unit
+Acks n m (answers.Drop a) = Unit
+Acks n m (answers.Clock a) = Unit
+Acks n m (answers.Clear a) = Unit
 
--- one call more: the answer is of its call's kind, its line is its own, the number it acknowledges is the ledger's after it, and what it says is so
+-- one call more: the answer is of its call's kind, its line is its own, output and list are as long as they were lent, the number it acknowledges and the room
+-- are the ledger's after it, and what it says is so
 pub record Told (b b₁ : Book) (e : Event) (r : Ended) : Type 0 where
   pub kind : kindIn (r .answer) ≡ kindOf (e .call)
   pub line : r .line ≡ lineOf (r .answer) (r .list)
-  pub acks : Acks (ackOf (b₁ .ledger)) (r .answer)
+  pub lent : (length (r .output) ≡ length (e .lent .output)) × (length (r .list) ≡ length (e .lent .list))
+  pub acks : Acks (ackOf (b₁ .ledger)) (b₁ .desk .capacity - length (b₁ .ledger .held)) (r .answer)
   pub refuses : Refuses (earlyRefusal (b .desk) (e .lent) (e .call)) (e .call) (r .answer)
-  pub says : Says (b .ledger) (b .desk) (e .lent) (e .call) (r .answer) (r .output)
+  pub says : Says (b .ledger) (b .desk) (e .lent) (e .call) (r .answer) (r .output) (r .list)
 
 -- demand 3, of what makes a call, from a book just opened
 pub record Demanded (step : State → Lent → Call → Ended) (b : Book) (past : List Event) : Type 0 where
@@ -197,8 +207,9 @@ questioned n shown = cond (eqb n 0) (cond shown shows.Received shows.Other) (sho
 -- what show shows is the ledger's bytes of a held received place, and they are shown exactly then
 pub record Shows (l : Ledger) (refusal number : ℕ) (payloads : List ℕ) (p : Part) (a : ShowAnswer) : Type 0 where
   pub found : p .received ≡ true → (i : ℕ) × (i < length (l .held)) × (numberOf l (frontOf l + i) ≡ number) × (getD (l .held) i lost ≡ received (take (p .len) (drop (p .at) payloads)))
+  pub inside : p .received ≡ true → p .at + p .len ≤ length payloads
   pub shown : refusal ≡ 0 → (i : ℕ) (bytes : List ℕ) → i < length (l .held) → numberOf l (frontOf l + i) ≡ number → getD (l .held) i lost ≡ received bytes
-      → (p .received ≡ true) × (take (p .len) (drop (p .at) payloads) ≡ bytes)
+      → (p .received ≡ true) × (take (p .len) (drop (p .at) payloads) ≡ bytes) × (p .len ≡ length bytes)
   pub empty : p .received ≡ false → p .len ≡ 0
   pub answer : a ≡ questioned refusal (p .received)
 
