@@ -62,7 +62,7 @@ use Rattle.step.specs.declared.Call.{Call}
 use Rattle.step.specs.declared.Call.the-variants as calls
 use Rattle.trace.specs.Lends.{mostCapacity, AreasLent}
 use Rattle.ledger.proofs.Moves.{by-refusal, push-cases}
-use Rattle.ledger.proofs.Knows.{data-long, pop-capacity, report-same, drop-long, full-ack-same, ack2-same, clock-same}
+use Rattle.ledger.proofs.Knows.{data-long, pop-capacity, pop-long, report-same, list-long, drop-long, full-ack-same, ack2-same, clock-same}
 use Rattle.thm_replay.specs.Short.{saysShort, lentIn, leftIn}
 
 -- the first refusal of a list is 0 or the number of a test that holds
@@ -131,7 +131,7 @@ module _ (h : Head) (ws bs : List ℕ) (now : ℤ) (p : Packet) (payload : List 
       (λ q. refl)
       (λ q c. refl)
       (λ q c. refl)
-      (λ q. refl)
+      (λ q b. refl)
       (λ i n. refl)
       (λ i n. refl))
       (λ z. refl)
@@ -187,13 +187,6 @@ module _ (h : Head) (ws bs out : List ℕ) (now : ℤ) where
         (long-enough (length ws) (3 * h .window .capacity) a, (long-enough (length bs) (1456 * h .window .capacity) b, (λ e. refl, (λ e. refl, tt)))),
       ))
 
-  pop-long : length (popCallOf h ws bs out now .output) ≡ length out
-  unfolding popCallOf message.takenOf
-  pop-long =
-      by-refusal (λ (o : message.MessageOutcome). length (o .output) ≡ length out) (firstRefusal popTests) _ _
-      (λ z. let r = pop-ready h now ws bs z in pop-length (h .clock) (h .latency) (h .dropping) (h .window) ws now bs out (r .good .ranges .starts) (r .payloads))
-      (λ z. refl)
-
 -- a loss report: at most a word for each entry held
 module _ (h : Head) (ws list : List ℕ) (now : ℤ) where
   abbrev reportTests : List Rule
@@ -220,13 +213,6 @@ module _ (h : Head) (ws list : List ℕ) (now : ℤ) where
       report-fits (omega arith))
       (λ z. first-enough 0 reportTests refl (λ e. refl, (long-enough (length ws) (3 * h .window .capacity) a, (λ e. refl, (λ e. refl, tt)))))
 
-  list-long : length (reportCallOf h ws list now .list) ≡ length list
-  unfolding reportCallOf loss.reportedOf
-  list-long =
-      by-refusal (λ (o : loss.LossOutcome). length (o .list) ≡ length list) (firstRefusal reportTests) _ _
-      (λ z. list-keeps (h .window) ws now (h .rtt .mean) list)
-      (λ z. refl)
-
 -- ACKs
 module _ (h : Head) (a : List ℕ) (now : ℤ) where
   abbrev ackTests : List Rule
@@ -251,16 +237,6 @@ module _ (h : Head) (a : List ℕ) (now : ℤ) where
       let o = fullAckOf (h .history) a now (h .rtt .mean) (h .latency) (h .window .lrsn) in
       by-test AckEnough (eqb (roomOf (h .window)) 0) _ _ (λ t. refl) (λ t. after-ack (o .acked .history) (o .acked .answer)))
       (λ z. ack-tests l)
-
-  area-long : length (fullAckCallOf h a now .area) ≡ length a
-  unfolding fullAckCallOf acking.dueAck acking.roomyAck
-  area-long =
-      by-refusal (λ (o : acking.FullAckOutcome). length (o .area) ≡ length a) (firstRefusal ackTests) _ _
-      (λ z.
-      by-test (λ (o : acking.FullAckOutcome). length (o .area) ≡ length a) (eqb (roomOf (h .window)) 0) _ _
-      (λ t. refl)
-      (λ t. full-ack-length (h .history) a now (h .rtt .mean) (h .latency) (h .window .lrsn)))
-      (λ z. refl)
 
   after-ack2 : (y : History) (x : Ack2Answer) → Enough (rttLine (acking.afterAck2 h y x now .answer) .refusal)
   after-ack2 y acks2.NotHeld = refl
@@ -353,8 +329,8 @@ module _ (s : State) (l : Lent) (small : s .head .window .capacity ≤ mostCapac
   step-lent (calls.Data time number message location stamp) =
       let x = data-long (s .head) ws bs time (packet number message location stamp) (l .payload) in lent-still _ _ _ _ _ (x .0) (x .1) refl refl refl
   step-lent (calls.Pop time) = lent-still _ _ _ _ _ refl refl refl (pop-long (s .head) ws bs (l .output) time) refl
-  step-lent (calls.Report time) = lent-still _ _ _ _ _ (report-same (s .head) ws bs (l .list) time .2) refl refl refl (list-long (s .head) ws (l .list) time)
-  step-lent (calls.FullAck time) = lent-still _ _ _ _ _ refl refl (area-long (s .head) (s .history) time) refl refl
+  step-lent (calls.Report time) = lent-still _ _ _ _ _ (report-same (s .head) ws bs (l .list) time .2) refl refl refl (list-long (s .head) ws bs (l .list) time)
+  step-lent (calls.FullAck time) = lent-still _ _ _ _ _ refl refl (full-ack-same (s .head) (s .history) time .2) refl refl
   step-lent (calls.Ack2 time number) = lent
   step-lent (calls.Drop first last) = lent-still _ _ _ _ _ (drop-long (s .head) ws bs first last) refl refl refl refl
   step-lent (calls.Clock time stamp) = lent
