@@ -6,11 +6,11 @@ use mathlib.Core.List.{List, [], _∷_, _++_, append-nil, append-assoc}
 use Prim.Native.Nat.{ℕ, zero, suc, _+_, _-_, _^_, _<_, _≤_}
 use native.Mathlib.Numerals.{add-one}
 use native.Mathlib.Omega.{arith}
-use borrow.Author.Tests.{lt-ltb, le-ltb, eqb-true, eqb-false, ltb-false}
+use borrow.Author.Tests.{lt-ltb, le-ltb, eqb-true, ltb-false}
 use lib.Dec.{ltb, eqb}
 use lib.ListN.{length, take, set, length-set}
 use lib.Seq.{take-suc-set}
-use Rattle.numbers.specs.Circular.{distance, sum}
+use Rattle.numbers.specs.Circular.{distance}
 use Rattle.numbers.proofs.Both.{seq-distance}
 use Rattle.numbers.proofs.Circle.{sum-below, sum-zero, sum-sum}
 use Rattle.numbers.proofs.Flags.{by-bool, by-test}
@@ -20,10 +20,9 @@ use Rattle.window.specs.declared.Window.{Window}
 use Rattle.window_report.specs.Inner.{Within}
 use Rattle.window_report.specs.Report.{runWords, closed, runsAfter, runPut, dueAt, runsTo, listTo, needed, listAll, ReportOutcome, reportOf}
 use Rattle.window_report.specs.declared.report.Runs.{Runs}
-use Rattle.window_report.specs.declared.report.ReportAnswer.{ReportAnswer}
 use Rattle.window_report.specs.declared.report.ReportAnswer.the-variants as answers
 use Rattle.window_report.proofs.ReportLaws.{runs-within, words-rise, length-list}
-use Rattle.thm_report.specs.Named.{numbersFrom, through, none, run, numbersAfter, numbersIn, dueNumbers}
+use Rattle.thm_report.specs.Named.{numbersFrom, through, numbersAfter, numbersIn, dueNumbers}
 
 -- words that name these numbers, whatever follows them
 record Says (xs ns : List ℕ) : Type 0 where
