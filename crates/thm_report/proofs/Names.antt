@@ -23,7 +23,7 @@ use Rattle.window_report.specs.Report.{runWords, closed, runsAfter, runPut, due
 use Rattle.window_report.specs.declared.report.Runs.{Runs}
 use Rattle.window_report.specs.declared.report.ReportAnswer.the-variants as answers
 use Rattle.window_report.proofs.ReportLaws.{runs-within, words-rise, length-list}
-use Rattle.thm_report.specs.Named.{numbersFrom, through, none, run, numbersAfter, numbersIn, dueNumbers}
+use Rattle.thm_report.specs.Named.{numbersFrom, through, numbersAfter, numbersIn, dueNumbers}
 
 -- words that name these numbers, whatever follows them
 record Says (xs ns : List ℕ) : Type 0 where
