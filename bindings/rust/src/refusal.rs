@@ -9,7 +9,8 @@ use std::fmt;
 #[non_exhaustive]
 #[derive(Debug, Clone, Copy, PartialEq, Eq, Hash)]
 pub enum Refusal {
-    /// 1: a number of the head is outside its range.
+    /// 1: a number of the head is outside its range, or the words are no head (`include/pursethistle.h` lists 1a to
+    /// 1e). A `Receiver` never answers it; words of your own through `raw` may.
     HeadBad,
     /// 2: an area is too short.
     AreaShort,
