@@ -315,11 +315,7 @@ fn act(
         Want::HeaderBytes => filled(s, read_behind(fd, hand, s.at, s.end), Want::Header),
         Want::TurnBytes => filled(s, read_behind(fd, hand, s.at, s.end), Want::Turn),
         Want::Room => flushed(s, write_out(text, s.used), Want::Turn),
-        Want::Nothing => s,
-        Want::BadHeader => s,
-        Want::BadRecord => s,
-        Want::Unread => s,
-        Want::Unwritten => s,
+        _ => s,
     }
 }
 
@@ -436,14 +432,7 @@ fn tell(want: Want, name: &[u8], hand: &[u8], at: usize, end: usize, offset: u64
     match want {
         Want::BadHeader => tell_header(name, hand, end),
         Want::BadRecord => tell_record(name, hand, at, end, offset, count),
-        Want::Nothing => {}
-        Want::Unread => {}
-        Want::Unwritten => {}
-        Want::Turn => {}
-        Want::Header => {}
-        Want::HeaderBytes => {}
-        Want::TurnBytes => {}
-        Want::Room => {}
+        _ => {}
     }
 }
 
