@@ -316,11 +316,7 @@ fn act(
         Want::HeaderBytes => filled(s, read_behind(fd, hand, s.at, s.end), Want::Header),
         Want::TurnBytes => filled(s, read_behind(fd, hand, s.at, s.end), Want::Turn),
         Want::Room => flushed(s, write_out(text, s.used), Want::Turn),
-        Want::Nothing => s,
-        Want::BadHeader => s,
-        Want::BadRecord => s,
-        Want::Unread => s,
-        Want::Unwritten => s,
+        _ => s,
     }
 }
 
@@ -420,30 +416,29 @@ fn write_rest(text: &[u8], used: usize) {
     os::fail(b"standard output");
 }
 
-// Why the header is bad, and the record at the cursor: on standard error.
+// Why the header is bad, and why the record at the cursor is: on standard error.
 fn tell_header(name: &[u8], hand: &[u8], to: usize) {
     let end = within(to, hand);
-    let reason = reason::of_header(&hand[..end]);
-    reason::tell::tell(name, 0, 0, reason);
+    reason::tell::tell(name, 0, 0, reason::of_header(&hand[..end]));
 }
 
-fn tell_record(name: &[u8], hand: &[u8], from: usize, to: usize, t: Trace) {
+fn tell_record(name: &[u8], hand: &[u8], from: usize, to: usize, offset: u64, count: u64) {
     let end = within(to, hand);
     let at = least(from, end);
-    let reason = reason::of_record(&hand[at..end]);
-    reason::tell::tell(
-        name,
-        t.offset,
-        std::num::wrapping_add_u64(t.count, 1),
-        reason,
-    );
+    let nth = std::num::wrapping_add_u64(count, 1);
+    reason::tell::tell(name, offset, nth, reason::of_record(&hand[at..end]));
+}
+
+fn tell(want: Want, name: &[u8], hand: &[u8], at: usize, end: usize, offset: u64, count: u64) {
+    match want {
+        Want::BadHeader => tell_header(name, hand, end),
+        Want::BadRecord => tell_record(name, hand, at, end, offset, count),
+        _ => {}
+    }
 }
 
 // The lines that are left, and what failed. errno is told before anything else can change it.
-fn finish(s: State, text: &[u8], hand: &[u8], name: &[u8]) {
-    let want = s.want;
-    let used = s.used;
-    let trace = s.trace;
+fn finish(want: Want, text: &[u8], used: usize, name: &[u8]) {
     match want {
         Want::Unwritten => os::fail(b"standard output"),
         Want::Unread => {
@@ -451,14 +446,8 @@ fn finish(s: State, text: &[u8], hand: &[u8], name: &[u8]) {
             write_rest(text, used);
         }
         Want::Nothing => write_rest(text, used),
-        Want::BadHeader => {
-            write_rest(text, used);
-            tell_header(name, hand, s.end);
-        }
-        Want::BadRecord => {
-            write_rest(text, used);
-            tell_record(name, hand, s.at, s.end, trace);
-        }
+        Want::BadHeader => write_rest(text, used),
+        Want::BadRecord => write_rest(text, used),
         Want::Turn => write_rest(text, used),
         Want::Header => write_rest(text, used),
         Want::HeaderBytes => write_rest(text, used),
@@ -486,7 +475,10 @@ fn replay_open(fd: i32, name: &[u8], counting: bool) {
         &mut text,
         fresh(counting),
     );
-    finish(s, &text, &hand, name);
+    let want = s.want;
+    let trace = s.trace;
+    finish(want, &text, s.used, name);
+    tell(want, name, &hand, s.at, s.end, trace.offset, trace.count);
 }
 
 // A name of no letters is shown in quotes.
