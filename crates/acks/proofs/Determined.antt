@@ -3,9 +3,9 @@
 use mathlib.Core.Path.{◌≡◌, sym, ◌∙◌, ap}
 use mathlib.Core.List.{List}
 use Prim.Native.Nat.{ℕ}
-use Rattle.acks.specs.History.{AckOutcome, ackEnded}
+use Rattle.acks.specs.History.{AckOutcome, ack_ended}
 use Rattle.acks.specs.declared.history.Acked.{Acked}
 
 -- the history and the answer, and the history area
-pub full-ack-determined : {o : AckOutcome} (r s : Acked) (a₁ a₂ : List ℕ) → ackEnded r a₁ ≡ o → ackEnded s a₂ ≡ o → (r ≡ s) × (a₁ ≡ a₂)
+pub full-ack-determined : {o : AckOutcome} (r s : Acked) (a₁ a₂ : List ℕ) → ack_ended r a₁ ≡ o → ack_ended s a₂ ≡ o → (r ≡ s) × (a₁ ≡ a₂)
 full-ack-determined r s a₁ a₂ p q = let e = p ∙ sym q in (ap (λ x. x.acked) e, ap (λ x. x.area) e)

@@ -14,10 +14,10 @@ use mir.Syntax.{w64}
 use mir.Val.{Fits, SFits, to_z}
 use mir.Facts.{to_z_pos}
 use Rattle.numbers.specs.Circular.{before, sum}
-use Rattle.numbers.specs.Instants.{read_by, sinceTime}
+use Rattle.numbers.specs.Instants.{read_by, since_time}
 use Rattle.numbers.proofs.Flags.{and-false, by-test, by-order}
 use Rattle.numbers.proofs.Halves.{above, below, apart, above-+, below-+, range, in-range, lt-true}
-use Rattle.acks.specs.History.{ackSlot, number_at, departureAt, writeAck, freshHistory, isRecent, noneDue, isWorn, isExpired, firstKept, leaving, nextAck, firstAfter, AckOutcome, ackEnded, appendOf, fullAckOf, with_last, ack2Of, lightAckOf, clearedOf, historyOk}
+use Rattle.acks.specs.History.{ack_slot, number_at, departure_at, write_ack, fresh_history, is_recent, none_due, is_worn, is_expired, first_kept, leaving, next_ack, first_after, AckOutcome, ack_ended, append_of, full_ack_of, with_last, ack2_of, light_ack_of, cleared_of, history_ok}
 use Rattle.acks.specs.declared.history.History.{History}
 use Rattle.acks.specs.declared.history.AckAnswer.TheVariants.{Nothing, Worn, Ack}
 use Rattle.acks.specs.declared.history.Answered.{Answered}
@@ -29,19 +29,19 @@ pub departure-reads : (x : ℕ) → to_z w64 (x % 2 ^ 60) ≡ pos (x % 2 ^ 60)
 departure-reads x = to_z_pos w64 (omega arith)
 
 module _ (a : List ℕ) (p : ℕ) (now : ℤ) {n d : ℤ} (e : d ≡ pos (get_or a (2 * p + 1) 0 % 2 ^ 60)) where
-  pub reads_now : {n₁ : ℤ} → lt_z n d ≡ true → n ≡ now → n₁ ≡ now → n₁ ≡ departureAt a p now
-  unfolding departureAt
+  pub reads_now : {n₁ : ℤ} → lt_z n d ≡ true → n ≡ now → n₁ ≡ now → n₁ ≡ departure_at a p now
+  unfolding departure_at
   reads_now t q r = r ∙ rw (rw (q, e) at t)
 
-  pub reads-departure : {d₁ : ℤ} → lt_z n d ≡ false → n ≡ now → d₁ ≡ d → d₁ ≡ departureAt a p now
-  unfolding departureAt
+  pub reads-departure : {d₁ : ℤ} → lt_z n d ≡ false → n ≡ now → d₁ ≡ d → d₁ ≡ departure_at a p now
+  unfolding departure_at
   reads-departure t q r = r ∙ e ∙ rw (rw (q, e) at t)
 
 pub ruleset departures = (departure-reads, reads_now, reads-departure, rules)
 
 -- write_ack
-pub writes : (a : List ℕ) (p n : ℕ) (now : ℤ) {d : ℕ} {z : ℤ} → d ≡ nat_abs z → z ≡ now → set (set a (2 * p) n) (2 * p + 1) d ≡ writeAck a p n now
-unfolding writeAck
+pub writes : (a : List ℕ) (p n : ℕ) (now : ℤ) {d : ℕ} {z : ℤ} → d ≡ nat_abs z → z ≡ now → set (set a (2 * p) n) (2 * p + 1) d ≡ write_ack a p n now
+unfolding write_ack
 writes a p n now e q = rw (e, q)
 
 pub second-in : (a : List ℕ) (p i v : ℕ) → 2 * p + 2 ≤ length a → 2 * p + 1 < length (set a i v)
@@ -49,9 +49,9 @@ second-in a p i v h = simp length-set (omega arith)
 
 -- is_recent
 pub recent-test : (a : List ℕ) (p : ℕ) (now : ℤ) (mean lrsn : ℕ) {n s : ℕ} {z z₁ d d₁ : ℤ} {b : Bool}
-    → n ≡ number_at a p → d ≡ departureAt a p z → z ≡ now → s ≡ sinceTime z₁ d₁ → z₁ ≡ now → d₁ ≡ d → b ≡ before 31 lrsn n
-    → (b || (eqb lrsn n && ltb s (2 * mean))) ≡ isRecent a p now mean lrsn
-unfolding isRecent
+    → n ≡ number_at a p → d ≡ departure_at a p z → z ≡ now → s ≡ since_time z₁ d₁ → z₁ ≡ now → d₁ ≡ d → b ≡ before 31 lrsn n
+    → (b || (eqb lrsn n && ltb s (2 * mean))) ≡ is_recent a p now mean lrsn
+unfolding is_recent
 recent-test a p now mean lrsn e f q g q₁ r h = rw (h, g, q₁, r, f, q, e)
 
 -- is_expired: a departure is under 2^60, so that the sum fits
@@ -64,64 +64,64 @@ departure-under x now =
 pub wait-reads : (wait : ℕ) → wait < 2 ^ 34 → to_z w64 wait ≡ pos wait
 wait-reads wait h = to_z_pos w64 (omega arith)
 
-module _ (a : List ℕ) (p wait : ℕ) (z : ℤ) {d d₁ w₁ : ℤ} (f : d ≡ departureAt a p z) (r : d₁ ≡ d) (k : w₁ ≡ pos wait) where
+module _ (a : List ℕ) (p wait : ℕ) (z : ℤ) {d d₁ w₁ : ℤ} (f : d ≡ departure_at a p z) (r : d₁ ≡ d) (k : w₁ ≡ pos wait) where
   pub expired-fits : SFits w64 d → wait < 2 ^ 34 → SFits w64 (d₁ +ℤ w₁)
-  unfolding departureAt
+  unfolding departure_at
   expired-fits m h =
       let l : above d < 2 ^ 60 = rw f (departure-under (get_or a (2 * p + 1) 0) z) in
       let o = range (2 ^ 63) d m.sfits in
       rw (r, k)
       (record { sfits = in-range (2 ^ 63) (d +ℤ pos wait) (omega (arith, above-+ d (pos wait), o.0)) (omega (arith, below-+ d (pos wait), o.1)) })
 
-  pub expired-test : (now : ℤ) {s z₁ : ℤ} → z ≡ now → s ≡ d₁ +ℤ w₁ → z₁ ≡ now → lt_z s z₁ ≡ isExpired a p now wait
-  unfolding isExpired
+  pub expired-test : (now : ℤ) {s z₁ : ℤ} → z ≡ now → s ≡ d₁ +ℤ w₁ → z₁ ≡ now → lt_z s z₁ ≡ is_expired a p now wait
+  unfolding is_expired
   expired-test now q e q₁ = rw (e, r, k, f, q, q₁)
 
 pub ruleset expiries = (wait-reads, expired-fits, expired-test, rules)
 
 -- the loop of first_kept: a turn, its way out in the middle, its end; the loop has the time as the machine reads it back, m
-module _ (a : List ℕ) (start count : ℕ) (m : ℤ) (wait i : ℕ) {r : ℕ} (e : r ≡ firstKept a start m wait i (count - 1 - i)) where
-  module _ {b : Bool} {z : ℤ} (h : i + 1 < count) (f : b ≡ isExpired a (ackSlot start i) z wait) (y : z ≡ m) where
+module _ (a : List ℕ) (start count : ℕ) (m : ℤ) (wait i : ℕ) {r : ℕ} (e : r ≡ first_kept a start m wait i (count - 1 - i)) where
+  module _ {b : Bool} {z : ℤ} (h : i + 1 < count) (f : b ≡ is_expired a (ack_slot start i) z wait) (y : z ≡ m) where
     left : count - 1 - i ≡ suc (count - 1 - (i + 1))
     left = omega arith
 
-    pub kept_again : b ≡ true → r ≡ firstKept a start m wait (i + 1) (count - 1 - (i + 1))
-    unfolding firstKept
+    pub kept_again : b ≡ true → r ≡ first_kept a start m wait (i + 1) (count - 1 - (i + 1))
+    unfolding first_kept
     kept_again g = e ∙ rw left (rw (← y, ← f, g))
 
     found : b ≡ false → i ≡ r
-    unfolding firstKept
+    unfolding first_kept
     found g = sym (e ∙ rw left (rw (← y, ← f, g)))
 
   ended : count ≤ i + 1 → i ≡ r
-  unfolding firstKept
+  unfolding first_kept
   ended h = let z : count - 1 - i ≡ 0 = omega arith in sym (e ∙ rw z)
 
 module _ (a : List ℕ) (start count : ℕ) (now m : ℤ) (wait i : ℕ)
-    (e : firstKept a start m wait 0 (count - 1) ≡ firstKept a start m wait i (count - 1 - i)) (q : m ≡ now) where
-  pub kept-found : {b : Bool} {z : ℤ} → i + 1 < count → b ≡ isExpired a (ackSlot start i) z wait → z ≡ m → b ≡ false → i ≡ firstKept a start now wait 0 (count - 1)
+    (e : first_kept a start m wait 0 (count - 1) ≡ first_kept a start m wait i (count - 1 - i)) (q : m ≡ now) where
+  pub kept-found : {b : Bool} {z : ℤ} → i + 1 < count → b ≡ is_expired a (ack_slot start i) z wait → z ≡ m → b ≡ false → i ≡ first_kept a start now wait 0 (count - 1)
   kept-found h f y g = found a start count m wait i e h f y g ∙ rw q
 
-  pub kept-done : count ≤ i + 1 → i ≡ firstKept a start now wait 0 (count - 1)
+  pub kept-done : count ≤ i + 1 → i ≡ first_kept a start now wait 0 (count - 1)
   kept-done h = ended a start count m wait i e h ∙ rw q
 
-pub kept-start : (a : List ℕ) (start count : ℕ) (now : ℤ) (wait : ℕ) → firstKept a start now wait 0 (count - 1) ≡ firstKept a start now wait 0 (count - 1 - 0)
+pub kept-start : (a : List ℕ) (start count : ℕ) (now : ℤ) (wait : ℕ) → first_kept a start now wait 0 (count - 1) ≡ first_kept a start now wait 0 (count - 1 - 0)
 kept-start a start count now wait = let e : count - 1 - 0 ≡ count - 1 = omega arith in rw e
 
 -- leaving
-pub kept-le : (a : List ℕ) (start : ℕ) (now : ℤ) (wait n i : ℕ) → firstKept a start now wait i n ≤ i + n
-unfolding firstKept
+pub kept-le : (a : List ℕ) (start : ℕ) (now : ℤ) (wait n i : ℕ) → first_kept a start now wait i n ≤ i + n
+unfolding first_kept
 kept-le a start now wait zero i = omega arith
 kept-le a start now wait (suc n) i =
-    by-test (λ (x : ℕ). x ≤ i + suc n) (isExpired a (ackSlot start i) now wait) _ _
+    by-test (λ (x : ℕ). x ≤ i + suc n) (is_expired a (ack_slot start i) now wait) _ _
     (λ t. let r = kept-le a start now wait n (i + 1) in omega arith)
     (λ t. omega arith)
 
-pub gone-le : (a : List ℕ) (start count : ℕ) (now : ℤ) (wait : ℕ) {g : ℕ} → g ≡ firstKept a start now wait 0 (count - 1) → g ≤ count
+pub gone-le : (a : List ℕ) (start count : ℕ) (now : ℤ) (wait : ℕ) {g : ℕ} → g ≡ first_kept a start now wait 0 (count - 1) → g ≤ count
 gone-le a start count now wait e = let l = kept-le a start now wait (count - 1) 0 in omega arith
 
 module _ (a : List ℕ) (start count : ℕ) (now : ℤ) (wait : ℕ) where
-  module _ {g : ℕ} {z : ℤ} (e : g ≡ firstKept a start z wait 0 (count - 1)) where
+  module _ {g : ℕ} {z : ℤ} (e : g ≡ first_kept a start z wait 0 (count - 1)) where
     pub leaves-more : z ≡ now → count - g ≡ 1024 → g + 1 ≡ leaving a start count now wait
     unfolding leaving
     leaves-more q h = rw (← q, ← e, eq-eqb _ _ h)
@@ -134,7 +134,7 @@ module _ (a : List ℕ) (start count : ℕ) (now : ℤ) (wait : ℕ) where
   pub leaving-le : count ≤ 1024 → leaving a start count now wait ≤ count - 1
   unfolding leaving
   leaving-le h =
-      let g = firstKept a start now wait 0 (count - 1) in
+      let g = first_kept a start now wait 0 (count - 1) in
       let l : g ≤ 0 + (count - 1) = kept-le a start now wait (count - 1) 0 in
       by-test (λ (x : ℕ). x ≤ count - 1) (eqb (count - g) 1024) _ _ (λ t. omega (arith, eqb-true (count - g) 1024 t)) (λ t. omega arith)
 
@@ -142,7 +142,7 @@ module _ (a : List ℕ) (start count : ℕ) (now : ℤ) (wait : ℕ) where
   pub leaving-room : count ≤ 1024 → count - leaving a start count now wait + 1 ≤ 1024
   unfolding leaving
   leaving-room h =
-      let g = firstKept a start now wait 0 (count - 1) in
+      let g = first_kept a start now wait 0 (count - 1) in
       by-test (λ (x : ℕ). count - x + 1 ≤ 1024) (eqb (count - g) 1024) _ _ (λ t. omega (arith, eqb-true (count - g) 1024 t)) (λ t. omega (arith, eqb-false (count - g) 1024 t))
 
   module _ {n : ℕ} (e : n ≡ leaving a start count now wait) (h : count ≤ 1024) where
@@ -156,71 +156,71 @@ module _ (a : List ℕ) (start count : ℕ) (now : ℤ) (wait : ℕ) where
     leaving-start k = record { fits = omega (arith, leaving-le h) }
 
 -- new, none_due, is_worn, next_number, first_after
-pub fresh : (n : ℕ) → ◌≡◌ {A = History} (record { start = 0; count = 0; first = 1; largest = n; lastack = n }) (freshHistory n)
-unfolding freshHistory
+pub fresh : (n : ℕ) → ◌≡◌ {A = History} (record { start = 0; count = 0; first = 1; largest = n; lastack = n }) (fresh_history n)
+unfolding fresh_history
 fresh n = refl
 
 module _ (h : History) where
   module _ (a : List ℕ) (now : ℤ) (mean lrsn : ℕ) where
-    pub none-same : h.largest ≡ lrsn → true ≡ noneDue h a now mean lrsn
-    unfolding noneDue
+    pub none-same : h.largest ≡ lrsn → true ≡ none_due h a now mean lrsn
+    unfolding none_due
     none-same e = rw (eq-eqb _ _ e)
 
-    pub due-empty : (h.largest ≡ lrsn → ⊥) → h.count ≡ 0 → false ≡ noneDue h a now mean lrsn
-    unfolding noneDue
+    pub due-empty : (h.largest ≡ lrsn → ⊥) → h.count ≡ 0 → false ≡ none_due h a now mean lrsn
+    unfolding none_due
     due-empty e f = rw (ne_eqb _ _ e, eq-eqb _ _ f)
 
     pub due-recent : {b : Bool} {z : ℤ} → (h.largest ≡ lrsn → ⊥) → (h.count ≡ 0 → ⊥)
-        → b ≡ isRecent a (ackSlot h.start (h.count - 1)) z mean lrsn → z ≡ now → b ≡ noneDue h a now mean lrsn
-    unfolding noneDue
+        → b ≡ is_recent a (ack_slot h.start (h.count - 1)) z mean lrsn → z ≡ now → b ≡ none_due h a now mean lrsn
+    unfolding none_due
     due-recent e f g q = rw (ne_eqb _ _ e, ne_eqb _ _ f) (g ∙ rw q)
 
-  pub worn-test : (ltb 0 h.count && eqb (h.first + h.count - 1) 4294967295) ≡ isWorn h
-  unfolding isWorn
+  pub worn-test : (ltb 0 h.count && eqb (h.first + h.count - 1) 4294967295) ≡ is_worn h
+  unfolding is_worn
   worn-test = refl
 
-  pub number-one : h.count ≡ 0 → 1 ≡ nextAck h
-  unfolding nextAck
+  pub number-one : h.count ≡ 0 → 1 ≡ next_ack h
+  unfolding next_ack
   number-one e = rw (eq-eqb _ _ e)
 
-  pub number-next : (h.count ≡ 0 → ⊥) → 1 ≤ h.first → h.first + h.count ≡ nextAck h
-  unfolding nextAck
+  pub number-next : (h.count ≡ 0 → ⊥) → 1 ≤ h.first → h.first + h.count ≡ next_ack h
+  unfolding next_ack
   number-next e f = rw (ne_eqb _ _ e) (omega arith)
 
-  pub first_one : (n : ℕ) → h.count ≡ 0 → 1 ≡ firstAfter h n
-  unfolding firstAfter
+  pub first_one : (n : ℕ) → h.count ≡ 0 → 1 ≡ first_after h n
+  unfolding first_after
   first_one n e = rw (eq-eqb _ _ e)
 
-  pub first-moved : (n : ℕ) → (h.count ≡ 0 → ⊥) → h.first + n ≡ firstAfter h n
-  unfolding firstAfter
+  pub first-moved : (n : ℕ) → (h.count ≡ 0 → ⊥) → h.first + n ≡ first_after h n
+  unfolding first_after
   first-moved n e = rw (ne_eqb _ _ e)
 
 -- append, next_full_ack
 module _ (h : History) (a : List ℕ) (now : ℤ) (lrsn : ℕ) where
   pub appended : (wait : ℕ) {n number first : ℕ} {z z₁ : ℤ} {a₁ : List ℕ}
-      → number ≡ nextAck h → n ≡ leaving a h.start h.count z wait → z ≡ now → first ≡ firstAfter h n
-      → a₁ ≡ writeAck a (ackSlot (ackSlot h.start n) (h.count - n)) lrsn z₁ → z₁ ≡ now
-      → ackEnded (record { history = record { start = ackSlot h.start n; count = h.count - n + 1; first = first; largest = h.largest; lastack = lrsn }; answer = Ack number }) a₁ ≡ appendOf h a now wait lrsn
-  unfolding appendOf
+      → number ≡ next_ack h → n ≡ leaving a h.start h.count z wait → z ≡ now → first ≡ first_after h n
+      → a₁ ≡ write_ack a (ack_slot (ack_slot h.start n) (h.count - n)) lrsn z₁ → z₁ ≡ now
+      → ack_ended (record { history = record { start = ack_slot h.start n; count = h.count - n + 1; first = first; largest = h.largest; lastack = lrsn }; answer = Ack number }) a₁ ≡ append_of h a now wait lrsn
+  unfolding append_of
   appended wait e f q g i r = rw (i, r, g, f, q, e)
 
-  module _ (mean latency : ℕ) {b : Bool} {z : ℤ} (e : b ≡ noneDue h a z mean lrsn) (q : z ≡ now) where
-    pub ack-none : b ≡ true → ackEnded (record { history = h; answer = Nothing }) a ≡ fullAckOf h a now mean latency lrsn
-    unfolding fullAckOf
+  module _ (mean latency : ℕ) {b : Bool} {z : ℤ} (e : b ≡ none_due h a z mean lrsn) (q : z ≡ now) where
+    pub ack-none : b ≡ true → ack_ended (record { history = h; answer = Nothing }) a ≡ full_ack_of h a now mean latency lrsn
+    unfolding full_ack_of
     ack-none t = rw (← q, ← e, t)
 
-    module _ {w : Bool} (t : b ≡ false) (f : w ≡ isWorn h) where
-      pub ack-worn : w ≡ true → ackEnded (record { history = h; answer = Worn }) a ≡ fullAckOf h a now mean latency lrsn
-      unfolding fullAckOf
+    module _ {w : Bool} (t : b ≡ false) (f : w ≡ is_worn h) where
+      pub ack-worn : w ≡ true → ack_ended (record { history = h; answer = Worn }) a ≡ full_ack_of h a now mean latency lrsn
+      unfolding full_ack_of
       ack-worn u = rw (← q, ← e, t, ← f, u)
 
-      pub ack-append : {r : AckOutcome} {z₁ : ℤ} → w ≡ false → r ≡ appendOf h a z₁ (latency + 2 * mean) lrsn → z₁ ≡ now → r ≡ fullAckOf h a now mean latency lrsn
-      unfolding fullAckOf
+      pub ack-append : {r : AckOutcome} {z₁ : ℤ} → w ≡ false → r ≡ append_of h a z₁ (latency + 2 * mean) lrsn → z₁ ≡ now → r ≡ full_ack_of h a now mean latency lrsn
+      unfolding full_ack_of
       ack-append u g q₁ = rw (← q, ← e, t, ← f, u) (g ∙ rw (q₁, ← q))
 
 -- what is not worn has a next number
-pub not-worn : (h : History) {w : Bool} → w ≡ isWorn h → w ≡ false → h.first + h.count ≤ 2 ^ 32 → h.first < 2 ^ 32 → h.first + h.count < 2 ^ 32
-unfolding isWorn
+pub not-worn : (h : History) {w : Bool} → w ≡ is_worn h → w ≡ false → h.first + h.count ≤ 2 ^ 32 → h.first < 2 ^ 32 → h.first + h.count < 2 ^ 32
+unfolding is_worn
 not-worn h e t f g =
     by-order 0 h.count
     (λ k.
@@ -231,33 +231,33 @@ not-worn h e t f g =
 
 -- calculate_ack2
 module _ (h : History) (a : List ℕ) (now : ℤ) (number : ℕ) where
-  pub held_below : number < h.first → ◌≡◌ {A = Answered} (record { history = h; answer = NotHeld }) (ack2Of h a now number)
-  unfolding ack2Of
+  pub held_below : number < h.first → ◌≡◌ {A = Answered} (record { history = h; answer = NotHeld }) (ack2_of h a now number)
+  unfolding ack2_of
   held_below e = rw (lt-leb _ _ e)
 
-  pub held-above : h.first ≤ number → h.count ≤ number - h.first → ◌≡◌ {A = Answered} (record { history = h; answer = NotHeld }) (ack2Of h a now number)
-  unfolding ack2Of
+  pub held-above : h.first ≤ number → h.count ≤ number - h.first → ◌≡◌ {A = Answered} (record { history = h; answer = NotHeld }) (ack2_of h a now number)
+  unfolding ack2_of
   held-above e f = let g : h.first + h.count ≤ number = omega arith in rw (le-leb _ _ e, le-ltb _ _ g)
 
   pub held : {r l : ℕ} {z z₁ d d₁ : ℤ}
       → h.first ≤ number → number - h.first < h.count
-      → d ≡ departureAt a (ackSlot h.start (number - h.first)) z → z ≡ now → r ≡ sinceTime z₁ d₁ → z₁ ≡ now → d₁ ≡ d → l ≡ number_at a (ackSlot h.start (number - h.first))
-      → ◌≡◌ {A = Answered} (record { history = record { start = h.start; count = h.count; first = h.first; largest = l; lastack = h.lastack }; answer = Held r }) (ack2Of h a now number)
-  unfolding ack2Of
+      → d ≡ departure_at a (ack_slot h.start (number - h.first)) z → z ≡ now → r ≡ since_time z₁ d₁ → z₁ ≡ now → d₁ ≡ d → l ≡ number_at a (ack_slot h.start (number - h.first))
+      → ◌≡◌ {A = Answered} (record { history = record { start = h.start; count = h.count; first = h.first; largest = l; lastack = h.lastack }; answer = Held r }) (ack2_of h a now number)
+  unfolding ack2_of
   held e f i q j q₁ m k = let g : number < h.first + h.count = omega arith in rw (le-leb _ _ e, lt-ltb _ _ g, j, q₁, m, i, q, k)
 
 -- next_light_ack, clear, in_range
 module _ (h : History) (lrsn : ℕ) where
-  pub no-light : {s : ℕ} {b : Bool} → s ≡ sum 31 h.lastack 64 → b ≡ before 31 lrsn s → b ≡ true → ◌≡◌ {A = LightAcked} (record { history = h; light = false }) (lightAckOf h lrsn)
-  unfolding lightAckOf
+  pub no-light : {s : ℕ} {b : Bool} → s ≡ sum 31 h.lastack 64 → b ≡ before 31 lrsn s → b ≡ true → ◌≡◌ {A = LightAcked} (record { history = h; light = false }) (light_ack_of h lrsn)
+  unfolding light_ack_of
   no-light e f t = rw (← e, ← f, t)
 
-  pub lights : {s : ℕ} {b : Bool} → s ≡ sum 31 h.lastack 64 → b ≡ before 31 lrsn s → b ≡ false → ◌≡◌ {A = LightAcked} (record { history = with_last h lrsn; light = true }) (lightAckOf h lrsn)
-  unfolding lightAckOf
+  pub lights : {s : ℕ} {b : Bool} → s ≡ sum 31 h.lastack 64 → b ≡ before 31 lrsn s → b ≡ false → ◌≡◌ {A = LightAcked} (record { history = with_last h lrsn; light = true }) (light_ack_of h lrsn)
+  unfolding light_ack_of
   lights e f t = rw (← e, ← f, t)
 
-  pub cleared : ◌≡◌ {A = History} (record { start = h.start; count = 0; first = h.first; largest = lrsn; lastack = h.lastack }) (clearedOf h lrsn)
-  unfolding clearedOf
+  pub cleared : ◌≡◌ {A = History} (record { start = h.start; count = 0; first = h.first; largest = lrsn; lastack = h.lastack }) (cleared_of h lrsn)
+  unfolding cleared_of
   cleared = refl
 
 newest-test : (n : ℕ) → leb n (2 ^ 32) ≡ leb (n - 1) 4294967295
@@ -267,12 +267,12 @@ newest-test n =
     (λ k. rw (le-leb n (2 ^ 32) k, le-leb (n - 1) 4294967295 (omega arith)))
 
 module _ (h : History) where
-  pub count-out : 1024 < h.count → false ≡ historyOk h
-  unfolding historyOk
+  pub count-out : 1024 < h.count → false ≡ history_ok h
+  unfolding history_ok
   count-out k = rw (lt-leb _ _ k, and-false (ltb h.start 1024) {y = false} refl)
 
-  pub range-test : h.count ≤ 1024 → h.first < 2 ^ 32 → (ltb h.start 1024 && leb 1 h.first && leb (h.first + h.count) (2 ^ 32) && ltb h.largest (2 ^ 31) && ltb h.lastack (2 ^ 31)) ≡ historyOk h
-  unfolding historyOk
+  pub range-test : h.count ≤ 1024 → h.first < 2 ^ 32 → (ltb h.start 1024 && leb 1 h.first && leb (h.first + h.count) (2 ^ 32) && ltb h.largest (2 ^ 31) && ltb h.lastack (2 ^ 31)) ≡ history_ok h
+  unfolding history_ok
   range-test k f =
       rw (le-leb _ _ k, le-leb h.first 4294967295 (omega arith), and-true (ltb h.start 1024), and-true (ltb h.start 1024 && leb 1 h.first), newest-test (h.first + h.count))
 

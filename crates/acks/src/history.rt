@@ -1,6 +1,6 @@
 // The history of full ACKs, history.rs: 01, "ACKs, RTT, rates". Its numbers are a value, its entries lie in a lent area of 2,048 words.
 ghost use Rattle.std.specs.Prelude.{◌≡◌, ◌+◌, ◌-◌, ◌*◌, ◌<◌, ◌≤◌, ◌^◌, length};
-ghost use Rattle.acks.specs.History.{number_at, departureAt, writeAck, freshHistory, isRecent, noneDue, isWorn, isExpired, firstKept, leaving, nextAck, firstAfter, ackEnded, appendOf, fullAckOf, ack2Of, lightAckOf, clearedOf, historyOk};
+ghost use Rattle.acks.specs.History.{number_at, departure_at, write_ack, fresh_history, is_recent, none_due, is_worn, is_expired, first_kept, leaving, next_ack, first_after, ack_ended, append_of, full_ack_of, ack2_of, light_ack_of, cleared_of, history_ok};
 ghost use Rattle.acks.specs.Ready.{HistoryReady};
 
 // Entry i, under count, has the ACK number first + i and lies at (start + i) mod 1,024. `largest` is largest_ack2_dsn, `lastack` last_ack_dsn.
@@ -56,7 +56,7 @@ fn number_at(area: &[u64], p: usize) -> u32
 // Its departure, as a call at `time` reads it.
 fn departure_at(area: &[u64], p: usize, time: i64) -> i64
     requires { 2 * p + 2 ≤ length area.now }
-    ensures { result ≡ departureAt area.now p time }
+    ensures { result ≡ departure_at area.now p time }
 {
     let i = 2 * p + 1;
     let departure = (area[i] % 0x1000_0000_0000_0000) as i64;
@@ -69,7 +69,7 @@ fn departure_at(area: &[u64], p: usize, time: i64) -> i64
 // Puts an entry at p; every other word stays.
 fn write_ack(area: &mut [u64], p: usize, number: u32, time: i64)
     requires { 2 * p + 2 ≤ length area.old }
-    ensures { area.new ≡ writeAck area.old p number time }
+    ensures { area.new ≡ write_ack area.old p number time }
 {
     let i = 2 * p;
     let departure = numbers::instant::size(time);
@@ -80,7 +80,7 @@ fn write_ack(area: &mut [u64], p: usize, number: u32, time: i64)
 // Whether the newest entry, at p, is too recent for another ACK.
 fn is_recent(area: &[u64], p: usize, time: i64, mean: u32, lrsn: u32) -> bool
     requires { 2 * p + 2 ≤ length area.now }
-    ensures { result ≡ isRecent area.now p time mean lrsn }
+    ensures { result ≡ is_recent area.now p time mean lrsn }
 {
     let newest = number_at(area, p);
     let interval = numbers::instant::since(time, departure_at(area, p, time));
@@ -91,7 +91,7 @@ fn is_recent(area: &[u64], p: usize, time: i64, mean: u32, lrsn: u32) -> bool
 // Whether the departure of the entry at p is more than `wait` ago.
 fn is_expired(area: &[u64], p: usize, time: i64, wait: u64) -> bool
     requires { (2 * p + 2 ≤ length area.now) × (wait < 2 ^ 34) }
-    ensures { result ≡ isExpired area.now p time wait }
+    ensures { result ≡ is_expired area.now p time wait }
 {
     departure_at(area, p, time) + (wait as i64) < time
 }
@@ -99,7 +99,7 @@ fn is_expired(area: &[u64], p: usize, time: i64, wait: u64) -> bool
 // Of the entries but the newest, the first that is not expired, else the newest.
 fn first_kept(area: &[u64], start: usize, count: usize, time: i64, wait: u64) -> usize
     requires { (start < 1024) × (count ≤ 1024) × (2048 ≤ length area.now) × (wait < 2 ^ 34) }
-    ensures { result ≡ firstKept area.now start time wait 0 (count - 1) }
+    ensures { result ≡ first_kept area.now start time wait 0 (count - 1) }
 {
     let mut i = 0;
     while i + 1 < count {
@@ -128,7 +128,7 @@ impl History {
     pub const LIGHT_ACK_PACKET_INTERVAL: u32 = 64;
 
     pub fn new(number: u32) -> Self
-        ensures { result ≡ freshHistory number }
+        ensures { result ≡ fresh_history number }
     {
         History {
             start: 0,
@@ -141,7 +141,7 @@ impl History {
 
     fn none_due(self, area: &[u64], time: i64, mean: u32, lrsn: u32) -> bool
         requires { HistoryReady self area.now }
-        ensures { result ≡ noneDue self area.now time mean lrsn }
+        ensures { result ≡ none_due self area.now time mean lrsn }
     {
         if self.largest == lrsn {
             return true;
@@ -160,7 +160,7 @@ impl History {
 
     fn is_worn(self) -> bool
         requires { (1 ≤ self.first) × (self.count ≤ 1024) }
-        ensures { result ≡ isWorn self }
+        ensures { result ≡ is_worn self }
     {
         let newest = (self.first as u64) + (self.count as u64) - 1;
         (0 < self.count) & (newest == 0xffff_ffff)
@@ -168,7 +168,7 @@ impl History {
 
     fn next_number(self) -> u32
         requires { (1 ≤ self.first) × (self.first + self.count < 2 ^ 32) }
-        ensures { result ≡ nextAck self }
+        ensures { result ≡ next_ack self }
     {
         if self.count == 0 {
             return 1;
@@ -179,7 +179,7 @@ impl History {
     // The first ACK number after n have left the front; an empty history begins again at 1.
     fn first_after(self, n: usize) -> u32
         requires { self.first + n < 2 ^ 32 }
-        ensures { result ≡ firstAfter self n }
+        ensures { result ≡ first_after self n }
     {
         if self.count == 0 {
             return 1;
@@ -190,7 +190,7 @@ impl History {
     // Removes what leaves the front, then appends an ACK of lrsn.
     fn append(self, area: &mut [u64], time: i64, wait: u64, lrsn: u32) -> Acked
         requires { HistoryReady self area.old × (wait < 2 ^ 34) × (self.first + self.count < 2 ^ 32) }
-        ensures { ackEnded result area.new ≡ appendOf self area.old time wait lrsn }
+        ensures { ack_ended result area.new ≡ append_of self area.old time wait lrsn }
     {
         let number = self.next_number();
         let n = leaving(area, self.start, self.count, time, wait);
@@ -220,7 +220,7 @@ impl History {
         lrsn: u32,
     ) -> Acked
         requires { HistoryReady self area.old }
-        ensures { ackEnded result area.new ≡ fullAckOf self area.old time mean latency lrsn }
+        ensures { ack_ended result area.new ≡ full_ack_of self area.old time mean latency lrsn }
     {
         let wait = (latency as u64) + 2 * (mean as u64);
         if self.none_due(area, time, mean, lrsn) {
@@ -241,7 +241,7 @@ impl History {
     // The ACK2 of a full ACK: its data number, and the interval since it left.
     pub fn calculate_ack2(self, area: &[u64], time: i64, number: u32) -> Answered
         requires { HistoryReady self area.now }
-        ensures { result ≡ ack2Of self area.now time number }
+        ensures { result ≡ ack2_of self area.now time number }
     {
         if number < self.first {
             return Answered {
@@ -274,7 +274,7 @@ impl History {
 
     // A light ACK of lrsn, if it is far enough past the last ACK.
     pub fn next_light_ack(self, lrsn: u32) -> LightAcked
-        ensures { result ≡ lightAckOf self lrsn }
+        ensures { result ≡ light_ack_of self lrsn }
     {
         let at = numbers::seq::sum(self.lastack, History::LIGHT_ACK_PACKET_INTERVAL);
         if numbers::seq::is_before(lrsn, at) {
@@ -296,7 +296,7 @@ impl History {
     }
 
     pub fn clear(self, lrsn: u32) -> Self
-        ensures { result ≡ clearedOf self lrsn }
+        ensures { result ≡ cleared_of self lrsn }
     {
         History {
             start: self.start,
@@ -309,7 +309,7 @@ impl History {
 
     // The count is tested first, so that the newest number can be summed.
     pub fn in_range(self) -> bool
-        ensures { result ≡ historyOk self }
+        ensures { result ≡ history_ok self }
     {
         if 1024 < self.count {
             return false;

@@ -1,6 +1,6 @@
 // The round trip's figures, rtt.rs: 01, "ACKs, RTT, rates".
 ghost use Rattle.std.specs.Prelude.{◌≡◌};
-ghost use Rattle.acks.specs.Rtt.{freshRtt, apart, updated, rttOk};
+ghost use Rattle.acks.specs.Rtt.{fresh_rtt, apart, updated, rtt_ok};
 
 #[derive(Drop)]
 pub struct Rtt {
@@ -21,7 +21,7 @@ impl Rtt {
     pub const VARIANCE: u32 = 1_000;
 
     pub fn new() -> Self
-        ensures { result ≡ freshRtt }
+        ensures { result ≡ fresh_rtt }
     {
         Rtt {
             mean: Rtt::MEAN,
@@ -46,7 +46,7 @@ impl Rtt {
 
     // Both figures lie in 0..2^31-1.
     pub fn in_range(self) -> bool
-        ensures { result ≡ rttOk self }
+        ensures { result ≡ rtt_ok self }
     {
         (self.mean < 0x8000_0000) & (self.variance < 0x8000_0000)
     }

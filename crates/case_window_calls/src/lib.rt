@@ -1,7 +1,7 @@
 // One call of the window each, behind range tests of its own, with its answer in the words of 01's trace lines, without their numbers. For case_window.
 ghost use Rattle.std.specs.Prelude.{◌≡◌};
-ghost use Rattle.window.specs.Window.{windowOk};
-ghost use Rattle.case_window_calls.specs.Tests.{wordsOk, areasOk, packetOk};
+ghost use Rattle.window.specs.Window.{window_ok};
+ghost use Rattle.case_window_calls.specs.Tests.{words_ok, areas_ok, packet_ok};
 ghost use Rattle.case_window_calls.specs.Ready.{Tested};
 
 use case_print::{
@@ -50,7 +50,7 @@ pub struct State {
 // The range tests: refusals 1, 2 and 5.
 
 fn window_ok(w: Window) -> bool
-    ensures { result ≡ windowOk w }
+    ensures { result ≡ window_ok w }
 {
     (1 <= w.capacity)
         & (w.capacity <= 8192)
@@ -61,19 +61,19 @@ fn window_ok(w: Window) -> bool
 }
 
 fn words_ok(capacity: usize, len: usize) -> bool
-    ensures { result ≡ wordsOk capacity len }
+    ensures { result ≡ words_ok capacity len }
 {
     capacity <= len / 3
 }
 
 fn areas_ok(capacity: usize, words: usize, bytes: usize) -> bool
-    ensures { result ≡ areasOk capacity words bytes }
+    ensures { result ≡ areas_ok capacity words bytes }
 {
     (capacity <= words / 3) & (capacity <= bytes / 1456)
 }
 
 fn packet_ok(p: Packet) -> bool
-    ensures { result ≡ packetOk p }
+    ensures { result ≡ packet_ok p }
 {
     (p.number < 0x8000_0000) & (p.message < 0x400_0000) & (p.location < 4)
 }

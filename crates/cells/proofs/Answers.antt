@@ -17,10 +17,10 @@ use Rattle.upkeep.specs.declared.show.ShowAnswer.TheVariants as shows
 use Rattle.feedback.specs.declared.sync.ClockAnswer.{ClockAnswer}
 use Rattle.feedback.specs.declared.acking.FullAckAnswer.{FullAckAnswer}
 use Rattle.feedback.specs.declared.acking.RttAnswer.{RttAnswer}
-use Rattle.receiver.specs.Paper.{dataLine, messageLine}
-use Rattle.feedback.specs.Paper.{lossLine, fullAckLine, rttLine, clockLine}
-use Rattle.upkeep.specs.Paper.{shownLine, dropLine, clearLine, roomLine}
-use Rattle.cells.specs.Cells.{cells_of, countLine, placeLine, lossCells, shownCells, madeCells}
+use Rattle.receiver.specs.Paper.{data_line, message_line}
+use Rattle.feedback.specs.Paper.{loss_line, full_ack_line, rtt_line, clock_line}
+use Rattle.upkeep.specs.Paper.{shown_line, drop_line, clear_line, room_line}
+use Rattle.cells.specs.Cells.{cells_of, count_line, place_line, loss_cells, shown_cells, made_cells}
 use Rattle.cells.proofs.Numbers.{read_back}
 
 -- cells whose values are told one by one
@@ -50,59 +50,59 @@ module _ {k : ℤ} {r : List ℤ} {a a₁ : ℤ} (p : a₁ ≡ a) where
 
 -- each answer by its case
 module _ {r : List ℤ} where
-  pub data-case : (a b : DataAnswer) → a ≡ b → r ≡ cells_of (dataLine b) → r ≡ cells_of (dataLine a)
+  pub data-case : (a b : DataAnswer) → a ≡ b → r ≡ cells_of (data_line b) → r ≡ cells_of (data_line a)
   data-case a b h e = rw h e
 
-  pub message-case : (a b : MessageAnswer) → a ≡ b → r ≡ cells_of (messageLine b) → r ≡ cells_of (messageLine a)
+  pub message-case : (a b : MessageAnswer) → a ≡ b → r ≡ cells_of (message_line b) → r ≡ cells_of (message_line a)
   message-case a b h e = rw h e
 
-  pub loss-case : (a b : LossAnswer) → a ≡ b → r ≡ lossCells b → r ≡ lossCells a
+  pub loss-case : (a b : LossAnswer) → a ≡ b → r ≡ loss_cells b → r ≡ loss_cells a
   loss-case a b h e = rw h e
 
-  pub full-case : (a b : FullAckAnswer) → a ≡ b → r ≡ cells_of (fullAckLine b) → r ≡ cells_of (fullAckLine a)
+  pub full-case : (a b : FullAckAnswer) → a ≡ b → r ≡ cells_of (full_ack_line b) → r ≡ cells_of (full_ack_line a)
   full-case a b h e = rw h e
 
-  pub rtt-case : (a b : RttAnswer) → a ≡ b → r ≡ cells_of (rttLine b) → r ≡ cells_of (rttLine a)
+  pub rtt-case : (a b : RttAnswer) → a ≡ b → r ≡ cells_of (rtt_line b) → r ≡ cells_of (rtt_line a)
   rtt-case a b h e = rw h e
 
-  pub drop-case : (a b : DropAnswer) → a ≡ b → r ≡ cells_of (dropLine b) → r ≡ cells_of (dropLine a)
+  pub drop-case : (a b : DropAnswer) → a ≡ b → r ≡ cells_of (drop_line b) → r ≡ cells_of (drop_line a)
   drop-case a b h e = rw h e
 
-  pub clear-case : (a b : ClearAnswer) → a ≡ b → r ≡ cells_of (clearLine b) → r ≡ cells_of (clearLine a)
+  pub clear-case : (a b : ClearAnswer) → a ≡ b → r ≡ cells_of (clear_line b) → r ≡ cells_of (clear_line a)
   clear-case a b h e = rw h e
 
-  pub room-case : (a b : RoomAnswer) → a ≡ b → r ≡ cells_of (roomLine b) → r ≡ cells_of (roomLine a)
+  pub room-case : (a b : RoomAnswer) → a ≡ b → r ≡ cells_of (room_line b) → r ≡ cells_of (room_line a)
   room-case a b h e = rw h e
 
-  pub clock-case : (a b : ClockAnswer) → a ≡ b → r ≡ cells_of (clockLine b) → r ≡ cells_of (clockLine a)
+  pub clock-case : (a b : ClockAnswer) → a ≡ b → r ≡ cells_of (clock_line b) → r ≡ cells_of (clock_line a)
   clock-case a b h e = rw h e
 
-  pub shown_case : (a b : ShowAnswer) (at len : ℕ) → a ≡ b → r ≡ shownCells b at len → r ≡ shownCells a at len
+  pub shown_case : (a b : ShowAnswer) (at len : ℕ) → a ≡ b → r ≡ shown_cells b at len → r ≡ shown_cells a at len
   shown_case a b at len h e = rw h e
 
-  pub made-head : (n : ℕ) → n ≡ 0 → r ≡ madeCells 0 → r ≡ madeCells n
+  pub made-head : (n : ℕ) → n ≡ 0 → r ≡ made_cells 0 → r ≡ made_cells n
   made-head n h e = rw h e
 
-  pub made_none : (n : ℕ) → (n ≡ 0 → ⊥) → r ≡ madeCells 15 → r ≡ madeCells n
+  pub made_none : (n : ℕ) → (n ≡ 0 → ⊥) → r ≡ made_cells 15 → r ≡ made_cells n
   made_none n h e = rw (ne_eqb n 0 h) e
 
 -- a report's count, and a payload's place, stand for 01's line: the word and the refusal are the line's
-pub count_word : (a : LossAnswer) (list : List ℕ) → (countLine a).word ≡ (lossLine a list).word
+pub count_word : (a : LossAnswer) (list : List ℕ) → (count_line a).word ≡ (loss_line a list).word
 count_word losses.Nothing list = refl
 count_word (losses.Report words) list = refl
 count_word (losses.Refused n) list = refl
 
-pub count-refusal : (a : LossAnswer) (list : List ℕ) → (countLine a).refusal ≡ (lossLine a list).refusal
+pub count-refusal : (a : LossAnswer) (list : List ℕ) → (count_line a).refusal ≡ (loss_line a list).refusal
 count-refusal losses.Nothing list = refl
 count-refusal (losses.Report words) list = refl
 count-refusal (losses.Refused n) list = refl
 
-pub place-word : (a : ShowAnswer) (at len : ℕ) → (placeLine a at len).word ≡ (shownLine a).word
+pub place-word : (a : ShowAnswer) (at len : ℕ) → (place_line a at len).word ≡ (shown_line a).word
 place-word shows.Received at len = refl
 place-word shows.Other at len = refl
 place-word (shows.Refused n) at len = refl
 
-pub place-refusal : (a : ShowAnswer) (at len : ℕ) → (placeLine a at len).refusal ≡ (shownLine a).refusal
+pub place-refusal : (a : ShowAnswer) (at len : ℕ) → (place_line a at len).refusal ≡ (shown_line a).refusal
 place-refusal shows.Received at len = refl
 place-refusal shows.Other at len = refl
 place-refusal (shows.Refused n) at len = refl

@@ -36,10 +36,10 @@ use Rattle.feedback.specs.declared.acking.FullAckAnswer.{FullAckAnswer}
 use Rattle.feedback.specs.declared.acking.FullAckAnswer.TheVariants as acks
 use Rattle.feedback.specs.declared.acking.RttAnswer.{RttAnswer}
 use Rattle.feedback.specs.declared.acking.RttAnswer.TheVariants as rtts
-use Rattle.receiver.specs.Paper.{dataLine, messageLine}
-use Rattle.feedback.specs.Paper.{rateValue, fullAckLine, rttLine, clockLine}
-use Rattle.upkeep.specs.Paper.{dropLine, clearLine, roomLine, shownLine}
-use Rattle.cells.specs.Cells.{cell, valueCell, cells_of, countLine, lossCells, shownCells}
+use Rattle.receiver.specs.Paper.{data_line, message_line}
+use Rattle.feedback.specs.Paper.{rate_value, full_ack_line, rtt_line, clock_line}
+use Rattle.upkeep.specs.Paper.{drop_line, clear_line, room_line, shown_line}
+use Rattle.cells.specs.Cells.{cell, value_cell, cells_of, count_line, loss_cells, shown_cells}
 use Rattle.cells.proofs.Numbers.{cell_same, cell-wraps, cell-low}
 
 -- cell i
@@ -81,23 +81,23 @@ DataFits (datas.Loss first last) = (first < 2 ^ 64) × (last < 2 ^ 64)
 DataFits (datas.Refused n) = n ≡ 8 → ⊥
 DataFits (datas.PacketTooEarly places need) = (places < 2 ^ 64) × (need < 2 ^ 64)
 
-abbrev dataBack : ℕ → List ℤ → DataAnswer
-dataBack n zs =
+abbrev data_back : ℕ → List ℤ → DataAnswer
+data_back n zs =
     cond (coded zs 0) (datas.Got (natural zs 1) (holds (natural zs 2)))
     (cond (coded zs 1) (datas.Light (natural zs 1) (holds (natural zs 2)))
     (cond (coded zs 2) (datas.Loss (natural zs 1) (natural zs 2))
     (cond (eqb n 8) (datas.PacketTooEarly (natural zs 1) (natural zs 2))
     (datas.Refused n))))
 
-data-back : (a : DataAnswer) → DataFits a → dataBack (dataLine a).refusal (cells_of (dataLine a)) ≡ a
+data-back : (a : DataAnswer) → DataFits a → data_back (data_line a).refusal (cells_of (data_line a)) ≡ a
 data-back (datas.Got lrsn recovered) i = rw (back lrsn i, flag-back recovered)
 data-back (datas.Light lrsn recovered) i = rw (back lrsn i, flag-back recovered)
 data-back (datas.Loss first last) i = rw (back first i.0, back last i.1)
 data-back (datas.Refused n) i = rw (ne_eqb n 8 i)
 data-back (datas.PacketTooEarly places need) i = rw (back places i.0, back need i.1)
 
-pub data-injective : (a b : DataAnswer) → DataFits a → DataFits b → cells_of (dataLine a) ≡ cells_of (dataLine b) → (dataLine a).refusal ≡ (dataLine b).refusal → a ≡ b
-data-injective = by-reading (λ a. cells_of (dataLine a)) (λ a. (dataLine a).refusal) DataFits dataBack data-back
+pub data-injective : (a b : DataAnswer) → DataFits a → DataFits b → cells_of (data_line a) ≡ cells_of (data_line b) → (data_line a).refusal ≡ (data_line b).refusal → a ≡ b
+data-injective = by-reading (λ a. cells_of (data_line a)) (λ a. (data_line a).refusal) DataFits data_back data-back
 
 abbrev pub MessageFits : MessageAnswer → Type 0
 MessageFits messages.Nothing = Unit
@@ -105,48 +105,48 @@ MessageFits (messages.Message time bytes packets) = SFits w64 time × (bytes < 2
 MessageFits (messages.Late first end delay) = (first < 2 ^ 64) × (end < 2 ^ 64) × SFits w64 delay
 MessageFits (messages.Refused n) = Unit
 
-abbrev messageBack : ℕ → List ℤ → MessageAnswer
-messageBack n zs =
+abbrev message_back : ℕ → List ℤ → MessageAnswer
+message_back n zs =
     cond (coded zs 13) messages.Nothing
     (cond (coded zs 4) (messages.Message (at zs 1) (natural zs 2) (natural zs 3))
     (cond (coded zs 5) (messages.Late (natural zs 1) (natural zs 2) (at zs 3))
     (messages.Refused n)))
 
-message-back : (a : MessageAnswer) → MessageFits a → messageBack (messageLine a).refusal (cells_of (messageLine a)) ≡ a
+message-back : (a : MessageAnswer) → MessageFits a → message_back (message_line a).refusal (cells_of (message_line a)) ≡ a
 message-back messages.Nothing i = refl
 message-back (messages.Message time bytes packets) i = rw (whole_back time i.0, back bytes i.1, back packets i.2)
 message-back (messages.Late first end delay) i = rw (back first i.0, back end i.1, whole_back delay i.2)
 message-back (messages.Refused n) i = refl
 
-pub message-injective : (a b : MessageAnswer) → MessageFits a → MessageFits b → cells_of (messageLine a) ≡ cells_of (messageLine b) → (messageLine a).refusal ≡ (messageLine b).refusal → a ≡ b
-message-injective = by-reading (λ a. cells_of (messageLine a)) (λ a. (messageLine a).refusal) MessageFits messageBack message-back
+pub message-injective : (a b : MessageAnswer) → MessageFits a → MessageFits b → cells_of (message_line a) ≡ cells_of (message_line b) → (message_line a).refusal ≡ (message_line b).refusal → a ≡ b
+message-injective = by-reading (λ a. cells_of (message_line a)) (λ a. (message_line a).refusal) MessageFits message_back message-back
 
 abbrev pub LossFits : LossAnswer → Type 0
 LossFits losses.Nothing = Unit
 LossFits (losses.Report words) = words < 2 ^ 64
 LossFits (losses.Refused n) = Unit
 
-abbrev lossBack : ℕ → List ℤ → LossAnswer
-lossBack n zs = cond (coded zs 13) losses.Nothing (cond (coded zs 6) (losses.Report (natural zs 1)) (losses.Refused n))
+abbrev loss_back : ℕ → List ℤ → LossAnswer
+loss_back n zs = cond (coded zs 13) losses.Nothing (cond (coded zs 6) (losses.Report (natural zs 1)) (losses.Refused n))
 
-loss-back : (a : LossAnswer) → LossFits a → lossBack (countLine a).refusal (lossCells a) ≡ a
+loss-back : (a : LossAnswer) → LossFits a → loss_back (count_line a).refusal (loss_cells a) ≡ a
 loss-back losses.Nothing i = refl
 loss-back (losses.Report words) i = rw (back words i)
 loss-back (losses.Refused n) i = refl
 
-pub loss-injective : (a b : LossAnswer) → LossFits a → LossFits b → lossCells a ≡ lossCells b → (countLine a).refusal ≡ (countLine b).refusal → a ≡ b
-loss-injective = by-reading lossCells (λ a. (countLine a).refusal) LossFits lossBack loss-back
+pub loss-injective : (a b : LossAnswer) → LossFits a → LossFits b → loss_cells a ≡ loss_cells b → (count_line a).refusal ≡ (count_line b).refusal → a ≡ b
+loss-injective = by-reading loss_cells (λ a. (count_line a).refusal) LossFits loss_back loss-back
 
 -- a rate is below 2^63, so that none is -1
 abbrev pub RateFits : Rate → Type 0
 RateFits Unknown = Unit
 RateFits (PerSecond n) = n < 2 ^ 63
 
-abbrev rateBack : ℤ → Rate
-rateBack (pos n) = PerSecond n
-rateBack (negsuc n) = Unknown
+abbrev rate_back : ℤ → Rate
+rate_back (pos n) = PerSecond n
+rate_back (negsuc n) = Unknown
 
-rate-back : (a : Rate) → RateFits a → rateBack (valueCell (rateValue a)) ≡ a
+rate-back : (a : Rate) → RateFits a → rate_back (value_cell (rate_value a)) ≡ a
 rate-back Unknown i = refl
 rate-back (PerSecond n) i = rw (cell-low n i)
 
@@ -156,87 +156,87 @@ FullAckFits (acks.Ack number lrsn mean variance places packets bytes link) =
     (number < 2 ^ 64) × (lrsn < 2 ^ 64) × (mean < 2 ^ 64) × (variance < 2 ^ 64) × (places < 2 ^ 64) × RateFits packets × RateFits bytes × RateFits link
 FullAckFits (acks.Refused n) = Unit
 
-abbrev fullAckBack : ℕ → List ℤ → FullAckAnswer
-fullAckBack n zs =
+abbrev full_ack_back : ℕ → List ℤ → FullAckAnswer
+full_ack_back n zs =
     cond (coded zs 13) acks.Nothing
-    (cond (coded zs 7) (acks.Ack (natural zs 1) (natural zs 2) (natural zs 3) (natural zs 4) (natural zs 5) (rateBack (at zs 6)) (rateBack (at zs 7)) (rateBack (at zs 8)))
+    (cond (coded zs 7) (acks.Ack (natural zs 1) (natural zs 2) (natural zs 3) (natural zs 4) (natural zs 5) (rate_back (at zs 6)) (rate_back (at zs 7)) (rate_back (at zs 8)))
     (acks.Refused n))
 
-full-ack-back : (a : FullAckAnswer) → FullAckFits a → fullAckBack (fullAckLine a).refusal (cells_of (fullAckLine a)) ≡ a
+full-ack-back : (a : FullAckAnswer) → FullAckFits a → full_ack_back (full_ack_line a).refusal (cells_of (full_ack_line a)) ≡ a
 full-ack-back acks.Nothing i = refl
 full-ack-back (acks.Ack number lrsn mean variance places packets bytes link) i =
     rw (back number i.0, back lrsn i.1, back mean i.2, back variance i.3, back places i.4, rate-back packets i.5, rate-back bytes i.6, rate-back link i.7)
 full-ack-back (acks.Refused n) i = refl
 
-pub full-ack-injective : (a b : FullAckAnswer) → FullAckFits a → FullAckFits b → cells_of (fullAckLine a) ≡ cells_of (fullAckLine b) → (fullAckLine a).refusal ≡ (fullAckLine b).refusal → a ≡ b
-full-ack-injective = by-reading (λ a. cells_of (fullAckLine a)) (λ a. (fullAckLine a).refusal) FullAckFits fullAckBack full-ack-back
+pub full-ack-injective : (a b : FullAckAnswer) → FullAckFits a → FullAckFits b → cells_of (full_ack_line a) ≡ cells_of (full_ack_line b) → (full_ack_line a).refusal ≡ (full_ack_line b).refusal → a ≡ b
+full-ack-injective = by-reading (λ a. cells_of (full_ack_line a)) (λ a. (full_ack_line a).refusal) FullAckFits full_ack_back full-ack-back
 
 abbrev pub RttFits : RttAnswer → Type 0
 RttFits rtts.Nothing = Unit
 RttFits (rtts.Rtt mean variance) = (mean < 2 ^ 64) × (variance < 2 ^ 64)
 RttFits (rtts.Refused n) = Unit
 
-abbrev rttBack : ℕ → List ℤ → RttAnswer
-rttBack n zs = cond (coded zs 13) rtts.Nothing (cond (coded zs 8) (rtts.Rtt (natural zs 1) (natural zs 2)) (rtts.Refused n))
+abbrev rtt_back : ℕ → List ℤ → RttAnswer
+rtt_back n zs = cond (coded zs 13) rtts.Nothing (cond (coded zs 8) (rtts.Rtt (natural zs 1) (natural zs 2)) (rtts.Refused n))
 
-rtt-back : (a : RttAnswer) → RttFits a → rttBack (rttLine a).refusal (cells_of (rttLine a)) ≡ a
+rtt-back : (a : RttAnswer) → RttFits a → rtt_back (rtt_line a).refusal (cells_of (rtt_line a)) ≡ a
 rtt-back rtts.Nothing i = refl
 rtt-back (rtts.Rtt mean variance) i = rw (back mean i.0, back variance i.1)
 rtt-back (rtts.Refused n) i = refl
 
-pub rtt-injective : (a b : RttAnswer) → RttFits a → RttFits b → cells_of (rttLine a) ≡ cells_of (rttLine b) → (rttLine a).refusal ≡ (rttLine b).refusal → a ≡ b
-rtt-injective = by-reading (λ a. cells_of (rttLine a)) (λ a. (rttLine a).refusal) RttFits rttBack rtt-back
+pub rtt-injective : (a b : RttAnswer) → RttFits a → RttFits b → cells_of (rtt_line a) ≡ cells_of (rtt_line b) → (rtt_line a).refusal ≡ (rtt_line b).refusal → a ≡ b
+rtt-injective = by-reading (λ a. cells_of (rtt_line a)) (λ a. (rtt_line a).refusal) RttFits rtt_back rtt-back
 
 abbrev pub DropFits : DropAnswer → Type 0
 DropFits (drops.Gone count) = count < 2 ^ 64
 DropFits (drops.Refused n) = Unit
 
-abbrev dropBack : ℕ → List ℤ → DropAnswer
-dropBack n zs = cond (coded zs 9) (drops.Gone (natural zs 1)) (drops.Refused n)
+abbrev drop_back : ℕ → List ℤ → DropAnswer
+drop_back n zs = cond (coded zs 9) (drops.Gone (natural zs 1)) (drops.Refused n)
 
-drop-back : (a : DropAnswer) → DropFits a → dropBack (dropLine a).refusal (cells_of (dropLine a)) ≡ a
+drop-back : (a : DropAnswer) → DropFits a → drop_back (drop_line a).refusal (cells_of (drop_line a)) ≡ a
 drop-back (drops.Gone count) i = rw (back count i)
 drop-back (drops.Refused n) i = refl
 
-pub drop-injective : (a b : DropAnswer) → DropFits a → DropFits b → cells_of (dropLine a) ≡ cells_of (dropLine b) → (dropLine a).refusal ≡ (dropLine b).refusal → a ≡ b
-drop-injective = by-reading (λ a. cells_of (dropLine a)) (λ a. (dropLine a).refusal) DropFits dropBack drop-back
+pub drop-injective : (a b : DropAnswer) → DropFits a → DropFits b → cells_of (drop_line a) ≡ cells_of (drop_line b) → (drop_line a).refusal ≡ (drop_line b).refusal → a ≡ b
+drop-injective = by-reading (λ a. cells_of (drop_line a)) (λ a. (drop_line a).refusal) DropFits drop_back drop-back
 
-abbrev clearBack : ℕ → List ℤ → ClearAnswer
-clearBack n zs = cond (coded zs 12) clears.Cleared (clears.Refused n)
+abbrev clear_back : ℕ → List ℤ → ClearAnswer
+clear_back n zs = cond (coded zs 12) clears.Cleared (clears.Refused n)
 
-clear-back : (a : ClearAnswer) → Unit {0} → clearBack (clearLine a).refusal (cells_of (clearLine a)) ≡ a
+clear-back : (a : ClearAnswer) → Unit {0} → clear_back (clear_line a).refusal (cells_of (clear_line a)) ≡ a
 clear-back clears.Cleared i = refl
 clear-back (clears.Refused n) i = refl
 
-pub clear-injective : (a b : ClearAnswer) → cells_of (clearLine a) ≡ cells_of (clearLine b) → (clearLine a).refusal ≡ (clearLine b).refusal → a ≡ b
-clear-injective a b = by-reading (λ a. cells_of (clearLine a)) (λ a. (clearLine a).refusal) (λ a. Unit {0}) clearBack clear-back a b tt tt
+pub clear-injective : (a b : ClearAnswer) → cells_of (clear_line a) ≡ cells_of (clear_line b) → (clear_line a).refusal ≡ (clear_line b).refusal → a ≡ b
+clear-injective a b = by-reading (λ a. cells_of (clear_line a)) (λ a. (clear_line a).refusal) (λ a. Unit {0}) clear_back clear-back a b tt tt
 
 abbrev pub RoomFits : RoomAnswer → Type 0
 RoomFits (rooms.Room n) = n < 2 ^ 64
 RoomFits (rooms.Refused n) = Unit
 
-abbrev roomBack : ℕ → List ℤ → RoomAnswer
-roomBack n zs = cond (coded zs 15) (rooms.Room (natural zs 1)) (rooms.Refused n)
+abbrev room_back : ℕ → List ℤ → RoomAnswer
+room_back n zs = cond (coded zs 15) (rooms.Room (natural zs 1)) (rooms.Refused n)
 
-room_back : (a : RoomAnswer) → RoomFits a → roomBack (roomLine a).refusal (cells_of (roomLine a)) ≡ a
-room_back (rooms.Room n) i = rw (back n i)
-room_back (rooms.Refused n) i = refl
+room-back : (a : RoomAnswer) → RoomFits a → room_back (room_line a).refusal (cells_of (room_line a)) ≡ a
+room-back (rooms.Room n) i = rw (back n i)
+room-back (rooms.Refused n) i = refl
 
-pub room-injective : (a b : RoomAnswer) → RoomFits a → RoomFits b → cells_of (roomLine a) ≡ cells_of (roomLine b) → (roomLine a).refusal ≡ (roomLine b).refusal → a ≡ b
-room-injective = by-reading (λ a. cells_of (roomLine a)) (λ a. (roomLine a).refusal) RoomFits roomBack room_back
+pub room-injective : (a b : RoomAnswer) → RoomFits a → RoomFits b → cells_of (room_line a) ≡ cells_of (room_line b) → (room_line a).refusal ≡ (room_line b).refusal → a ≡ b
+room-injective = by-reading (λ a. cells_of (room_line a)) (λ a. (room_line a).refusal) RoomFits room_back room-back
 
 -- wherever the payload lies
-abbrev shownBack : ℕ → List ℤ → ShowAnswer
-shownBack n zs = cond (coded zs 16) shows.Received (cond (coded zs 17) shows.Other (shows.Refused n))
+abbrev shown_back : ℕ → List ℤ → ShowAnswer
+shown_back n zs = cond (coded zs 16) shows.Received (cond (coded zs 17) shows.Other (shows.Refused n))
 
-shown-back : (a : ShowAnswer) (place len : ℕ) → shownBack (shownLine a).refusal (shownCells a place len) ≡ a
+shown-back : (a : ShowAnswer) (place len : ℕ) → shown_back (shown_line a).refusal (shown_cells a place len) ≡ a
 shown-back shows.Received place len = refl
 shown-back shows.Other place len = refl
 shown-back (shows.Refused n) place len = refl
 
-pub shown-injective : (a b : ShowAnswer) (p l q m : ℕ) → shownCells a p l ≡ shownCells b q m → (shownLine a).refusal ≡ (shownLine b).refusal → a ≡ b
+pub shown-injective : (a b : ShowAnswer) (p l q m : ℕ) → shown_cells a p l ≡ shown_cells b q m → (shown_line a).refusal ≡ (shown_line b).refusal → a ≡ b
 shown-injective a b p l q m e f =
-    sym (shown-back a p l) ∙ (ap (λ (n : ℕ). shownBack n (shownCells a p l)) f ∙ ap (shownBack (shownLine b).refusal) e ∙ shown-back b q m)
+    sym (shown-back a p l) ∙ (ap (λ (n : ℕ). shown_back n (shown_cells a p l)) f ∙ ap (shown_back (shown_line b).refusal) e ∙ shown-back b q m)
 
 -- an f64 of the machine
 abbrev pub ClockFits : ClockAnswer → Type 0
@@ -245,8 +245,8 @@ ClockFits (clocks.Adjusted mean deviation) = SFits w64 mean × (deviation < 2 ^ 
 ClockFits (clocks.Unsteady deviation v) = (deviation < 2 ^ 64) × T (fits binary64 v)
 ClockFits (clocks.Refused n) = Unit
 
-abbrev clockBack : ℕ → List ℤ → ClockAnswer
-clockBack n zs =
+abbrev clock_back : ℕ → List ℤ → ClockAnswer
+clock_back n zs =
     cond (coded zs 13) clocks.Nothing
     (cond (coded zs 10) (clocks.Adjusted (at zs 1) (natural zs 2))
     (cond (coded zs 11) (clocks.Unsteady (natural zs 1) (of_bits binary64 (natural zs 9)))
@@ -255,11 +255,11 @@ clockBack n zs =
 bits_back : (v : Float) → T (fits binary64 v) → of_bits binary64 (wrap 64 (cell (pos (to_bits binary64 v)))) ≡ v
 bits_back v f = rw (back (to_bits binary64 v) (to_bits-lt binary64 v f)) (of_bits-to_bits binary64 v f)
 
-clock-back : (a : ClockAnswer) → ClockFits a → clockBack (clockLine a).refusal (cells_of (clockLine a)) ≡ a
+clock-back : (a : ClockAnswer) → ClockFits a → clock_back (clock_line a).refusal (cells_of (clock_line a)) ≡ a
 clock-back clocks.Nothing i = refl
 clock-back (clocks.Adjusted mean deviation) i = rw (whole_back mean i.0, back deviation i.1)
 clock-back (clocks.Unsteady deviation v) i = rw (back deviation i.0, bits_back v i.1)
 clock-back (clocks.Refused n) i = refl
 
-pub clock-injective : (a b : ClockAnswer) → ClockFits a → ClockFits b → cells_of (clockLine a) ≡ cells_of (clockLine b) → (clockLine a).refusal ≡ (clockLine b).refusal → a ≡ b
-clock-injective = by-reading (λ a. cells_of (clockLine a)) (λ a. (clockLine a).refusal) ClockFits clockBack clock-back
+pub clock-injective : (a b : ClockAnswer) → ClockFits a → ClockFits b → cells_of (clock_line a) ≡ cells_of (clock_line b) → (clock_line a).refusal ≡ (clock_line b).refusal → a ≡ b
+clock-injective = by-reading (λ a. cells_of (clock_line a)) (λ a. (clock_line a).refusal) ClockFits clock_back clock-back

@@ -18,8 +18,8 @@ use Rattle.numbers.proofs.Halves.{same, in-range, above--, below--}
 use Rattle.numbers.proofs.Signs.{signed_low, signed-only, widens}
 use Rattle.intervals.specs.declared.rates.Rate.{Rate}
 use Rattle.head.specs.Paper.{flag}
-use Rattle.feedback.specs.Paper.{rateValue}
-use Rattle.cells.specs.Cells.{cell, valueCell}
+use Rattle.feedback.specs.Paper.{rate_value}
+use Rattle.cells.specs.Cells.{cell, value_cell}
 
 -- a number that fits an i64 is its own cell
 pub cell_same : (z : ℤ) → SFits w64 z → z ≡ cell z
@@ -104,10 +104,10 @@ no_nan (inf s) e = tt
 no_nan (fin s m x) e = tt
 
 -- one if it holds
-pub flag-set : (b : Bool) → b ≡ true → pos 1 ≡ valueCell (flag b)
+pub flag-set : (b : Bool) → b ≡ true → pos 1 ≡ value_cell (flag b)
 flag-set b e = rw e (sym (cell-low 1 (omega arith)))
 
-pub flag-clear : (b : Bool) → b ≡ false → pos 0 ≡ valueCell (flag b)
+pub flag-clear : (b : Bool) → b ≡ false → pos 0 ≡ value_cell (flag b)
 flag-clear b e = rw e (sym (cell-low 0 (omega arith)))
 
 -- exact
@@ -115,7 +115,7 @@ pub exact-bits : (v : Float) (n : ℕ) {z z₁ : ℤ} → n ≡ to_bits binary64
 exact-bits v n e p q = q ∙ p ∙ ap (λ (k : ℕ). cell (pos k)) e
 
 -- a rate
-pub rate-case : (s t : Rate) → s ≡ t → {z : ℤ} → z ≡ valueCell (rateValue t) → z ≡ valueCell (rateValue s)
+pub rate-case : (s t : Rate) → s ≡ t → {z : ℤ} → z ≡ value_cell (rate_value t) → z ≡ value_cell (rate_value s)
 rate-case s t e p = rw e p
 
 pub read_back : {x z z₁ : ℤ} → z₁ ≡ z → z ≡ x → z₁ ≡ x

@@ -8,7 +8,7 @@ use Rattle.feedback.specs.declared.loss.LossAnswer.{LossAnswer}
 use Rattle.feedback.specs.declared.loss.LossAnswer.TheVariants as losses
 use Rattle.upkeep.specs.declared.show.ShowAnswer.{ShowAnswer}
 use Rattle.upkeep.specs.declared.show.ShowAnswer.TheVariants as shows
-use Rattle.head.specs.Paper.{Word, got, light, loss, refused, message, late, report, ack, rtt, gone, adjusted, unsteady, clear, none, made, room, received, other, Value, whole, dash, plain, Line, said, refusedBy}
+use Rattle.head.specs.Paper.{Word, got, light, loss, refused, message, late, report, ack, rtt, gone, adjusted, unsteady, clear, none, made, room, received, other, Value, whole, dash, plain, Line, said, refused_by}
 
 -- a word's code is its place among the words
 abbrev pub code_of : Word → ℕ
@@ -36,45 +36,45 @@ unfoldable pub cell : ℤ → ℤ
 cell z = signed 64 (wrap 64 z)
 
 -- `-` is -1
-abbrev pub valueCell : Value → ℤ
-valueCell (whole z) = cell z
-valueCell dash = negsuc 0
+abbrev pub value_cell : Value → ℤ
+value_cell (whole z) = cell z
+value_cell dash = negsuc 0
 
 -- n cells of values, 0 behind the last
 abbrev pub padded : ℕ → List Value → List ℤ
 padded zero vs = []
 padded (suc n) [] = pos 0 ∷ padded n []
-padded (suc n) (v ∷ vs) = valueCell v ∷ padded n vs
+padded (suc n) (v ∷ vs) = value_cell v ∷ padded n vs
 
 -- the bits of the first f64, 0 if there is none; a NaN's are 0x7ff8000000000000
-abbrev pub exactCell : List Float → ℤ
-exactCell [] = pos 0
-exactCell (x ∷ xs) = cell (pos (to_bits binary64 x))
+abbrev pub exact_cell : List Float → ℤ
+exact_cell [] = pos 0
+exact_cell (x ∷ xs) = cell (pos (to_bits binary64 x))
 
 abbrev pub cells_of : Line → List ℤ
-cells_of l = pos (code_of l.word) ∷ padded 8 l.values ++ exactCell l.exact ∷ []
+cells_of l = pos (code_of l.word) ∷ padded 8 l.values ++ exact_cell l.exact ∷ []
 
 -- a report with the count of its words in their place: they are the first of the lent list
-abbrev pub countLine : LossAnswer → Line
-countLine losses.Nothing = said none []
-countLine (losses.Report words) = said report (plain words ∷ [])
-countLine (losses.Refused n) = refusedBy n []
+abbrev pub count_line : LossAnswer → Line
+count_line losses.Nothing = said none []
+count_line (losses.Report words) = said report (plain words ∷ [])
+count_line (losses.Refused n) = refused_by n []
 
-abbrev pub lossCells : LossAnswer → List ℤ
-lossCells a = cells_of (countLine a)
+abbrev pub loss_cells : LossAnswer → List ℤ
+loss_cells a = cells_of (count_line a)
 
 -- a payload that is there with its place in the payload area: where it begins, and its length
-abbrev pub placeLine : ShowAnswer → ℕ → ℕ → Line
-placeLine shows.Received at len = said received (plain at ∷ plain len ∷ [])
-placeLine shows.Other at len = said other []
-placeLine (shows.Refused n) at len = refusedBy n []
+abbrev pub place_line : ShowAnswer → ℕ → ℕ → Line
+place_line shows.Received at len = said received (plain at ∷ plain len ∷ [])
+place_line shows.Other at len = said other []
+place_line (shows.Refused n) at len = refused_by n []
 
-abbrev pub shownCells : ShowAnswer → ℕ → ℕ → List ℤ
-shownCells a at len = cells_of (placeLine a at len)
+abbrev pub shown_cells : ShowAnswer → ℕ → ℕ → List ℤ
+shown_cells a at len = cells_of (place_line a at len)
 
 -- making answers a head, or its refusal
-abbrev pub makingLine : ℕ → Line
-makingLine n = cond (eqb n 0) (said made []) (refusedBy n [])
+abbrev pub making_line : ℕ → Line
+making_line n = cond (eqb n 0) (said made []) (refused_by n [])
 
-abbrev pub madeCells : ℕ → List ℤ
-madeCells n = cells_of (makingLine n)
+abbrev pub made_cells : ℕ → List ℤ
+made_cells n = cells_of (making_line n)

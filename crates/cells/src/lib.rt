@@ -4,10 +4,10 @@ ghost use Rattle.std.specs.Prelude.{◌≡◌, [], ◌∷◌, pos};
 ghost use Rattle.std.specs.Float.{binary64};
 ghost use Rattle.std.specs.Float.Ieee.{to_bits};
 ghost use Rattle.head.specs.Paper.{flag};
-ghost use Rattle.receiver.specs.Paper.{dataLine, messageLine};
-ghost use Rattle.feedback.specs.Paper.{rateValue, fullAckLine, rttLine, clockLine};
-ghost use Rattle.upkeep.specs.Paper.{dropLine, clearLine, roomLine, shownLine};
-ghost use Rattle.cells.specs.Cells.{cell, valueCell, cells_of, countLine, lossCells, shownCells, madeCells};
+ghost use Rattle.receiver.specs.Paper.{data_line, message_line};
+ghost use Rattle.feedback.specs.Paper.{rate_value, full_ack_line, rtt_line, clock_line};
+ghost use Rattle.upkeep.specs.Paper.{drop_line, clear_line, room_line, shown_line};
+ghost use Rattle.cells.specs.Cells.{cell, value_cell, cells_of, count_line, loss_cells, shown_cells, made_cells};
 
 use feedback::acking::{FullAckAnswer, RttAnswer};
 use feedback::loss::LossAnswer;
@@ -53,7 +53,7 @@ fn same(z: i64) -> i64
 }
 
 fn flag(b: bool) -> i64
-    ensures { result ≡ valueCell (flag b) }
+    ensures { result ≡ value_cell (flag b) }
 {
     if b { 1 } else { 0 }
 }
@@ -76,7 +76,7 @@ fn exact(v: f64) -> i64
 
 // A rate of an ack; -1 for none.
 fn rate_of(a: Rate) -> i64
-    ensures { result ≡ valueCell (rateValue a) }
+    ensures { result ≡ value_cell (rate_value a) }
 {
     match a {
         Rate::Unknown => -1,
@@ -122,7 +122,7 @@ fn one_exact(code: i64, a: i64, x: i64) -> [i64; 10]
 }
 
 pub fn data_cells(a: DataAnswer) -> [i64; 10]
-    ensures { result ≡ cells_of (dataLine a) }
+    ensures { result ≡ cells_of (data_line a) }
 {
     match a {
         DataAnswer::Got { lrsn, recovered } => two(0, small(lrsn), flag(recovered)),
@@ -134,7 +134,7 @@ pub fn data_cells(a: DataAnswer) -> [i64; 10]
 }
 
 pub fn data_refusal(a: DataAnswer) -> u32
-    ensures { result ≡ (dataLine a).refusal }
+    ensures { result ≡ (data_line a).refusal }
 {
     match a {
         DataAnswer::Got {
@@ -152,7 +152,7 @@ pub fn data_refusal(a: DataAnswer) -> u32
 }
 
 pub fn message_cells(a: MessageAnswer) -> [i64; 10]
-    ensures { result ≡ cells_of (messageLine a) }
+    ensures { result ≡ cells_of (message_line a) }
 {
     match a {
         MessageAnswer::Nothing => none(13),
@@ -169,7 +169,7 @@ pub fn message_cells(a: MessageAnswer) -> [i64; 10]
 }
 
 pub fn message_refusal(a: MessageAnswer) -> u32
-    ensures { result ≡ (messageLine a).refusal }
+    ensures { result ≡ (message_line a).refusal }
 {
     match a {
         MessageAnswer::Nothing => 0,
@@ -189,7 +189,7 @@ pub fn message_refusal(a: MessageAnswer) -> u32
 
 // A report has the count of its words, which are the first of the lent list.
 pub fn loss_cells(a: LossAnswer) -> [i64; 10]
-    ensures { result ≡ lossCells a }
+    ensures { result ≡ loss_cells a }
 {
     match a {
         LossAnswer::Nothing => none(13),
@@ -199,7 +199,7 @@ pub fn loss_cells(a: LossAnswer) -> [i64; 10]
 }
 
 pub fn loss_refusal(a: LossAnswer) -> u32
-    ensures { result ≡ (countLine a).refusal }
+    ensures { result ≡ (count_line a).refusal }
 {
     match a {
         LossAnswer::Nothing => 0,
@@ -209,7 +209,7 @@ pub fn loss_refusal(a: LossAnswer) -> u32
 }
 
 pub fn full_ack_cells(a: FullAckAnswer) -> [i64; 10]
-    ensures { result ≡ cells_of (fullAckLine a) }
+    ensures { result ≡ cells_of (full_ack_line a) }
 {
     match a {
         FullAckAnswer::Nothing => none(13),
@@ -238,7 +238,7 @@ pub fn full_ack_cells(a: FullAckAnswer) -> [i64; 10]
 }
 
 pub fn full_ack_refusal(a: FullAckAnswer) -> u32
-    ensures { result ≡ (fullAckLine a).refusal }
+    ensures { result ≡ (full_ack_line a).refusal }
 {
     match a {
         FullAckAnswer::Nothing => 0,
@@ -257,7 +257,7 @@ pub fn full_ack_refusal(a: FullAckAnswer) -> u32
 }
 
 pub fn rtt_cells(a: RttAnswer) -> [i64; 10]
-    ensures { result ≡ cells_of (rttLine a) }
+    ensures { result ≡ cells_of (rtt_line a) }
 {
     match a {
         RttAnswer::Nothing => none(13),
@@ -267,7 +267,7 @@ pub fn rtt_cells(a: RttAnswer) -> [i64; 10]
 }
 
 pub fn rtt_refusal(a: RttAnswer) -> u32
-    ensures { result ≡ (rttLine a).refusal }
+    ensures { result ≡ (rtt_line a).refusal }
 {
     match a {
         RttAnswer::Nothing => 0,
@@ -280,7 +280,7 @@ pub fn rtt_refusal(a: RttAnswer) -> u32
 }
 
 pub fn drop_cells(a: DropAnswer) -> [i64; 10]
-    ensures { result ≡ cells_of (dropLine a) }
+    ensures { result ≡ cells_of (drop_line a) }
 {
     match a {
         DropAnswer::Gone(count) => one(9, size(count)),
@@ -289,7 +289,7 @@ pub fn drop_cells(a: DropAnswer) -> [i64; 10]
 }
 
 pub fn drop_refusal(a: DropAnswer) -> u32
-    ensures { result ≡ (dropLine a).refusal }
+    ensures { result ≡ (drop_line a).refusal }
 {
     match a {
         DropAnswer::Gone(_) => 0,
@@ -298,7 +298,7 @@ pub fn drop_refusal(a: DropAnswer) -> u32
 }
 
 pub fn clear_cells(a: ClearAnswer) -> [i64; 10]
-    ensures { result ≡ cells_of (clearLine a) }
+    ensures { result ≡ cells_of (clear_line a) }
 {
     match a {
         ClearAnswer::Cleared => none(12),
@@ -307,7 +307,7 @@ pub fn clear_cells(a: ClearAnswer) -> [i64; 10]
 }
 
 pub fn clear_refusal(a: ClearAnswer) -> u32
-    ensures { result ≡ (clearLine a).refusal }
+    ensures { result ≡ (clear_line a).refusal }
 {
     match a {
         ClearAnswer::Cleared => 0,
@@ -316,7 +316,7 @@ pub fn clear_refusal(a: ClearAnswer) -> u32
 }
 
 pub fn room_cells(a: RoomAnswer) -> [i64; 10]
-    ensures { result ≡ cells_of (roomLine a) }
+    ensures { result ≡ cells_of (room_line a) }
 {
     match a {
         RoomAnswer::Room(n) => one(15, size(n)),
@@ -325,7 +325,7 @@ pub fn room_cells(a: RoomAnswer) -> [i64; 10]
 }
 
 pub fn room_refusal(a: RoomAnswer) -> u32
-    ensures { result ≡ (roomLine a).refusal }
+    ensures { result ≡ (room_line a).refusal }
 {
     match a {
         RoomAnswer::Room(_) => 0,
@@ -334,7 +334,7 @@ pub fn room_refusal(a: RoomAnswer) -> u32
 }
 
 pub fn clock_cells(a: ClockAnswer) -> [i64; 10]
-    ensures { result ≡ cells_of (clockLine a) }
+    ensures { result ≡ cells_of (clock_line a) }
 {
     match a {
         ClockAnswer::Nothing => none(13),
@@ -348,7 +348,7 @@ pub fn clock_cells(a: ClockAnswer) -> [i64; 10]
 }
 
 pub fn clock_refusal(a: ClockAnswer) -> u32
-    ensures { result ≡ (clockLine a).refusal }
+    ensures { result ≡ (clock_line a).refusal }
 {
     match a {
         ClockAnswer::Nothing => 0,
@@ -366,7 +366,7 @@ pub fn clock_refusal(a: ClockAnswer) -> u32
 
 // A payload that is there has its place in the payload area: where it begins, and its length.
 pub fn shown_cells(a: ShowAnswer, at: usize, len: usize) -> [i64; 10]
-    ensures { result ≡ shownCells a at len }
+    ensures { result ≡ shown_cells a at len }
 {
     match a {
         ShowAnswer::Received => two(16, size(at), size(len)),
@@ -376,7 +376,7 @@ pub fn shown_cells(a: ShowAnswer, at: usize, len: usize) -> [i64; 10]
 }
 
 pub fn shown_refusal(a: ShowAnswer) -> u32
-    ensures { result ≡ (shownLine a).refusal }
+    ensures { result ≡ (shown_line a).refusal }
 {
     match a {
         ShowAnswer::Received => 0,
@@ -387,7 +387,7 @@ pub fn shown_refusal(a: ShowAnswer) -> u32
 
 // Making answers a head, or its refusal.
 pub fn made_cells(refusal: u32) -> [i64; 10]
-    ensures { result ≡ madeCells refusal }
+    ensures { result ≡ made_cells refusal }
 {
     if refusal == 0 {
         return none(14);

@@ -5,11 +5,11 @@ use lib.Ieee.{Float}
 use lib.Signed.{lt_z}
 use Rattle.numbers.specs.declared.instant.Moment.{Moment}
 use Rattle.numbers.specs.declared.instant.Moment.TheVariants.{Unset, At}
-use Rattle.clock.specs.Base.{freshBase, instantOf, driftOf, inReference, adjusted}
-use Rattle.clock.specs.Samples.{noSamples, sampled, varianceOf, deviationOf, truncatedOf}
-use Rattle.clock.specs.Sync.{freshClock, settled, adjustedBy, judged, sampleTaken, synchronized}
-use Rattle.clock.specs.Release.{laterOf, released, releaseOf}
-use Rattle.clock.specs.Ranges.{lastOk, clockOk}
+use Rattle.clock.specs.Base.{fresh_base, instant_of, drift_of, in_reference, adjusted}
+use Rattle.clock.specs.Samples.{no_samples, sampled, variance_of, deviation_of, truncated_of}
+use Rattle.clock.specs.Sync.{fresh_clock, settled, adjusted_by, judged, sample_taken, synchronized}
+use Rattle.clock.specs.Release.{later_of, released, release_of}
+use Rattle.clock.specs.Ranges.{last_ok, clock_ok}
 use Rattle.clock.specs.declared.base.TimeBase.{TimeBase}
 use Rattle.clock.specs.declared.base.Adjusted.{Adjusted}
 use Rattle.clock.specs.declared.base.Adjusted.TheVariants.{Base, OutOfRange}
@@ -27,26 +27,26 @@ module _ (k : SynchronizedRemoteClock) (now : ℤ) where
   -- adjust_by
   pub out_of_range : (drift : ℤ) (a : Synchronized) {n d : ℤ} {r : Adjusted}
       → r ≡ adjusted k.base n d → n ≡ now → d ≡ drift → r ≡ OutOfRange
-      → step k answers.DriftRange ≡ adjustedBy k now drift a
-  unfolding adjustedBy
+      → step k answers.DriftRange ≡ adjusted_by k now drift a
+  unfolding adjusted_by
   out_of_range drift a e p q o = rw (← p, ← q, ← e, o)
 
   pub based : (drift : ℤ) (a : Synchronized) {n d : ℤ} {r : Adjusted} {b : TimeBase} {s : OnlineStats} {k₁ : SynchronizedRemoteClock}
-      → r ≡ adjusted k.base n d → n ≡ now → d ≡ drift → r ≡ Base b → s ≡ noSamples → k₁ ≡ settled k b s
-      → step k₁ a ≡ adjustedBy k now drift a
-  unfolding adjustedBy
+      → r ≡ adjusted k.base n d → n ≡ now → d ≡ drift → r ≡ Base b → s ≡ no_samples → k₁ ≡ settled k b s
+      → step k₁ a ≡ adjusted_by k now drift a
+  unfolding adjusted_by
   based drift a e p q o f g = rw (← p, ← q, ← e, o, g, f)
 
   -- judge
   pub unsteady : (s : OnlineStats) {v : Float} {d : ℕ} {t : OnlineStats} {k₁ : SynchronizedRemoteClock}
-      → v ≡ varianceOf s → d ≡ deviationOf v → 5000 < d → t ≡ noSamples → k₁ ≡ settled k k.base t
+      → v ≡ variance_of s → d ≡ deviation_of v → 5000 < d → t ≡ no_samples → k₁ ≡ settled k k.base t
       → step k₁ (answers.Unsteady d v) ≡ judged k now s
   unfolding judged
   unsteady s e f h g i = rw (← e, ← f, lt-ltb _ _ h, i, g)
 
   pub steady : (s : OnlineStats) {v : Float} {d : ℕ} {n m m₁ m₂ : ℤ} {r : Step}
-      → v ≡ varianceOf s → d ≡ deviationOf v → d ≤ 5000 → m ≡ truncatedOf s.mean
-      → r ≡ adjustedBy k n m₁ (answers.Adjusted m₂ d) → n ≡ now → m₁ ≡ m → m₂ ≡ m
+      → v ≡ variance_of s → d ≡ deviation_of v → d ≤ 5000 → m ≡ truncated_of s.mean
+      → r ≡ adjusted_by k n m₁ (answers.Adjusted m₂ d) → n ≡ now → m₁ ≡ m → m₂ ≡ m
       → r ≡ judged k now s
   unfolding judged
   steady s e f h g i p q o = rw (← e, ← f, le-ltb _ _ h, ← g, i, p, q, o)
@@ -54,67 +54,67 @@ module _ (k : SynchronizedRemoteClock) (now : ℤ) where
   -- take_sample
   pub sample-kept : (drift : ℤ) {d : ℤ} {s : OnlineStats} {k₁ : SynchronizedRemoteClock}
       → s ≡ sampled k.stats d → d ≡ drift → s.count < 1000 → k₁ ≡ settled k k.base s
-      → step k₁ answers.Nothing ≡ sampleTaken k now drift
-  unfolding sampleTaken
+      → step k₁ answers.Nothing ≡ sample_taken k now drift
+  unfolding sample_taken
   sample-kept drift e p h g = rw (← p, ← e, lt-ltb _ _ h, g)
 
   pub sample-last : (drift : ℤ) {d n : ℤ} {s : OnlineStats} {r : Step}
       → s ≡ sampled k.stats d → d ≡ drift → 1000 ≤ s.count → r ≡ judged k n s → n ≡ now
-      → r ≡ sampleTaken k now drift
-  unfolding sampleTaken
+      → r ≡ sample_taken k now drift
+  unfolding sample_taken
   sample-last drift e p h g q = rw (← p, ← e, le-ltb _ _ h, g, q)
 
   -- synchronize
   pub first-drift : (ts : ℕ) {n n₁ d d₁ : ℤ} {t : Bool} {r : Step}
-      → d ≡ driftOf k.base n ts → n ≡ now → t ≡ k.seen → t ≡ false → r ≡ adjustedBy k n₁ d₁ answers.Nothing → n₁ ≡ now → d₁ ≡ d
+      → d ≡ drift_of k.base n ts → n ≡ now → t ≡ k.seen → t ≡ false → r ≡ adjusted_by k n₁ d₁ answers.Nothing → n₁ ≡ now → d₁ ≡ d
       → r ≡ synchronized k now ts
   unfolding synchronized
   first-drift ts e p s f g q o =
       g
       ∙ rw (q, o, e, p)
-      (ap (λ (t : Bool). cond (not t) (adjustedBy k now (driftOf k.base now ts) answers.Nothing) (sampleTaken k now (driftOf k.base now ts))) (sym f ∙ s))
+      (ap (λ (t : Bool). cond (not t) (adjusted_by k now (drift_of k.base now ts) answers.Nothing) (sample_taken k now (drift_of k.base now ts))) (sym f ∙ s))
 
   pub later-drift : (ts : ℕ) {n n₁ d d₁ : ℤ} {t : Bool} {r : Step}
-      → d ≡ driftOf k.base n ts → n ≡ now → t ≡ k.seen → t ≡ true → r ≡ sampleTaken k n₁ d₁ → n₁ ≡ now → d₁ ≡ d
+      → d ≡ drift_of k.base n ts → n ≡ now → t ≡ k.seen → t ≡ true → r ≡ sample_taken k n₁ d₁ → n₁ ≡ now → d₁ ≡ d
       → r ≡ synchronized k now ts
   unfolding synchronized
   later-drift ts e p s f g q o =
       g
       ∙ rw (q, o, e, p)
-      (ap (λ (t : Bool). cond (not t) (adjustedBy k now (driftOf k.base now ts) answers.Nothing) (sampleTaken k now (driftOf k.base now ts))) (sym f ∙ s))
+      (ap (λ (t : Bool). cond (not t) (adjusted_by k now (drift_of k.base now ts) answers.Nothing) (sample_taken k now (drift_of k.base now ts))) (sym f ∙ s))
 
 -- later
-pub no_last : {m : Moment} {t n : ℤ} → m ≡ Unset → n ≡ t → n ≡ laterOf m t
+pub no_last : {m : Moment} {t n : ℤ} → m ≡ Unset → n ≡ t → n ≡ later_of m t
 no_last e p = rw e p
 
-pub is_later : {m : Moment} {l l₁ t n : ℤ} → m ≡ At l → l₁ ≡ l → n ≡ t → lt_z l₁ n ≡ true → n ≡ laterOf m t
+pub is_later : {m : Moment} {l l₁ t n : ℤ} → m ≡ At l → l₁ ≡ l → n ≡ t → lt_z l₁ n ≡ true → n ≡ later_of m t
 is_later e q p h = rw (e, ← q, ← p, h)
 
-pub is_last : {m : Moment} {l l₁ t n : ℤ} → m ≡ At l → l₁ ≡ l → n ≡ t → lt_z l₁ n ≡ false → l₁ ≡ laterOf m t
+pub is_last : {m : Moment} {l l₁ t n : ℤ} → m ≡ At l → l₁ ≡ l → n ≡ t → lt_z l₁ n ≡ false → l₁ ≡ later_of m t
 is_last e q p h = rw (e, ← q, ← p, h)
 
 -- last_in_range, in_range
-pub last-test : {m : Moment} {l l₁ : ℤ} → m ≡ At l → l₁ ≡ l → lastOk (At l₁) ≡ lastOk m
+pub last-test : {m : Moment} {l l₁ : ℤ} → m ≡ At l → l₁ ≡ l → last_ok (At l₁) ≡ last_ok m
 last-test e p = rw (e, p)
 
 pub range-test : (k : SynchronizedRemoteClock) {r s : Bool} {t : ℤ}
-    → r ≡ inReference t → t ≡ k.base.time → s ≡ lastOk k.last
-    → (r && s && leb k.stats.count 999) ≡ clockOk k
-unfolding clockOk
+    → r ≡ in_reference t → t ≡ k.base.time → s ≡ last_ok k.last
+    → (r && s && leb k.stats.count 999) ≡ clock_ok k
+unfolding clock_ok
 range-test k e p f = rw (e, p, f)
 
 -- monotonic_instant_from
 pub release : (k : SynchronizedRemoteClock) (ts : ℕ) {i i₁ t t₁ : ℤ}
-    → i ≡ instantOf k.base ts → i₁ ≡ i → t ≡ laterOf k.last i₁ → t₁ ≡ t
-    → ◌≡◌ {A = Release} (record { clock = record { base = k.base; last = At t₁; seen = k.seen; stats = k.stats }; time = t₁ }) (releaseOf k ts)
-unfolding releaseOf released
+    → i ≡ instant_of k.base ts → i₁ ≡ i → t ≡ later_of k.last i₁ → t₁ ≡ t
+    → ◌≡◌ {A = Release} (record { clock = record { base = k.base; last = At t₁; seen = k.seen; stats = k.stats }; time = t₁ }) (release_of k ts)
+unfolding release_of released
 release k ts e p f q = rw (q, f, p, e)
 
 -- new
 pub fresh : (start : ℤ) {n : ℤ} {b : TimeBase} {s : OnlineStats}
-    → b ≡ freshBase n → n ≡ start → s ≡ noSamples
-    → ◌≡◌ {A = SynchronizedRemoteClock} (record { base = b; last = Unset; seen = false; stats = s }) (freshClock start)
-unfolding freshClock
+    → b ≡ fresh_base n → n ≡ start → s ≡ no_samples
+    → ◌≡◌ {A = SynchronizedRemoteClock} (record { base = b; last = Unset; seen = false; stats = s }) (fresh_clock start)
+unfolding fresh_clock
 fresh start e p f = rw (e, p, f)
 
 pub ruleset steps = (

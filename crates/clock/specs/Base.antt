@@ -6,24 +6,24 @@ use Rattle.clock.specs.declared.base.Adjusted.{Adjusted}
 use Rattle.clock.specs.declared.base.Adjusted.TheVariants.{Base, OutOfRange}
 
 -- reference time starts at the start time, reference stamp at 0
-unfoldable pub freshBase : ℤ → TimeBase
-freshBase start = record { time = start; stamp = 0 }
+unfoldable pub fresh_base : ℤ → TimeBase
+fresh_base start = record { time = start; stamp = 0 }
 
 -- reference time lies in -2^61..2^61
-abbrev pub inReference : ℤ → Bool
-inReference t = int_le (negsuc (2 ^ 61 - 1)) t && int_le t (pos (2 ^ 61))
+abbrev pub in_reference : ℤ → Bool
+in_reference t = int_le (negsuc (2 ^ 61 - 1)) t && int_le t (pos (2 ^ 61))
 
 -- a stamp's time is reference + signed stamp difference
-unfoldable pub instantOf : TimeBase → ℕ → ℤ
-instantOf b ts = b.time +ℤ difference 32 ts b.stamp
+unfoldable pub instant_of : TimeBase → ℕ → ℤ
+instant_of b ts = b.time +ℤ difference 32 ts b.stamp
 
 -- reference stamp + now - reference: the stamp that stands for now
-unfoldable pub stampOf : TimeBase → ℤ → ℕ
-stampOf b now = wrap 32 (pos b.stamp +ℤ now -ℤ b.time)
+unfoldable pub stamp_of : TimeBase → ℤ → ℕ
+stamp_of b now = wrap 32 (pos b.stamp +ℤ now -ℤ b.time)
 
 -- drift = (reference stamp + now - reference) - ts
-unfoldable pub driftOf : TimeBase → ℤ → ℕ → ℤ
-driftOf b now ts = difference 32 (stampOf b now) ts
+unfoldable pub drift_of : TimeBase → ℤ → ℕ → ℤ
+drift_of b now ts = difference 32 (stamp_of b now) ts
 
 -- adjusting subtracts the drift from the reference time
 unfoldable pub shifted : TimeBase → ℤ → TimeBase
@@ -31,9 +31,9 @@ shifted b drift = record { time = b.time -ℤ drift; stamp = b.stamp }
 
 -- if now is then after it, time and stamp both move to now
 unfoldable pub moved : TimeBase → ℤ → TimeBase
-moved b now = cond (int_lt b.time now) (record { time = now; stamp = stampOf b now }) b
+moved b now = cond (int_lt b.time now) (record { time = now; stamp = stamp_of b now }) b
 
 -- refusal 14: the adjusted reference time would end out of range
 unfoldable pub adjusted : TimeBase → ℤ → ℤ → Adjusted
 adjusted b now drift =
-    cond (inReference (moved (shifted b drift) now).time) (Base (moved (shifted b drift) now)) OutOfRange
+    cond (in_reference (moved (shifted b drift) now).time) (Base (moved (shifted b drift) now)) OutOfRange

@@ -2,14 +2,14 @@
 use Rattle.std.specs.Prelude.{◌+◌, ◌-◌, ◌^◌, Bool, true, ◌&&◌, pos, negsuc, int_le, nat_le}
 use Rattle.numbers.specs.declared.instant.Moment.{Moment}
 use Rattle.numbers.specs.declared.instant.Moment.TheVariants.{Unset, At}
-use Rattle.clock.specs.Base.{inReference}
+use Rattle.clock.specs.Base.{in_reference}
 use Rattle.clock.specs.declared.time.SynchronizedRemoteClock.{SynchronizedRemoteClock}
 
 -- last released time within 2^61 + 2^31 of zero
-abbrev pub lastOk : Moment → Bool
-lastOk Unset = true
-lastOk (At t) = int_le (negsuc (2 ^ 61 + 2 ^ 31 - 1)) t && int_le t (pos (2 ^ 61 + 2 ^ 31))
+abbrev pub last_ok : Moment → Bool
+last_ok Unset = true
+last_ok (At t) = int_le (negsuc (2 ^ 61 + 2 ^ 31 - 1)) t && int_le t (pos (2 ^ 61 + 2 ^ 31))
 
 -- reference time, last released time, and drift samples 0..999
-unfoldable pub clockOk : SynchronizedRemoteClock → Bool
-clockOk k = inReference k.base.time && lastOk k.last && nat_le k.stats.count 999
+unfoldable pub clock_ok : SynchronizedRemoteClock → Bool
+clock_ok k = in_reference k.base.time && last_ok k.last && nat_le k.stats.count 999

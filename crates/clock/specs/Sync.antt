@@ -1,8 +1,8 @@
 -- The clock call: 01, "Clock". What it answers, and the clock after it.
 use Rattle.std.specs.Prelude.{ℕ, true, false, cond, not, ℤ, nat_lt}
 use Rattle.numbers.specs.declared.instant.Moment.TheVariants.{Unset}
-use Rattle.clock.specs.Base.{freshBase, driftOf, adjusted}
-use Rattle.clock.specs.Samples.{noSamples, sampled, varianceOf, deviationOf, truncatedOf}
+use Rattle.clock.specs.Base.{fresh_base, drift_of, adjusted}
+use Rattle.clock.specs.Samples.{no_samples, sampled, variance_of, deviation_of, truncated_of}
 use Rattle.clock.specs.declared.base.TimeBase.{TimeBase}
 use Rattle.clock.specs.declared.base.Adjusted.{Adjusted}
 use Rattle.clock.specs.declared.base.Adjusted.TheVariants.{Base, OutOfRange}
@@ -13,33 +13,33 @@ use Rattle.clock.specs.declared.time.Synchronized.{Synchronized}
 use Rattle.clock.specs.declared.time.Synchronized.TheVariants as answers
 
 -- fresh: counts and sums 0, optional times unset, no drift seen
-unfoldable pub freshClock : ℤ → SynchronizedRemoteClock
-freshClock start = record { base = freshBase start; last = Unset; seen = false; stats = noSamples }
+unfoldable pub fresh_clock : ℤ → SynchronizedRemoteClock
+fresh_clock start = record { base = fresh_base start; last = Unset; seen = false; stats = no_samples }
 
 -- the clock with this base and these samples, after a drift
 abbrev pub settled : SynchronizedRemoteClock → TimeBase → OnlineStats → SynchronizedRemoteClock
 settled k b s = record { base = b; last = k.last; seen = true; stats = s }
 
 -- the adjusted clock, its samples emptied, and the answer; or refusal 14, and the clock stays
-abbrev pub afterAdjusting : SynchronizedRemoteClock → Synchronized → Adjusted → Step
-afterAdjusting k answer (Base b) = record { clock = settled k b noSamples; answer = answer }
-afterAdjusting k answer OutOfRange = record { clock = k; answer = answers.DriftRange }
+abbrev pub after_adjusting : SynchronizedRemoteClock → Synchronized → Adjusted → Step
+after_adjusting k answer (Base b) = record { clock = settled k b no_samples; answer = answer }
+after_adjusting k answer OutOfRange = record { clock = k; answer = answers.DriftRange }
 
-unfoldable pub adjustedBy : SynchronizedRemoteClock → ℤ → ℤ → Synchronized → Step
-adjustedBy k now drift answer = afterAdjusting k answer (adjusted k.base now drift)
+unfoldable pub adjusted_by : SynchronizedRemoteClock → ℤ → ℤ → Synchronized → Step
+adjusted_by k now drift answer = after_adjusting k answer (adjusted k.base now drift)
 
 -- samples are emptied; deviation over 5,000 answers unsteady, with v itself; else adjust, by the mean in the answer
 unfoldable pub judged : SynchronizedRemoteClock → ℤ → OnlineStats → Step
 judged k now s =
-    let v = varianceOf s in
-    let mean = truncatedOf s.mean in
-    cond (nat_lt 5000 (deviationOf v))
-    (record { clock = settled k k.base noSamples; answer = answers.Unsteady (deviationOf v) v })
-    (adjustedBy k now mean (answers.Adjusted mean (deviationOf v)))
+    let v = variance_of s in
+    let mean = truncated_of s.mean in
+    cond (nat_lt 5000 (deviation_of v))
+    (record { clock = settled k k.base no_samples; answer = answers.Unsteady (deviation_of v) v })
+    (adjusted_by k now mean (answers.Adjusted mean (deviation_of v)))
 
 -- then samples enter; at 1,000 they are judged
-unfoldable pub sampleTaken : SynchronizedRemoteClock → ℤ → ℤ → Step
-sampleTaken k now drift =
+unfoldable pub sample_taken : SynchronizedRemoteClock → ℤ → ℤ → Step
+sample_taken k now drift =
     cond (nat_lt (sampled k.stats drift).count 1000)
     (record { clock = settled k k.base (sampled k.stats drift); answer = answers.Nothing })
     (judged k now (sampled k.stats drift))
@@ -47,5 +47,5 @@ sampleTaken k now drift =
 -- the first drift adjusts at once, answering none
 unfoldable pub synchronized : SynchronizedRemoteClock → ℤ → ℕ → Step
 synchronized k now ts =
-    let drift = driftOf k.base now ts in
-    cond (not k.seen) (adjustedBy k now drift answers.Nothing) (sampleTaken k now drift)
+    let drift = drift_of k.base now ts in
+    cond (not k.seen) (adjusted_by k now drift answers.Nothing) (sample_taken k now drift)

@@ -1,6 +1,6 @@
 // The time base, base.rs: 01, "Clock", as far as "both move to `now`".
 ghost use Rattle.std.specs.Prelude.{◌≡◌, ◌+◌, ◌^◌, ◌<◌, ◌≤◌, unsigned_abs};
-ghost use Rattle.clock.specs.Base.{freshBase, instantOf, stampOf, driftOf, inReference, shifted, adjusted};
+ghost use Rattle.clock.specs.Base.{fresh_base, instant_of, stamp_of, drift_of, in_reference, shifted, adjusted};
 
 // The reference: one point as a time of the receiver and as a stamp of the sender.
 #[derive(Drop)]
@@ -17,14 +17,14 @@ pub enum Adjusted {
 
 // Reference time lies in -2^61..2^61.
 pub fn in_reference(t: i64) -> bool
-    ensures { result ≡ inReference t }
+    ensures { result ≡ in_reference t }
 {
     (-0x2000_0000_0000_0000 <= t) & (t <= 0x2000_0000_0000_0000)
 }
 
 impl TimeBase {
     pub fn new(start: i64) -> Self
-        ensures { result ≡ freshBase start }
+        ensures { result ≡ fresh_base start }
     {
         TimeBase {
             time: start,
@@ -34,7 +34,7 @@ impl TimeBase {
 
     pub fn instant_from(self, ts: u32) -> i64
         requires { unsigned_abs self.time ≤ 2 ^ 61 }
-        ensures { result ≡ instantOf self ts }
+        ensures { result ≡ instant_of self ts }
     {
         self.time + numbers::stamp::difference(ts, self.stamp) as i64
     }
@@ -42,14 +42,14 @@ impl TimeBase {
     // The stamp that stands for `now`. The time may be one that a drift was just taken off.
     pub fn timestamp_from(self, now: i64) -> u32
         requires { (unsigned_abs self.time ≤ 2 ^ 61 + 2 ^ 31) × (unsigned_abs now < 2 ^ 60) }
-        ensures { result ≡ stampOf self now }
+        ensures { result ≡ stamp_of self now }
     {
         numbers::stamp::wrap(self.stamp as i64 + now - self.time)
     }
 
     pub fn drift(self, now: i64, ts: u32) -> i32
         requires { (unsigned_abs self.time ≤ 2 ^ 61) × (unsigned_abs now < 2 ^ 60) }
-        ensures { result ≡ driftOf self now ts }
+        ensures { result ≡ drift_of self now ts }
     {
         numbers::stamp::difference(self.timestamp_from(now), ts)
     }

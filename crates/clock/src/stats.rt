@@ -1,6 +1,6 @@
 // The drift's samples, the Rust's OnlineStats: 01, "Clock", from "Then samples enter" to "that end)".
 ghost use Rattle.std.specs.Prelude.{◌≡◌, ◌<◌};
-ghost use Rattle.clock.specs.Samples.{noSamples, sampled, varianceOf, deviationOf, truncatedOf};
+ghost use Rattle.clock.specs.Samples.{no_samples, sampled, variance_of, deviation_of, truncated_of};
 
 // A running mean and a running sum of squares.
 #[derive(Drop)]
@@ -12,7 +12,7 @@ pub struct OnlineStats {
 
 impl OnlineStats {
     pub fn new() -> Self
-        ensures { result ≡ noSamples }
+        ensures { result ≡ no_samples }
     {
         OnlineStats {
             mean: 0.0,
@@ -38,7 +38,7 @@ impl OnlineStats {
     }
 
     pub fn variance(self) -> f64
-        ensures { result ≡ varianceOf self }
+        ensures { result ≡ variance_of self }
     {
         self.squares / (self.count as f64)
     }
@@ -46,7 +46,7 @@ impl OnlineStats {
 
 // The whole square root of a variance's whole part. The tests are those under which `std` truncates.
 pub fn deviation(v: f64) -> u32
-    ensures { result ≡ deviationOf v }
+    ensures { result ≡ deviation_of v }
 {
     if v > -1.0 {
         if v < 18446744073709551616.0 {
@@ -59,7 +59,7 @@ pub fn deviation(v: f64) -> u32
 
 // A mean truncated to signed 32 bits.
 pub fn truncated(m: f64) -> i32
-    ensures { result ≡ truncatedOf m }
+    ensures { result ≡ truncated_of m }
 {
     if m >= -9223372036854775808.0 {
         if m < 9223372036854775808.0 {

@@ -1,9 +1,9 @@
 // The clock of the receiver, receiver/time.rs: 01, "Clock", and the release time of "Window".
 ghost use Rattle.std.specs.Prelude.{◌≡◌, ◌^◌, ◌<◌, ◌≤◌, unsigned_abs};
-ghost use Rattle.clock.specs.Sync.{freshClock, settled, adjustedBy, judged, sampleTaken, synchronized};
+ghost use Rattle.clock.specs.Sync.{fresh_clock, settled, adjusted_by, judged, sample_taken, synchronized};
 ghost use Rattle.clock.specs.Ready.{Ready};
-ghost use Rattle.clock.specs.Release.{laterOf, releaseOf};
-ghost use Rattle.clock.specs.Ranges.{lastOk, clockOk};
+ghost use Rattle.clock.specs.Release.{later_of, release_of};
+ghost use Rattle.clock.specs.Ranges.{last_ok, clock_ok};
 
 use crate::base::{Adjusted, TimeBase};
 use crate::stats::OnlineStats;
@@ -40,7 +40,7 @@ pub struct Release {
 
 // The later of a time and the last one, if there was one.
 fn later(last: Moment, time: i64) -> i64
-    ensures { result ≡ laterOf last time }
+    ensures { result ≡ later_of last time }
 {
     let Moment::At(l) = last else {
         return time;
@@ -54,7 +54,7 @@ impl SynchronizedRemoteClock {
     pub const DRIFT_DEVIATION_TOLERANCE: u32 = 5_000;
 
     pub fn new(start: i64) -> Self
-        ensures { result ≡ freshClock start }
+        ensures { result ≡ fresh_clock start }
     {
         SynchronizedRemoteClock {
             base: TimeBase::new(start),
@@ -80,7 +80,7 @@ impl SynchronizedRemoteClock {
     // Adjusts by a drift, with the answer to give then.
     fn adjust_by(self, now: i64, drift: i32, answer: Synchronized) -> Step
         requires { Ready self now }
-        ensures { result ≡ adjustedBy self now drift answer }
+        ensures { result ≡ adjusted_by self now drift answer }
     {
         let base = self.base;
         let adjusted = base.adjust(now, drift);
@@ -117,7 +117,7 @@ impl SynchronizedRemoteClock {
 
     fn take_sample(self, now: i64, drift: i32) -> Step
         requires { Ready self now }
-        ensures { result ≡ sampleTaken self now drift }
+        ensures { result ≡ sample_taken self now drift }
     {
         let base = self.base;
         let held = self.stats;
@@ -147,7 +147,7 @@ impl SynchronizedRemoteClock {
     // The time at which an entry with this stamp is released: never before the last one.
     pub fn monotonic_instant_from(self, ts: u32) -> Release
         requires { unsigned_abs self.base.time ≤ 2 ^ 61 }
-        ensures { result ≡ releaseOf self ts }
+        ensures { result ≡ release_of self ts }
     {
         let base = self.base;
         let last = self.last;
@@ -164,7 +164,7 @@ impl SynchronizedRemoteClock {
 
     // The head's range test, of this part of it.
     pub fn in_range(self) -> bool
-        ensures { result ≡ clockOk self }
+        ensures { result ≡ clock_ok self }
     {
         let last = self.last;
         let reference = crate::base::in_reference(self.base.time);
@@ -174,7 +174,7 @@ impl SynchronizedRemoteClock {
 
 // The last released time lies within 2^61 + 2^31 of zero, if there was one.
 fn last_in_range(last: Moment) -> bool
-    ensures { result ≡ lastOk last }
+    ensures { result ≡ last_ok last }
 {
     let Moment::At(t) = last else {
         return true;

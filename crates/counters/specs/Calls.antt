@@ -2,13 +2,13 @@
 use Rattle.std.specs.Prelude.{List, ℕ, ℤ, length}
 use Rattle.window.specs.declared.push.Packet.{Packet}
 use Rattle.head.specs.declared.state.Head.{Head}
-use Rattle.feedback.specs.Acking.{FullAckOutcome, Ack2Outcome, ack2CallOf, fullAckCallOf}
-use Rattle.receiver.specs.Data.{DataOutcome, dataCallOf}
-use Rattle.feedback.specs.Loss.{LossOutcome, reportCallOf}
-use Rattle.receiver.specs.Message.{MessageOutcome, popCallOf}
-use Rattle.upkeep.specs.Request.{DropOutcome, ClearOutcome, dropCallOf, clearCallOf}
-use Rattle.feedback.specs.Sync.{ClockOutcome, clockCallOf}
-use Rattle.counts.specs.Counts.{dataCounts, ack2Counts, dropCounts, clockCounts}
+use Rattle.feedback.specs.Acking.{FullAckOutcome, Ack2Outcome, ack2_call_of, full_ack_call_of}
+use Rattle.receiver.specs.Data.{DataOutcome, data_call_of}
+use Rattle.feedback.specs.Loss.{LossOutcome, report_call_of}
+use Rattle.receiver.specs.Message.{MessageOutcome, pop_call_of}
+use Rattle.upkeep.specs.Request.{DropOutcome, ClearOutcome, drop_call_of, clear_call_of}
+use Rattle.feedback.specs.Sync.{ClockOutcome, clock_call_of}
+use Rattle.counts.specs.Counts.{data_counts, ack2_counts, drop_counts, clock_counts}
 use Rattle.counts.specs.declared.Counters.{Counters}
 
 -- all that a call leaves, with its counters
@@ -21,27 +21,27 @@ counted o c = record { outcome = o; counters = c }
 
 module _ (c : Counters) (h : Head) where
   -- those that count
-  abbrev pub dataCounted : List ℕ → List ℕ → ℤ → Packet → List ℕ → Counted DataOutcome
-  dataCounted ws bs now p payload = let o = dataCallOf h ws bs now p payload in counted o (dataCounts c (length payload) o.handled.answer)
+  abbrev pub data_counted : List ℕ → List ℕ → ℤ → Packet → List ℕ → Counted DataOutcome
+  data_counted ws bs now p payload = let o = data_call_of h ws bs now p payload in counted o (data_counts c (length payload) o.handled.answer)
 
-  abbrev pub ack2Counted : List ℕ → ℤ → ℕ → Counted Ack2Outcome
-  ack2Counted a now number = let o = ack2CallOf h a now number in counted o (ack2Counts c o.acked2.answer)
+  abbrev pub ack2_counted : List ℕ → ℤ → ℕ → Counted Ack2Outcome
+  ack2_counted a now number = let o = ack2_call_of h a now number in counted o (ack2_counts c o.acked2.answer)
 
-  abbrev pub dropCounted : List ℕ → ℕ → ℕ → Counted DropOutcome
-  dropCounted ws first last = let o = dropCallOf h ws first last in counted o (dropCounts c o.answer)
+  abbrev pub drop_counted : List ℕ → ℕ → ℕ → Counted DropOutcome
+  drop_counted ws first last = let o = drop_call_of h ws first last in counted o (drop_counts c o.answer)
 
-  abbrev pub clockCounted : ℤ → ℕ → Counted ClockOutcome
-  clockCounted now stamp = let o = clockCallOf h now stamp in counted o (clockCounts c o.clocked.answer)
+  abbrev pub clock_counted : ℤ → ℕ → Counted ClockOutcome
+  clock_counted now stamp = let o = clock_call_of h now stamp in counted o (clock_counts c o.clocked.answer)
 
   -- pops, reports, full ACKs and clears raise nothing
-  abbrev pub messageCounted : List ℕ → List ℕ → List ℕ → ℤ → Counted MessageOutcome
-  messageCounted ws bs out now = counted (popCallOf h ws bs out now) c
+  abbrev pub message_counted : List ℕ → List ℕ → List ℕ → ℤ → Counted MessageOutcome
+  message_counted ws bs out now = counted (pop_call_of h ws bs out now) c
 
-  abbrev pub lossCounted : List ℕ → List ℕ → ℤ → Counted LossOutcome
-  lossCounted ws list now = counted (reportCallOf h ws list now) c
+  abbrev pub loss_counted : List ℕ → List ℕ → ℤ → Counted LossOutcome
+  loss_counted ws list now = counted (report_call_of h ws list now) c
 
-  abbrev pub fullAckCounted : List ℕ → ℤ → Counted FullAckOutcome
-  fullAckCounted a now = counted (fullAckCallOf h a now) c
+  abbrev pub full_ack_counted : List ℕ → ℤ → Counted FullAckOutcome
+  full_ack_counted a now = counted (full_ack_call_of h a now) c
 
-  abbrev pub clearCounted : Counted ClearOutcome
-  clearCounted = counted (clearCallOf h) c
+  abbrev pub clear_counted : Counted ClearOutcome
+  clear_counted = counted (clear_call_of h) c

@@ -1,7 +1,7 @@
 // Full ACKs and ACK2s with the counters, receiver/mod.rs `on_full_ack_event` and `handle_ack2_packet`: 01, "Counters follow 003".
 ghost use Rattle.std.specs.Prelude.{◌≡◌};
-ghost use Rattle.feedback.specs.Acking.{fullAckEnded, ack2Ended};
-ghost use Rattle.counters.specs.Calls.{counted, fullAckCounted, ack2Counted};
+ghost use Rattle.feedback.specs.Acking.{full_ack_ended, ack2_ended};
+ghost use Rattle.counters.specs.Calls.{counted, full_ack_counted, ack2_counted};
 
 use counts::Counters;
 use feedback::acking::{Ack2ed, FullAcked};
@@ -20,7 +20,7 @@ pub struct Ack2Counted {
 }
 
 pub fn handle_ack2_packet(c: Counters, h: Head, area: &[u64], time: i64, number: u32) -> Ack2Counted
-    ensures { counted (ack2Ended result.acked2) result.counters ≡ ack2Counted c h area.now time number }
+    ensures { counted (ack2_ended result.acked2) result.counters ≡ ack2_counted c h area.now time number }
 {
     let acked2 = feedback::acking::handle_ack2_packet(h, area, time, number);
     let answer = acked2.answer;
@@ -30,7 +30,7 @@ pub fn handle_ack2_packet(c: Counters, h: Head, area: &[u64], time: i64, number:
 
 // Counts nothing.
 pub fn on_full_ack_event(c: Counters, h: Head, area: &mut [u64], time: i64) -> FullAckCounted
-    ensures { counted (fullAckEnded result.acked area.new) result.counters ≡ fullAckCounted c h area.old time }
+    ensures { counted (full_ack_ended result.acked area.new) result.counters ≡ full_ack_counted c h area.old time }
 {
     let acked = feedback::acking::on_full_ack_event(h, area, time);
     FullAckCounted { counters: c, acked }

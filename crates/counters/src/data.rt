@@ -1,7 +1,7 @@
 // A data packet with its counters, receiver/mod.rs `handle_data_packet`: 01, "Counters follow 003", "7 to 10 still count in the counters".
 ghost use Rattle.std.specs.Prelude.{◌≡◌};
-ghost use Rattle.receiver.specs.Data.{dataEnded, packet};
-ghost use Rattle.counters.specs.Calls.{counted, dataCounted};
+ghost use Rattle.receiver.specs.Data.{data_ended, packet};
+ghost use Rattle.counters.specs.Calls.{counted, data_counted};
 
 use counts::Counters;
 use head::state::Head;
@@ -25,7 +25,7 @@ pub fn handle_data_packet(
     stamp: u32,
     payload: &[u8],
 ) -> DataCounted
-    ensures { counted (dataEnded result.handled words.new bytes.new) result.counters ≡ dataCounted c h words.old bytes.old time (packet number message location stamp) payload.now }
+    ensures { counted (data_ended result.handled words.new bytes.new) result.counters ≡ data_counted c h words.old bytes.old time (packet number message location stamp) payload.now }
 {
     let size = payload.len();
     let handled = receiver::data::handle_data_packet(

@@ -1,7 +1,7 @@
 // The loss report beside the counters, receiver/mod.rs `on_nak_event`: it counts nothing. 01, "Counters follow 003".
 ghost use Rattle.std.specs.Prelude.{◌≡◌};
-ghost use Rattle.feedback.specs.Loss.{lossEnded};
-ghost use Rattle.counters.specs.Calls.{counted, lossCounted};
+ghost use Rattle.feedback.specs.Loss.{loss_ended};
+ghost use Rattle.counters.specs.Calls.{counted, loss_counted};
 
 use counts::Counters;
 use feedback::loss::Reported;
@@ -20,7 +20,7 @@ pub fn on_nak_event(
     list: &mut [u32],
     time: i64,
 ) -> LossCounted
-    ensures { counted (lossEnded result.reported words.new list.new) result.counters ≡ lossCounted c h words.old list.old time }
+    ensures { counted (loss_ended result.reported words.new list.new) result.counters ≡ loss_counted c h words.old list.old time }
 {
     let reported = feedback::loss::on_nak_event(h, words, list, time);
     LossCounted {

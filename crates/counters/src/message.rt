@@ -1,7 +1,7 @@
 // The pop beside the counters: messages and late discards count nothing. 01, "Counters follow 003".
 ghost use Rattle.std.specs.Prelude.{◌≡◌};
-ghost use Rattle.receiver.specs.Message.{messageEnded};
-ghost use Rattle.counters.specs.Calls.{counted, messageCounted};
+ghost use Rattle.receiver.specs.Message.{message_ended};
+ghost use Rattle.counters.specs.Calls.{counted, message_counted};
 
 use counts::Counters;
 use head::state::Head;
@@ -21,7 +21,7 @@ pub fn pop_next_message(
     out: &mut [u8],
     time: i64,
 ) -> MessageCounted
-    ensures { counted (messageEnded result.given out.new) result.counters ≡ messageCounted c h words.now bytes.now out.old time }
+    ensures { counted (message_ended result.given out.new) result.counters ≡ message_counted c h words.now bytes.now out.old time }
 {
     let given = receiver::message::pop_next_message(h, words, bytes, out, time);
     MessageCounted { counters: c, given }

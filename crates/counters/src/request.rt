@@ -1,7 +1,7 @@
 // The drop request with its counters, receiver/mod.rs `handle_drop_request`, and clear and room, which count nothing: 01, "Counters follow 003".
 ghost use Rattle.std.specs.Prelude.{◌≡◌};
-ghost use Rattle.upkeep.specs.Request.{dropEnded, clearEnded, roomEnded, roomCallOf};
-ghost use Rattle.counters.specs.Calls.{counted, dropCounted, clearCounted};
+ghost use Rattle.upkeep.specs.Request.{drop_ended, clear_ended, room_ended, room_call_of};
+ghost use Rattle.counters.specs.Calls.{counted, drop_counted, clear_counted};
 
 use counts::Counters;
 use head::state::Head;
@@ -26,7 +26,7 @@ pub fn handle_drop_request(
     first: u32,
     last: u32,
 ) -> DropCounted
-    ensures { counted (dropEnded result.answer words.new) result.counters ≡ dropCounted c h words.old first last }
+    ensures { counted (drop_ended result.answer words.new) result.counters ≡ drop_counted c h words.old first last }
 {
     let answer = upkeep::request::handle_drop_request(h, words, first, last);
     let counters = counts::after::after_drop(c, answer);
@@ -34,7 +34,7 @@ pub fn handle_drop_request(
 }
 
 pub fn clear(c: Counters, h: Head) -> ClearCounted
-    ensures { counted (clearEnded result.cleared) result.counters ≡ clearCounted c h }
+    ensures { counted (clear_ended result.cleared) result.counters ≡ clear_counted c h }
 {
     let cleared = upkeep::request::clear(h);
     ClearCounted {
@@ -45,7 +45,7 @@ pub fn clear(c: Counters, h: Head) -> ClearCounted
 
 // A question: it leaves head and counters to its caller.
 pub fn buffer_available(h: Head) -> RoomAnswer
-    ensures { roomEnded result ≡ roomCallOf h }
+    ensures { room_ended result ≡ room_call_of h }
 {
     upkeep::request::buffer_available(h)
 }

@@ -1,7 +1,7 @@
 // The clock call with its counter, receiver/mod.rs `synchronize_clock`: 01, "Counters follow 003".
 ghost use Rattle.std.specs.Prelude.{◌≡◌};
-ghost use Rattle.feedback.specs.Sync.{clockEnded};
-ghost use Rattle.counters.specs.Calls.{counted, clockCounted};
+ghost use Rattle.feedback.specs.Sync.{clock_ended};
+ghost use Rattle.counters.specs.Calls.{counted, clock_counted};
 
 use counts::Counters;
 use feedback::sync::Clocked;
@@ -14,7 +14,7 @@ pub struct ClockCounted {
 }
 
 pub fn synchronize_clock(c: Counters, h: Head, time: i64, stamp: u32) -> ClockCounted
-    ensures { counted (clockEnded result.clocked) result.counters ≡ clockCounted c h time stamp }
+    ensures { counted (clock_ended result.clocked) result.counters ≡ clock_counted c h time stamp }
 {
     let clocked = feedback::sync::synchronize_clock(h, time, stamp);
     let answer = clocked.answer;

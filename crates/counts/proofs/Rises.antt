@@ -12,7 +12,7 @@ use Rattle.upkeep.specs.declared.request.DropAnswer.TheVariants as drops
 use Rattle.feedback.specs.declared.sync.ClockAnswer.{ClockAnswer}
 use Rattle.feedback.specs.declared.sync.ClockAnswer.TheVariants as clocks
 use Rattle.feedback.specs.contracts.sync.ClockAnswer.{the_type}
-use Rattle.counts.specs.Counts.{counts, fresh, unique, again, dropped, duplicate, gone, unknown, found, adjusted, raised, wire, gotCounts, refusedCounts, dataCounts, ack2Counts, dropCounts, clockCounts}
+use Rattle.counts.specs.Counts.{counts, fresh, unique, again, dropped, duplicate, gone, unknown, found, adjusted, raised, wire, got_counts, refused_counts, data_counts, ack2_counts, drop_counts, clock_counts}
 use Rattle.counts.specs.declared.Counters.{Counters}
 
 -- sum, wire
@@ -70,58 +70,58 @@ raised-made c r e₀ e₁ e₂ e₃ e₄ e₅ e₆ e₇ e₈ e₉ = rw (e₀, e�
 
 -- after_got and after_refused
 module _ (c : Counters) (size : ℕ) {w : ℕ} {g r : Counters} (e : w ≡ wire size) where
-  pub got-again : {recovered : Bool} → recovered ≡ true → g ≡ again w → r ≡ raised c g → r ≡ gotCounts c size recovered
+  pub got-again : {recovered : Bool} → recovered ≡ true → g ≡ again w → r ≡ raised c g → r ≡ got_counts c size recovered
   got-again t f p = p ∙ rw (t, f, e)
 
-  pub got-unique : {recovered : Bool} → recovered ≡ false → g ≡ unique w → r ≡ raised c g → r ≡ gotCounts c size recovered
+  pub got-unique : {recovered : Bool} → recovered ≡ false → g ≡ unique w → r ≡ raised c g → r ≡ got_counts c size recovered
   got-unique t f p = p ∙ rw (t, f, e)
 
-  pub refused-dropped : (n : ℕ) → (leb 7 n && leb n 9) ≡ true → g ≡ dropped w → r ≡ raised c g → r ≡ refusedCounts c size n
+  pub refused-dropped : (n : ℕ) → (leb 7 n && leb n 9) ≡ true → g ≡ dropped w → r ≡ raised c g → r ≡ refused_counts c size n
   refused-dropped n t f p = p ∙ rw (t, f, e)
 
-  pub refused-duplicate : (n : ℕ) → n ≡ 10 → g ≡ duplicate w → r ≡ raised c g → r ≡ refusedCounts c size n
+  pub refused-duplicate : (n : ℕ) → n ≡ 10 → g ≡ duplicate w → r ≡ raised c g → r ≡ refused_counts c size n
   refused-duplicate n t f p = p ∙ rw (t, f, e)
 
-pub refused-stays : (c : Counters) (size n : ℕ) → (leb 7 n && leb n 9) ≡ false → (n ≡ 10 → ⊥) → c ≡ refusedCounts c size n
+pub refused-stays : (c : Counters) (size n : ℕ) → (leb 7 n && leb n 9) ≡ false → (n ≡ 10 → ⊥) → c ≡ refused_counts c size n
 refused-stays c size n t z = rw (t, ne_eqb n 10 z)
 
 -- after_data
 module _ (c : Counters) (size : ℕ) (a : DataAnswer) {r : Counters} where
-  pub data-got : {lrsn : ℕ} {recovered : Bool} → a ≡ datas.Got lrsn recovered → r ≡ gotCounts c size recovered → r ≡ dataCounts c size a
+  pub data-got : {lrsn : ℕ} {recovered : Bool} → a ≡ datas.Got lrsn recovered → r ≡ got_counts c size recovered → r ≡ data_counts c size a
   data-got e f = f ∙ rw e
 
-  pub data-light : {lrsn : ℕ} {recovered : Bool} → a ≡ datas.Light lrsn recovered → r ≡ gotCounts c size recovered → r ≡ dataCounts c size a
+  pub data-light : {lrsn : ℕ} {recovered : Bool} → a ≡ datas.Light lrsn recovered → r ≡ got_counts c size recovered → r ≡ data_counts c size a
   data-light e f = f ∙ rw e
 
-  pub data-loss : {first last : ℕ} → a ≡ datas.Loss first last → r ≡ gotCounts c size false → r ≡ dataCounts c size a
+  pub data-loss : {first last : ℕ} → a ≡ datas.Loss first last → r ≡ got_counts c size false → r ≡ data_counts c size a
   data-loss e f = f ∙ rw e
 
-  pub data-refused : {n : ℕ} → a ≡ datas.Refused n → r ≡ refusedCounts c size n → r ≡ dataCounts c size a
+  pub data-refused : {n : ℕ} → a ≡ datas.Refused n → r ≡ refused_counts c size n → r ≡ data_counts c size a
   data-refused e f = f ∙ rw e
 
-  pub data-early : {room need : ℕ} → a ≡ datas.PacketTooEarly room need → r ≡ refusedCounts c size 8 → r ≡ dataCounts c size a
+  pub data-early : {room need : ℕ} → a ≡ datas.PacketTooEarly room need → r ≡ refused_counts c size 8 → r ≡ data_counts c size a
   data-early e f = f ∙ rw e
 
 -- after_ack2
 module _ (c : Counters) (a : RttAnswer) {g r : Counters} where
-  pub ack2-unknown : a ≡ rtts.Nothing → g ≡ unknown → r ≡ raised c g → r ≡ ack2Counts c a
+  pub ack2-unknown : a ≡ rtts.Nothing → g ≡ unknown → r ≡ raised c g → r ≡ ack2_counts c a
   ack2-unknown e f p = p ∙ rw (e, f)
 
-  pub ack2-found : {mean variance : ℕ} → a ≡ rtts.Rtt mean variance → g ≡ found → r ≡ raised c g → r ≡ ack2Counts c a
+  pub ack2-found : {mean variance : ℕ} → a ≡ rtts.Rtt mean variance → g ≡ found → r ≡ raised c g → r ≡ ack2_counts c a
   ack2-found e f p = p ∙ rw (e, f)
 
-pub ack2-refused : (c : Counters) (a : RttAnswer) {n : ℕ} → a ≡ rtts.Refused n → c ≡ ack2Counts c a
+pub ack2-refused : (c : Counters) (a : RttAnswer) {n : ℕ} → a ≡ rtts.Refused n → c ≡ ack2_counts c a
 ack2-refused c a e = rw e
 
 -- after_drop
-pub drop-gone : (c : Counters) (a : DropAnswer) {n : ℕ} {g r : Counters} → a ≡ drops.Gone n → g ≡ gone n → r ≡ raised c g → r ≡ dropCounts c a
+pub drop-gone : (c : Counters) (a : DropAnswer) {n : ℕ} {g r : Counters} → a ≡ drops.Gone n → g ≡ gone n → r ≡ raised c g → r ≡ drop_counts c a
 drop-gone c a e f p = p ∙ rw (e, f)
 
 -- after_clock
-pub clock-adjusted : (c : Counters) (a : ClockAnswer) {mean : ℤ} {deviation : ℕ} {g r : Counters} → a ≡ clocks.Adjusted mean deviation → g ≡ adjusted → r ≡ raised c g → r ≡ clockCounts c a
+pub clock-adjusted : (c : Counters) (a : ClockAnswer) {mean : ℤ} {deviation : ℕ} {g r : Counters} → a ≡ clocks.Adjusted mean deviation → g ≡ adjusted → r ≡ raised c g → r ≡ clock_counts c a
 clock-adjusted c a e f p = p ∙ rw (e, f)
 
-pub clock-stays : (c : Counters) (a : ClockAnswer) → OneOf (0 ∷ 2 ∷ 3 ∷ []) (tag_of the_type a) → c ≡ clockCounts c a
+pub clock-stays : (c : Counters) (a : ClockAnswer) → OneOf (0 ∷ 2 ∷ 3 ∷ []) (tag_of the_type a) → c ≡ clock_counts c a
 clock-stays c clocks.Nothing p = refl
 clock-stays c (clocks.Adjusted mean deviation) p = absurd (miss (0 ∷ 2 ∷ 3 ∷ []) 1 tt p)
 clock-stays c (clocks.Unsteady deviation v) p = refl

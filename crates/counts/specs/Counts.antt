@@ -77,38 +77,38 @@ abbrev pub wire : ℕ → ℕ
 wire size = sum 64 size 16
 
 -- a packet that the window took
-abbrev pub gotCounts : Counters → ℕ → Bool → Counters
-gotCounts c size recovered = raised c (cond recovered (again (wire size)) (unique (wire size)))
+abbrev pub got_counts : Counters → ℕ → Bool → Counters
+got_counts c size recovered = raised c (cond recovered (again (wire size)) (unique (wire size)))
 
 -- 7, 8 and 9 drop the packet, 10 is a duplicate, and no other refusal counts
-abbrev pub refusedCounts : Counters → ℕ → ℕ → Counters
-refusedCounts c size n =
+abbrev pub refused_counts : Counters → ℕ → ℕ → Counters
+refused_counts c size n =
     cond (nat_le 7 n && nat_le n 9) (raised c (dropped (wire size)))
     (cond (n == 10) (raised c (duplicate (wire size)))
     c)
 
 -- a data packet with a payload of that size; a loss is found by a unique packet
-abbrev pub dataCounts : Counters → ℕ → DataAnswer → Counters
-dataCounts c size (datas.Got lrsn recovered) = gotCounts c size recovered
-dataCounts c size (datas.Light lrsn recovered) = gotCounts c size recovered
-dataCounts c size (datas.Loss first last) = raised c (unique (wire size))
-dataCounts c size (datas.Refused n) = refusedCounts c size n
-dataCounts c size (datas.PacketTooEarly room need) = refusedCounts c size 8
+abbrev pub data_counts : Counters → ℕ → DataAnswer → Counters
+data_counts c size (datas.Got lrsn recovered) = got_counts c size recovered
+data_counts c size (datas.Light lrsn recovered) = got_counts c size recovered
+data_counts c size (datas.Loss first last) = raised c (unique (wire size))
+data_counts c size (datas.Refused n) = refused_counts c size n
+data_counts c size (datas.PacketTooEarly room need) = refused_counts c size 8
 
 -- an ACK2: 003 raises the errors for a found one (A6)
-abbrev pub ack2Counts : Counters → RttAnswer → Counters
-ack2Counts c rtts.Nothing = raised c unknown
-ack2Counts c (rtts.Rtt mean variance) = raised c found
-ack2Counts c (rtts.Refused n) = c
+abbrev pub ack2_counts : Counters → RttAnswer → Counters
+ack2_counts c rtts.Nothing = raised c unknown
+ack2_counts c (rtts.Rtt mean variance) = raised c found
+ack2_counts c (rtts.Refused n) = c
 
 -- a drop request raises dropped data by its count, no bytes
-abbrev pub dropCounts : Counters → DropAnswer → Counters
-dropCounts c (drops.Gone n) = raised c (gone n)
-dropCounts c (drops.Refused n) = c
+abbrev pub drop_counts : Counters → DropAnswer → Counters
+drop_counts c (drops.Gone n) = raised c (gone n)
+drop_counts c (drops.Refused n) = c
 
 -- the first drift, a sample and unsteady raise nothing
-abbrev pub clockCounts : Counters → ClockAnswer → Counters
-clockCounts c clocks.Nothing = c
-clockCounts c (clocks.Adjusted mean deviation) = raised c adjusted
-clockCounts c (clocks.Unsteady deviation v) = c
-clockCounts c (clocks.Refused n) = c
+abbrev pub clock_counts : Counters → ClockAnswer → Counters
+clock_counts c clocks.Nothing = c
+clock_counts c (clocks.Adjusted mean deviation) = raised c adjusted
+clock_counts c (clocks.Unsteady deviation v) = c
+clock_counts c (clocks.Refused n) = c

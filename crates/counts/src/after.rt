@@ -1,6 +1,6 @@
 // The counters after an answer, from the answer alone: 01, "Counters follow 003", "7 to 10 still count in the counters".
 ghost use Rattle.std.specs.Prelude.{◌≡◌};
-ghost use Rattle.counts.specs.Counts.{unique, again, dropped, duplicate, wire, gotCounts, refusedCounts, dataCounts, found, unknown, ack2Counts, gone, dropCounts, adjusted, clockCounts};
+ghost use Rattle.counts.specs.Counts.{unique, again, dropped, duplicate, wire, got_counts, refused_counts, data_counts, found, unknown, ack2_counts, gone, drop_counts, adjusted, clock_counts};
 
 use crate::Counters;
 use feedback::acking::RttAnswer;
@@ -53,7 +53,7 @@ fn wire(size: usize) -> u64
 }
 
 fn after_got(c: Counters, size: usize, recovered: bool) -> Counters
-    ensures { result ≡ gotCounts c size recovered }
+    ensures { result ≡ got_counts c size recovered }
 {
     let bytes = wire(size);
     if recovered {
@@ -63,7 +63,7 @@ fn after_got(c: Counters, size: usize, recovered: bool) -> Counters
 }
 
 fn after_refused(c: Counters, size: usize, n: u32) -> Counters
-    ensures { result ≡ refusedCounts c size n }
+    ensures { result ≡ refused_counts c size n }
 {
     let bytes = wire(size);
     if (7 <= n) & (n <= 9) {
@@ -76,7 +76,7 @@ fn after_refused(c: Counters, size: usize, n: u32) -> Counters
 }
 
 pub fn after_data(c: Counters, size: usize, answer: DataAnswer) -> Counters
-    ensures { result ≡ dataCounts c size answer }
+    ensures { result ≡ data_counts c size answer }
 {
     match answer {
         DataAnswer::Got { lrsn: _, recovered } => after_got(c, size, recovered),
@@ -105,7 +105,7 @@ fn found() -> Counters
 }
 
 pub fn after_ack2(c: Counters, answer: RttAnswer) -> Counters
-    ensures { result ≡ ack2Counts c answer }
+    ensures { result ≡ ack2_counts c answer }
 {
     match answer {
         RttAnswer::Nothing => c.raised(unknown()),
@@ -123,7 +123,7 @@ fn gone(n: usize) -> Counters
 }
 
 pub fn after_drop(c: Counters, answer: DropAnswer) -> Counters
-    ensures { result ≡ dropCounts c answer }
+    ensures { result ≡ drop_counts c answer }
 {
     let DropAnswer::Gone(n) = answer else {
         return c;
@@ -140,7 +140,7 @@ fn adjusted() -> Counters
 }
 
 pub fn after_clock(c: Counters, answer: ClockAnswer) -> Counters
-    ensures { result ≡ clockCounts c answer }
+    ensures { result ≡ clock_counts c answer }
 {
     let ClockAnswer::Adjusted { .. } = answer else {
         return c;

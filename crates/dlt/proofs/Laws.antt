@@ -15,9 +15,9 @@ use lib.Signed.{mag}
 use Rattle.numbers.specs.Circular.{signed}
 use Rattle.numbers.proofs.Flags.{by-test, by-order}
 use Rattle.numbers.proofs.Signs.{signed_range}
-use Rattle.dlt.specs.Bytes.{bigFrom, big, byte_at, field, timeAt}
-use Rattle.dlt.specs.Header.{isHeader, settingsIn, headerOf}
-use Rattle.dlt.specs.Record.{leastSize, longestRecord, dataIn, data_of, fields_of, recordOf, size_of}
+use Rattle.dlt.specs.Bytes.{big_from, big, byte_at, field, time_at}
+use Rattle.dlt.specs.Header.{is_header, settings_in, header_of}
+use Rattle.dlt.specs.Record.{least_size, longest_record, data_in, data_of, fields_of, record_of, size_of}
 use Rattle.dlt.specs.declared.header.HeaderRead.{HeaderRead}
 use Rattle.dlt.specs.declared.header.HeaderRead.TheVariants as header
 use Rattle.dlt.specs.declared.record.RecordRead.{RecordRead}
@@ -56,22 +56,22 @@ module _ (xs ys : List ℕ) where
       let b : n ≤ length (drop at xs) = rw (length-drop at xs) (omega arith) in
       rw (drop-append-le at xs ys a, take-append-le n (drop at xs) ys b)
 
-  time-behind : (at : ℕ) → at + 8 ≤ length xs → timeAt (xs ++ ys) at ≡ timeAt xs at
-  unfolding timeAt
+  time-behind : (at : ℕ) → at + 8 ≤ length xs → time_at (xs ++ ys) at ≡ time_at xs at
+  unfolding time_at
   time-behind at h = ap (signed 64) (field-behind at 8 h)
 
   longer : {n : ℕ} → n ≤ length xs → n ≤ length (xs ++ ys)
   longer h = rw (length-append xs ys) (omega arith)
 
-  settings-behind : 24 ≤ length xs → (isHeader (xs ++ ys) ≡ isHeader xs) × (settingsIn (xs ++ ys) ≡ settingsIn xs)
-  unfolding isHeader
+  settings-behind : 24 ≤ length xs → (is_header (xs ++ ys) ≡ is_header xs) × (settings_in (xs ++ ys) ≡ settings_in xs)
+  unfolding is_header
   settings-behind h = (
     rw (byte-behind 0 (omega arith), byte-behind 1 (omega arith), byte-behind 2 (omega arith), field-behind 3 2 (omega arith), byte-behind 17 (omega arith)),
     rw (time-behind 5 (omega arith), field-behind 13 4 (omega arith), byte-behind 17 (omega arith), field-behind 18 4 (omega arith), field-behind 22 2 (omega arith)),
   )
 
-  pub header-behind : (headerOf xs ≡ header.Short → ⊥) → headerOf (xs ++ ys) ≡ headerOf xs
-  unfolding headerOf
+  pub header-behind : (header_of xs ≡ header.Short → ⊥) → header_of (xs ++ ys) ≡ header_of xs
+  unfolding header_of
   header-behind whole =
       by-order (length xs) 24
       (λ h. absurd (whole (rw (lt-ltb _ _ h))))
@@ -89,14 +89,14 @@ module _ (xs ys : List ℕ) where
       by-order (length xs) (24 + n)
       (λ m. absurd (whole (sym (data-short xs refl l m))))
       (λ m.
-      let d : dataIn (xs ++ ys) n ≡ dataIn xs n =
+      let d : data_in (xs ++ ys) n ≡ data_in xs n =
       rw (time-behind 1 (omega arith), field-behind 9 4 (omega arith), field-behind 13 4 (omega arith), byte-behind 17 (omega arith), field-behind 18 4 (omega arith)) in
       sym (data_is (xs ++ ys) e l (longer m) (sym d)) ∙ data_is xs refl l m refl))
 
-  fields-behind : (kind : ℕ) → leastSize kind ≤ length xs → (fields_of kind xs ≡ Short → ⊥) → fields_of kind (xs ++ ys) ≡ fields_of kind xs
-  unfolding fields_of leastSize
+  fields-behind : (kind : ℕ) → least_size kind ≤ length xs → (fields_of kind xs ≡ Short → ⊥) → fields_of kind (xs ++ ys) ≡ fields_of kind xs
+  unfolding fields_of least_size
   fields-behind =
-      by_kind (λ (kind : ℕ). leastSize kind ≤ length xs → (fields_of kind xs ≡ Short → ⊥) → fields_of kind (xs ++ ys) ≡ fields_of kind xs)
+      by_kind (λ (kind : ℕ). least_size kind ≤ length xs → (fields_of kind xs ≡ Short → ⊥) → fields_of kind (xs ++ ys) ≡ fields_of kind xs)
       (λ h whole. refl)
       (λ h whole. data-behind h whole)
       (λ h whole. rw (time-behind 1 (omega arith)))
@@ -108,11 +108,11 @@ module _ (xs ys : List ℕ) where
       (λ h whole. refl)
       (λ k l h whole. unknown (xs ++ ys) k l ∙ sym (unknown xs k l))
 
-pub record-behind : (xs ys : List ℕ) → (recordOf xs ≡ Short → ⊥) → recordOf (xs ++ ys) ≡ recordOf xs
-unfolding recordOf leastSize
+pub record-behind : (xs ys : List ℕ) → (record_of xs ≡ Short → ⊥) → record_of (xs ++ ys) ≡ record_of xs
+unfolding record_of least_size
 record-behind [] ys whole = absurd (whole refl)
 record-behind (x ∷ xs) ys whole =
-    by-order (length (x ∷ xs)) (leastSize x)
+    by-order (length (x ∷ xs)) (least_size x)
     (λ h. absurd (whole (rw (lt-ltb _ _ h))))
     (λ h.
     rw (le-ltb _ _ h, le-ltb _ _ (longer (x ∷ xs) ys h))
@@ -129,10 +129,10 @@ data-within xs h =
     (λ u. omega arith)
     (λ u. ltb-false _ _ u))
 
-fields_within : (xs : List ℕ) (kind : ℕ) → leastSize kind ≤ length xs → size_of (fields_of kind xs) ≤ length xs
-unfolding fields_of leastSize
+fields_within : (xs : List ℕ) (kind : ℕ) → least_size kind ≤ length xs → size_of (fields_of kind xs) ≤ length xs
+unfolding fields_of least_size
 fields_within xs =
-    by_kind (λ (kind : ℕ). leastSize kind ≤ length xs → size_of (fields_of kind xs) ≤ length xs)
+    by_kind (λ (kind : ℕ). least_size kind ≤ length xs → size_of (fields_of kind xs) ≤ length xs)
     (λ h. omega arith)
     (λ h. data-within xs h)
     (λ h. h)
@@ -144,10 +144,10 @@ fields_within xs =
     (λ h. h)
     (λ k l h. rw (unknown xs k l) (omega arith))
 
-pub size-within : (xs : List ℕ) → size_of (recordOf xs) ≤ length xs
-unfolding recordOf
+pub size-within : (xs : List ℕ) → size_of (record_of xs) ≤ length xs
+unfolding record_of
 size-within xs =
-    by-test (λ (r : RecordRead). size_of r ≤ length xs) (ltb (length xs) (leastSize (byte_at xs 0))) _ _
+    by-test (λ (r : RecordRead). size_of r ≤ length xs) (ltb (length xs) (least_size (byte_at xs 0))) _ _
     (λ t. omega arith)
     (λ t. fields_within xs (byte_at xs 0) (ltb-false _ _ t))
 
@@ -164,13 +164,13 @@ size-some (Clock t n) whole good = omega arith
 size-some Clear whole good = omega arith
 
 -- at a cursor: the record, and the payload of a data record, end within the piece; the payload is at most 1,456 bytes
-pub record-in : (xs : List ℕ) (at : ℕ) {r : RecordRead} → r ≡ recordOf (drop at xs) → 0 < size_of r → at + size_of r ≤ length xs
+pub record-in : (xs : List ℕ) (at : ℕ) {r : RecordRead} → r ≡ record_of (drop at xs) → 0 < size_of r → at + size_of r ≤ length xs
 record-in xs at {r} e h =
     let w : size_of r ≤ length xs - at = rw (e, ← length-drop at xs) (size-within (drop at xs)) in
     omega arith
 
 pub payload-in : (xs : List ℕ) (at : ℕ) {r : RecordRead} {time : ℤ} {number message location stamp n : ℕ}
-    → r ≡ recordOf (drop at xs) → r ≡ Data time number message location stamp n → at + 24 + n ≤ length xs
+    → r ≡ record_of (drop at xs) → r ≡ Data time number message location stamp n → at + 24 + n ≤ length xs
 payload-in xs at e f =
     let k = ap size_of f in
     omega (arith, record-in xs at e (omega arith))
@@ -187,10 +187,10 @@ ShortPayload (Drop first last) = Unit {0}
 ShortPayload (Clock time stamp) = Unit {0}
 ShortPayload Clear = Unit {0}
 
-short-payload : (xs : List ℕ) → ShortPayload (recordOf xs)
-unfolding recordOf fields_of data_of
+short-payload : (xs : List ℕ) → ShortPayload (record_of xs)
+unfolding record_of fields_of data_of
 short-payload xs =
-    by-test ShortPayload (ltb (length xs) (leastSize (byte_at xs 0))) _ _
+    by-test ShortPayload (ltb (length xs) (least_size (byte_at xs 0))) _ _
     (λ t. tt)
     (λ t.
     by_kind (λ (kind : ℕ). ShortPayload (fields_of kind xs)) tt
@@ -208,12 +208,12 @@ short-payload xs =
     (byte_at xs 0))
 
 pub payload-short : (xs : List ℕ) {r : RecordRead} {time : ℤ} {number message location stamp n : ℕ}
-    → r ≡ recordOf xs → r ≡ Data time number message location stamp n → n ≤ 1456
+    → r ≡ record_of xs → r ≡ Data time number message location stamp n → n ≤ 1456
 payload-short xs e f = subst ShortPayload (sym e ∙ f) (short-payload xs)
 
 -- a record that is cut is shorter than the longest one, and a cut header than 24 bytes: who holds so many need not ask for more
 abbrev CutWithin : ℕ → RecordRead → Type 0
-CutWithin n Short = n < longestRecord
+CutWithin n Short = n < longest_record
 CutWithin n Bad = Unit {0}
 CutWithin n (Data time number message location stamp len) = Unit {0}
 CutWithin n (Pop time) = Unit {0}
@@ -224,10 +224,10 @@ CutWithin n (Drop first last) = Unit {0}
 CutWithin n (Clock time stamp) = Unit {0}
 CutWithin n Clear = Unit {0}
 
-least-within : (kind : ℕ) → leastSize kind ≤ longestRecord
-unfolding leastSize
+least-within : (kind : ℕ) → least_size kind ≤ longest_record
+unfolding least_size
 least-within =
-    by_kind (λ (kind : ℕ). leastSize kind ≤ longestRecord)
+    by_kind (λ (kind : ℕ). least_size kind ≤ longest_record)
     (omega arith)
     (omega arith)
     (omega arith)
@@ -239,11 +239,11 @@ least-within =
     (omega arith)
     (λ k l. rw (← fixed-past k l) (omega arith))
 
-cut-within : (xs : List ℕ) → CutWithin (length xs) (recordOf xs)
-unfolding recordOf fields_of data_of
+cut-within : (xs : List ℕ) → CutWithin (length xs) (record_of xs)
+unfolding record_of fields_of data_of
 cut-within xs =
-    by-test (CutWithin (length xs)) (ltb (length xs) (leastSize (byte_at xs 0))) _ _
-    (λ t. omega (arith, ltb-true (length xs) (leastSize (byte_at xs 0)) t, least-within (byte_at xs 0)))
+    by-test (CutWithin (length xs)) (ltb (length xs) (least_size (byte_at xs 0))) _ _
+    (λ t. omega (arith, ltb-true (length xs) (least_size (byte_at xs 0)) t, least-within (byte_at xs 0)))
     (λ t.
     by_kind (λ (kind : ℕ). CutWithin (length xs) (fields_of kind xs)) tt
     (by-test (CutWithin (length xs)) (ltb 1456 (field xs 22 2)) _ _
@@ -259,14 +259,14 @@ cut-within xs =
     (λ k l. rw (unknown xs k l) tt)
     (byte_at xs 0))
 
-pub record-cut : (xs : List ℕ) → recordOf xs ≡ Short → length xs < longestRecord
+pub record-cut : (xs : List ℕ) → record_of xs ≡ Short → length xs < longest_record
 record-cut xs e = subst (CutWithin (length xs)) e (cut-within xs)
 
-pub header-cut : (xs : List ℕ) → headerOf xs ≡ header.Short → length xs < 24
-unfolding headerOf
-header-cut xs = by-test (λ (h : HeaderRead). h ≡ header.Short → length xs < 24) (ltb (length xs) 24) _ _ (λ t e. ltb-true _ _ t) (λ t. whole (isHeader xs))
+pub header-cut : (xs : List ℕ) → header_of xs ≡ header.Short → length xs < 24
+unfolding header_of
+header-cut xs = by-test (λ (h : HeaderRead). h ≡ header.Short → length xs < 24) (ltb (length xs) 24) _ _ (λ t e. ltb-true _ _ t) (λ t. whole (is_header xs))
   where
-    whole : (b : Bool) → cond b (settingsIn xs) header.Bad ≡ header.Short → length xs < 24
+    whole : (b : Bool) → cond b (settings_in xs) header.Bad ≡ header.Short → length xs < 24
     whole true e = absurd (let z : ◌≡◌ {A = ℕ} 0 1 = cc in omega arith)
     whole false e = absurd (let z : ◌≡◌ {A = ℕ} 0 1 = cc in omega arith)
 
@@ -274,8 +274,8 @@ header-cut xs = by-test (λ (h : HeaderRead). h ≡ header.Short → length xs <
 abbrev pub AreBytes : List ℕ → Type 0
 AreBytes xs = (i : ℕ) → get_or xs i 0 < 256
 
-from-below : (n m : ℕ) (bs : List ℕ) → AreBytes bs → n < m → bigFrom n bs < m * 256 ^ length bs
-unfolding bigFrom
+from-below : (n m : ℕ) (bs : List ℕ) → AreBytes bs → n < m → big_from n bs < m * 256 ^ length bs
+unfolding big_from
 from-below n m [] small h = omega arith
 from-below n m (b ∷ bs) small h =
     let l : 256 * n + b < m * 256 = omega (arith, small 0) in
@@ -301,8 +301,8 @@ field_below xs at n small =
     let b : 256 ^ length bs ≤ 256 ^ n = pow-le-pow_right {n = 256} (omega arith) l in
     omega arith
 
-pub time-below : (xs : List ℕ) (at : ℕ) → AreBytes xs → mag (timeAt xs at) < 2 ^ 63
-unfolding timeAt
+pub time-below : (xs : List ℕ) (at : ℕ) → AreBytes xs → mag (time_at xs at) < 2 ^ 63
+unfolding time_at
 time-below xs at small = signed_range 64 (field xs at 8) (omega arith) (field_below xs at 8 small)
 
 -- the numbers of a record and of a header
@@ -351,16 +351,16 @@ module _ (xs : List ℕ) (small : AreBytes xs) where
       tt
       (λ k l. rw (unknown xs k l) tt)
 
-  pub record-fits : RecordFit (recordOf xs)
-  unfolding recordOf
-  record-fits = by-test RecordFit (ltb (length xs) (leastSize (byte_at xs 0))) _ _ (λ t. tt) (λ t. fields_fit (byte_at xs 0))
+  pub record-fits : RecordFit (record_of xs)
+  unfolding record_of
+  record-fits = by-test RecordFit (ltb (length xs) (least_size (byte_at xs 0))) _ _ (λ t. tt) (λ t. fields_fit (byte_at xs 0))
 
-  pub header-fits : HeaderFit (headerOf xs)
-  unfolding headerOf
+  pub header-fits : HeaderFit (header_of xs)
+  unfolding header_of
   header-fits =
       by-test HeaderFit (ltb (length xs) 24) _ _
       (λ t. tt)
       (λ t.
-      by-test HeaderFit (isHeader xs) _ _
+      by-test HeaderFit (is_header xs) _ _
       (λ u. (time-below xs 5 small, field_below xs 13 4 small, field_below xs 18 4 small, field_below xs 22 2 small))
       (λ u. tt))

@@ -7,15 +7,15 @@ use borrow.Author.Rules.{rules}
 use lib.IntN.{ℤ}
 use lib.ListN.{length, get_or, take, drop}
 use lib.Seq.{drop-cons, drop-drop, take-add}
-use Rattle.dlt.specs.Bytes.{bigFrom, big, field, timeAt}
+use Rattle.dlt.specs.Bytes.{big_from, big, field, time_at}
 use Rattle.numbers.specs.Circular.{signed}
 
 pub two_bytes : (a b : ℕ) → a * 256 + b ≡ big (a ∷ b ∷ [])
-unfolding big bigFrom
+unfolding big big_from
 two_bytes a b = omega arith
 
 pub four_bytes : (a b c d : ℕ) → ((a * 256 + b) * 256 + c) * 256 + d ≡ big (a ∷ b ∷ c ∷ d ∷ [])
-unfolding big bigFrom
+unfolding big big_from
 four_bytes a b c d = omega arith
 
 -- the bytes of a field, one by one
@@ -47,13 +47,13 @@ module _ (xs : List ℕ) (at : ℕ) where
   word-is h e = rw (four-in h) e
 
 -- bytes behind others: the number of the first, shifted, and that of the last
-behind : (n : ℕ) (p q : List ℕ) → bigFrom n (p ++ q) ≡ bigFrom (bigFrom n p) q
-unfolding bigFrom
+behind : (n : ℕ) (p q : List ℕ) → big_from n (p ++ q) ≡ big_from (big_from n p) q
+unfolding big_from
 behind n [] q = refl
 behind n (b ∷ p) q = behind (256 * n + b) p q
 
 four-behind : (p : List ℕ) (a b c d : ℕ) → big p * 2 ^ 32 + big (a ∷ b ∷ c ∷ d ∷ []) ≡ big (p ++ (a ∷ b ∷ c ∷ d ∷ []))
-unfolding big bigFrom
+unfolding big big_from
 four-behind p a b c d = rw (behind 0 p (a ∷ b ∷ c ∷ d ∷ [])) (omega arith)
 
 pub double-is : (xs : List ℕ) (at : ℕ) {u v : ℕ} → at + 8 ≤ length xs → u ≡ field xs at 4 → v ≡ field xs (at + 4) 4 → u * 2 ^ 32 + v ≡ field xs at 8
@@ -62,8 +62,8 @@ double-is xs at h e f =
     let k : at + 4 + 4 ≤ length xs = omega arith in
     rw (e, f, take-add 4 4 (drop at xs), drop-drop 4 at xs, four-in xs (at + 4) k) (four-behind (take 4 (drop at xs)) _ _ _ _)
 
-pub time-is : (xs : List ℕ) (at : ℕ) {n : ℕ} {z z₁ : ℤ} → n ≡ field xs at 8 → z ≡ signed 64 n → z₁ ≡ z → z₁ ≡ timeAt xs at
-unfolding timeAt
+pub time-is : (xs : List ℕ) (at : ℕ) {n : ℕ} {z z₁ : ℤ} → n ≡ field xs at 8 → z ≡ signed 64 n → z₁ ≡ z → z₁ ≡ time_at xs at
+unfolding time_at
 time-is xs at e f g = g ∙ f ∙ ap (signed 64) e
 
 pub ruleset numbering = (two_bytes, four_bytes, half_is, word-is, double-is, time-is, rules)

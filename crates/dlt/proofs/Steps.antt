@@ -11,9 +11,9 @@ use lib.Dec.{T, eqb, leb, leb→le}
 use lib.IntN.{ℤ}
 use lib.ListN.{length, get_or, take, drop, length-drop, drop_of_length-le, get_or-eq_default}
 use lib.Seq.{take_all}
-use Rattle.dlt.specs.Bytes.{byte_at, field, timeAt}
-use Rattle.dlt.specs.Header.{isHeader, settingsIn, headerOf}
-use Rattle.dlt.specs.Record.{leastSize, dataIn, data_of, fields_of, recordOf, size_of}
+use Rattle.dlt.specs.Bytes.{byte_at, field, time_at}
+use Rattle.dlt.specs.Header.{is_header, settings_in, header_of}
+use Rattle.dlt.specs.Record.{least_size, data_in, data_of, fields_of, record_of, size_of}
 use Rattle.dlt.specs.declared.header.HeaderRead.{HeaderRead}
 use Rattle.dlt.specs.declared.header.HeaderRead.TheVariants as header
 use Rattle.dlt.specs.declared.record.RecordRead.{RecordRead}
@@ -22,20 +22,20 @@ use Rattle.dlt.specs.declared.record.RecordRead.TheVariants.{Short, Bad, Data, P
 -- header.rt
 module _ (xs : List ℕ) where
   pub mark-is : {v : ℕ} → v ≡ field xs 3 2
-      → (eqb (get_or xs 0 0) 68 && eqb (get_or xs 1 0) 76 && eqb (get_or xs 2 0) 84 && eqb v 1 && leb (get_or xs 17 0) 1) ≡ isHeader xs
-  unfolding isHeader
+      → (eqb (get_or xs 0 0) 68 && eqb (get_or xs 1 0) 76 && eqb (get_or xs 2 0) 84 && eqb v 1 && leb (get_or xs 17 0) 1) ≡ is_header xs
+  unfolding is_header
   mark-is e = rw e
 
-  pub header-short : length xs < 24 → header.Short ≡ headerOf xs
-  unfolding headerOf
+  pub header-short : length xs < 24 → header.Short ≡ header_of xs
+  unfolding header_of
   header-short h = rw (lt-ltb _ _ h)
 
-  pub header-good : {t : Bool} {r : HeaderRead} → 24 ≤ length xs → t ≡ isHeader xs → t ≡ true → r ≡ settingsIn xs → r ≡ headerOf xs
-  unfolding headerOf
+  pub header-good : {t : Bool} {r : HeaderRead} → 24 ≤ length xs → t ≡ is_header xs → t ≡ true → r ≡ settings_in xs → r ≡ header_of xs
+  unfolding header_of
   header-good h a b e = rw (le-ltb _ _ h, ← a, b) e
 
-  pub header-bad : {t : Bool} → 24 ≤ length xs → t ≡ isHeader xs → t ≡ false → header.Bad ≡ headerOf xs
-  unfolding headerOf
+  pub header-bad : {t : Bool} → 24 ≤ length xs → t ≡ is_header xs → t ≡ false → header.Bad ≡ header_of xs
+  unfolding header_of
   header-bad h a b = rw (le-ltb _ _ h, ← a, b)
 
 -- record.rt: what is read of a list within it does not hang on what is read past it
@@ -47,18 +47,18 @@ within (x ∷ l) (suc i) d e h = within l i d e (le_of_suc-le-suc h)
 abbrev sizes : List ℕ
 sizes = 1 ∷ 24 ∷ 9 ∷ 9 ∷ 9 ∷ 13 ∷ 9 ∷ 13 ∷ 1 ∷ []
 
-pub fixed_in : (kind : ℕ) → kind ≤ 8 → get_or sizes kind 0 ≡ leastSize kind
-unfolding leastSize
+pub fixed_in : (kind : ℕ) → kind ≤ 8 → get_or sizes kind 0 ≡ least_size kind
+unfolding least_size
 fixed_in kind h = within sizes kind 0 1 (omega arith)
 
-pub fixed-past : (kind : ℕ) → 8 < kind → 1 ≡ leastSize kind
-unfolding leastSize
+pub fixed-past : (kind : ℕ) → 8 < kind → 1 ≡ least_size kind
+unfolding least_size
 fixed-past kind h = sym (get_or-eq_default sizes 1 {n = kind} (omega arith))
 
 -- the fixed part of a known kind is there
-pub fixed-room : {kind j n m : ℕ} → kind ≡ j → leastSize kind ≤ n → T (leb m (get_or sizes j 1)) → m ≤ n
-unfolding leastSize
-fixed-room {j = j} {m = m} e h t = let a = leb→le m (leastSize j) t in let b = ap leastSize e in omega arith
+pub fixed-room : {kind j n m : ℕ} → kind ≡ j → least_size kind ≤ n → T (leb m (get_or sizes j 1)) → m ≤ n
+unfolding least_size
+fixed-room {j = j} {m = m} e h t = let a = leb→le m (least_size j) t in let b = ap least_size e in omega arith
 
 module _ (xs : List ℕ) {n : ℕ} (a : n ≡ field xs 22 2) where
   pub data-bad : 1456 < n → Bad ≡ data_of xs
@@ -69,7 +69,7 @@ module _ (xs : List ℕ) {n : ℕ} (a : n ≡ field xs 22 2) where
   unfolding data_of
   data-short h k = rw (← a, le-ltb _ _ h, lt-ltb _ _ k)
 
-  pub data_is : {r : RecordRead} → n ≤ 1456 → 24 + n ≤ length xs → r ≡ dataIn xs n → r ≡ data_of xs
+  pub data_is : {r : RecordRead} → n ≤ 1456 → 24 + n ≤ length xs → r ≡ data_in xs n → r ≡ data_of xs
   unfolding data_of
   data_is h k e = rw (← a, le-ltb _ _ h, le-ltb _ _ k) e
 
@@ -78,7 +78,7 @@ module _ (xs : List ℕ) (kind : ℕ) where
   unfolding fields_of
   kind-data k e = rw k e
 
-  module _ {z z₁ : ℤ} (e : z₁ ≡ z) (f : z ≡ timeAt xs 1) where
+  module _ {z z₁ : ℤ} (e : z₁ ≡ z) (f : z ≡ time_at xs 1) where
     pub kind-pop : kind ≡ 2 → Pop z₁ ≡ fields_of kind xs
     unfolding fields_of
     kind-pop k = rw (k, e, f)
@@ -115,30 +115,30 @@ module _ (xs : List ℕ) (kind : ℕ) where
 
 module _ (xs : List ℕ) where
   -- no bytes have no kind byte either, and it is read as 0
-  pub record-none : length xs < 1 → Short ≡ recordOf xs
-  unfolding recordOf leastSize
+  pub record-none : length xs < 1 → Short ≡ record_of xs
+  unfolding record_of least_size
   record-none h =
       let z : get_or xs 0 0 ≡ 0 = get_or-eq_default xs 0 {n = 0} (omega arith) in
       rw (z, lt-ltb _ _ h)
 
-  pub record-short : {f : ℕ} → f ≡ leastSize (byte_at xs 0) → length xs < f → Short ≡ recordOf xs
-  unfolding recordOf
+  pub record-short : {f : ℕ} → f ≡ least_size (byte_at xs 0) → length xs < f → Short ≡ record_of xs
+  unfolding record_of
   record-short e h = rw (← e, lt-ltb _ _ h)
 
-  pub record_is : {f : ℕ} {r : RecordRead} → f ≡ leastSize (byte_at xs 0) → f ≤ length xs → r ≡ fields_of (byte_at xs 0) xs → r ≡ recordOf xs
-  unfolding recordOf
+  pub record_is : {f : ℕ} {r : RecordRead} → f ≡ least_size (byte_at xs 0) → f ≤ length xs → r ≡ fields_of (byte_at xs 0) xs → r ≡ record_of xs
+  unfolding record_of
   record_is e h k = rw (← e, le-ltb _ _ h) k
 
-  pub record-room : {f : ℕ} → f ≡ leastSize (byte_at xs 0) → f ≤ length xs → leastSize (byte_at xs 0) ≤ length xs
+  pub record-room : {f : ℕ} → f ≡ least_size (byte_at xs 0) → f ≤ length xs → least_size (byte_at xs 0) ≤ length xs
   record-room e h = omega arith
 
-  pub record-past : (at : ℕ) → length xs ≤ at → Short ≡ recordOf (drop at xs)
-  unfolding recordOf leastSize
+  pub record-past : (at : ℕ) → length xs ≤ at → Short ≡ record_of (drop at xs)
+  unfolding record_of least_size
   record-past at h = rw (drop_of_length-le xs h)
 
 -- the part from the cursor to the end
-pub record-at : (xs : List ℕ) (at : ℕ) {r : RecordRead} → r ≡ recordOf (take (length xs - at) (drop at xs)) → r ≡ recordOf (drop at xs)
-record-at xs at e = e ∙ ap recordOf (take_all (length xs - at) (drop at xs) (rw (length-drop at xs) (omega arith)))
+pub record-at : (xs : List ℕ) (at : ℕ) {r : RecordRead} → r ≡ record_of (take (length xs - at) (drop at xs)) → r ≡ record_of (drop at xs)
+record-at xs at e = e ∙ ap record_of (take_all (length xs - at) (drop at xs) (rw (length-drop at xs) (omega arith)))
 
 pub size-data : {r : RecordRead} {z : ℤ} {a b c d n : ℕ} → r ≡ Data z a b c d n → 24 + n ≡ size_of r
 size-data e = rw e

@@ -1,6 +1,6 @@
 // Big-endian numbers at a place of a piece of the file: 01, "Trace, mark DLT".
 ghost use Rattle.std.specs.Prelude.{◌≡◌, [], ◌∷◌, ◌+◌, ◌≤◌, length};
-ghost use Rattle.dlt.specs.Bytes.{big, field, timeAt};
+ghost use Rattle.dlt.specs.Bytes.{big, field, time_at};
 ghost use Rattle.numbers.specs.Circular.{signed};
 
 fn join2(a: u8, b: u8) -> u16
@@ -59,7 +59,7 @@ fn twos(n: u64) -> i64
 // The reading in the 8 bytes from `at` on.
 pub fn time(piece: &[u8], at: usize) -> i64
     requires { at + 8 ≤ length piece.now }
-    ensures { result ≡ timeAt piece.now at }
+    ensures { result ≡ time_at piece.now at }
 {
     twos(double(piece, at))
 }

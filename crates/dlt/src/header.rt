@@ -1,6 +1,6 @@
 // The header of a trace: 01, "Trace, mark DLT". Whether its settings can be taken is the receiver's to say.
 ghost use Rattle.std.specs.Prelude.{◌≡◌, ◌≤◌, length};
-ghost use Rattle.dlt.specs.Header.{isHeader, settingsIn, headerOf};
+ghost use Rattle.dlt.specs.Header.{is_header, settings_in, header_of};
 
 use crate::bytes::{half, time, word};
 
@@ -21,7 +21,7 @@ pub enum HeaderRead {
 
 fn marked(piece: &[u8]) -> bool
     requires { 24 ≤ length piece.now }
-    ensures { result ≡ isHeader piece.now }
+    ensures { result ≡ is_header piece.now }
 {
     let version = half(piece, 3);
     (piece[0] == b'D') & (piece[1] == b'L') & (piece[2] == b'T') & (version == 1) & (piece[17] <= 1)
@@ -29,7 +29,7 @@ fn marked(piece: &[u8]) -> bool
 
 fn settings(piece: &[u8]) -> HeaderRead
     requires { 24 ≤ length piece.now }
-    ensures { result ≡ settingsIn piece.now }
+    ensures { result ≡ settings_in piece.now }
 {
     HeaderRead::Header {
         start: time(piece, 5),
@@ -42,7 +42,7 @@ fn settings(piece: &[u8]) -> HeaderRead
 
 // The header that a file starts with.
 pub fn header(piece: &[u8]) -> HeaderRead
-    ensures { result ≡ headerOf piece.now }
+    ensures { result ≡ header_of piece.now }
 {
     if piece.len() < 24 {
         return HeaderRead::Short;

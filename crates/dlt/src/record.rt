@@ -1,6 +1,6 @@
 // A record of a trace: 01, "Trace, mark DLT".
 ghost use Rattle.std.specs.Prelude.{◌≡◌, ◌≤◌, length, drop};
-ghost use Rattle.dlt.specs.Record.{leastSize, dataIn, data_of, fields_of, recordOf, size_of};
+ghost use Rattle.dlt.specs.Record.{least_size, data_in, data_of, fields_of, record_of, size_of};
 
 use crate::bytes::{half, time, wide, word};
 
@@ -46,7 +46,7 @@ pub enum RecordRead {
 const FIXED: [usize; 9] = [1, 24, 9, 9, 9, 13, 9, 13, 1];
 
 pub fn fixed(kind: u8) -> usize
-    ensures { result ≡ leastSize kind }
+    ensures { result ≡ least_size kind }
 {
     if 8 < kind {
         return 1;
@@ -56,7 +56,7 @@ pub fn fixed(kind: u8) -> usize
 
 fn packet(rest: &[u8], n: u16) -> RecordRead
     requires { 24 ≤ length rest.now }
-    ensures { result ≡ dataIn rest.now n }
+    ensures { result ≡ data_in rest.now n }
 {
     RecordRead::Data {
         time: time(rest, 1),
@@ -84,7 +84,7 @@ fn data(rest: &[u8]) -> RecordRead
 }
 
 fn fields(rest: &[u8], kind: u8) -> RecordRead
-    requires { leastSize kind ≤ length rest.now }
+    requires { least_size kind ≤ length rest.now }
     ensures { result ≡ fields_of kind rest.now }
 {
     match kind {
@@ -117,7 +117,7 @@ fn fields(rest: &[u8], kind: u8) -> RecordRead
 
 // The record that the bytes start with.
 fn first(rest: &[u8]) -> RecordRead
-    ensures { result ≡ recordOf rest.now }
+    ensures { result ≡ record_of rest.now }
 {
     if rest.len() < 1 {
         return RecordRead::Short;
@@ -131,7 +131,7 @@ fn first(rest: &[u8]) -> RecordRead
 
 // The record at the cursor; a cursor past the piece has nothing left.
 pub fn record(piece: &[u8], at: usize) -> RecordRead
-    ensures { result ≡ recordOf (drop at piece.now) }
+    ensures { result ≡ record_of (drop at piece.now) }
 {
     if piece.len() <= at {
         return RecordRead::Short;

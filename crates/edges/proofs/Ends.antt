@@ -15,12 +15,12 @@ use Rattle.clock.specs.Sync as sync
 use Rattle.acks.specs.History as history
 use Rattle.acks.specs.Rtt as rtt
 use Rattle.intervals.specs.Rates as rates
-use Rattle.slots.specs.Words.{entry_of, writeAt}
-use Rattle.slots.specs.Ring.{withPayload}
+use Rattle.slots.specs.Words.{entry_of, write_at}
+use Rattle.slots.specs.Ring.{with_payload}
 use Rattle.slots.specs.declared.entry.Entry.TheVariants.{Lost, Received}
-use Rattle.head.specs.Head.{headOk, freshHead, made_of}
-use Rattle.head.specs.Parts.{withWindow, withClock, withRtt, withRates, withHistory, withLatest}
-use Rattle.head.specs.Rules.{thenOf}
+use Rattle.head.specs.Head.{head_ok, fresh_head, made_of}
+use Rattle.head.specs.Parts.{with_window, with_clock, with_rtt, with_rates, with_history, with_latest}
+use Rattle.head.specs.Rules.{then_of}
 use Rattle.head.specs.declared.state.Head.{Head}
 
 -- a head, and whether its numbers are in their ranges
@@ -35,11 +35,11 @@ abbrev outside : Head → End
 outside h = record { head = h; ok = false }
 
 abbrev fresh : Head
-fresh = freshHead (pos 0) 0 true 0 8
+fresh = fresh_head (pos 0) 0 true 0 8
 
 -- capacity, start, held, seqno0, lrsn: all at their upper ends, and at their lower ones with one held; capacity 0 and 8,193; start at capacity, held past it; numbers of 2^31
 abbrev windowed : ℕ → ℕ → ℕ → ℕ → ℕ → Head
-windowed capacity start held front lrsn = withWindow fresh (record { capacity = capacity; start = start; held = held; seqno0 = front; lrsn = lrsn })
+windowed capacity start held front lrsn = with_window fresh (record { capacity = capacity; start = start; held = held; seqno0 = front; lrsn = lrsn })
 
 abbrev windows : List End
 windows =
@@ -55,7 +55,7 @@ windows =
 
 -- the latency
 abbrev delayed : ℕ → Head
-delayed latency = freshHead (pos 0) latency true 0 8
+delayed latency = fresh_head (pos 0) latency true 0 8
 
 abbrev delays : List End
 delays =
@@ -67,7 +67,7 @@ delays =
 -- reference time, last released time, drift samples
 abbrev clocked : ℤ → Moment → ℕ → Head
 clocked time last count =
-    withClock fresh (record { base = record { time = time; stamp = 0 }; last = last; seen = true; stats = record { mean = (samples.noSamples).mean; squares = (samples.noSamples).squares; count = count } })
+    with_clock fresh (record { base = record { time = time; stamp = 0 }; last = last; seen = true; stats = record { mean = (samples.no_samples).mean; squares = (samples.no_samples).squares; count = count } })
 
 abbrev clocks : List End
 clocks =
@@ -82,7 +82,7 @@ clocks =
 
 -- both figures of the round trip
 abbrev tripped : ℕ → ℕ → Head
-tripped mean variance = withRtt fresh (record { mean = mean; variance = variance })
+tripped mean variance = with_rtt fresh (record { mean = mean; variance = variance })
 
 abbrev trips : List End
 trips =
@@ -94,7 +94,7 @@ trips =
 -- the window of arrivals: an interval and a size in it, the next place, the count, the last arrival; a place that is not in the window may hold anything
 abbrev arrived : ℕ → ℕ → ℕ → ℕ → Moment → Head
 arrived gap size at count last =
-    withRates fresh (record { gaps = set (replicate 16 0) 0 gap; sizes = set (replicate 16 0) 0 size; at = at; count = count; last = last }) rates.freshLinks
+    with_rates fresh (record { gaps = set (replicate 16 0) 0 gap; sizes = set (replicate 16 0) 0 size; at = at; count = count; last = last }) rates.fresh_links
 
 abbrev arrivals : List End
 arrivals =
@@ -110,7 +110,7 @@ arrivals =
 
 -- the window of pairs likewise
 abbrev paired : ℕ → ℕ → ℕ → Moment → Head
-paired gap at count probe = withRates fresh rates.freshArrivals (record { gaps = set (replicate 16 0) 0 gap; at = at; count = count; probe = probe })
+paired gap at count probe = with_rates fresh rates.fresh_arrivals (record { gaps = set (replicate 16 0) 0 gap; at = at; count = count; probe = probe })
 
 abbrev pairs : List End
 pairs =
@@ -125,7 +125,7 @@ pairs =
 
 -- history start, count, first ACK number and with it the newest, largest_ack2_dsn, last_ack_dsn
 abbrev recorded : ℕ → ℕ → ℕ → ℕ → ℕ → Head
-recorded start count first largest lastack = withHistory fresh (record { start = start; count = count; first = first; largest = largest; lastack = lastack })
+recorded start count first largest lastack = with_history fresh (record { start = start; count = count; first = first; largest = largest; lastack = lastack })
 
 abbrev histories : List End
 histories =
@@ -141,21 +141,21 @@ histories =
     ∷ []
 
 -- the latest reading
-abbrev readAt : ℤ → Head
-readAt now = withLatest fresh now
+abbrev read_at : ℤ → Head
+read_at now = with_latest fresh now
 
 abbrev readings : List End
 readings =
-    inside (readAt (pos (2 ^ 60 - 1)))
-    ∷ outside (readAt (pos (2 ^ 60)))
-    ∷ outside (readAt (negsuc 0))
+    inside (read_at (pos (2 ^ 60 - 1)))
+    ∷ outside (read_at (pos (2 ^ 60)))
+    ∷ outside (read_at (negsuc 0))
     ∷ []
 
 abbrev ends : List End
 ends = windows ++ delays ++ clocks ++ trips ++ arrivals ++ pairs ++ histories ++ readings
 
-ends-hold : map (λ (e : End). headOk e.head) ends ≡ map (λ (e : End). e.ok) ends
-unfolding headOk freshHead sync.freshClock base.freshBase ieee.fits samples.noSamples rates.freshArrivals rates.freshLinks history.freshHistory rtt.freshRtt ranges.clockOk rtt.rttOk rates.arrivalsOk rates.linksOk rates.windowOf rates.allUnder history.historyOk
+ends-hold : map (λ (e : End). head_ok e.head) ends ≡ map (λ (e : End). e.ok) ends
+unfolding head_ok fresh_head sync.fresh_clock base.fresh_base ieee.fits samples.no_samples rates.fresh_arrivals rates.fresh_links history.fresh_history rtt.fresh_rtt ranges.clock_ok rtt.rtt_ok rates.arrivals_ok rates.links_ok rates.window_of rates.all_under history.history_ok
 ends-hold = refl
 
 -- making: start, latency, first number and capacity, and the refusal
@@ -184,7 +184,7 @@ makings =
 
 makings-judged :
     map (λ (m : Making). (made_of m.start m.latency true m.first m.capacity).refusal) makings ≡ map (λ (m : Making). m.refusal) makings
-unfolding made_of thenOf
+unfolding made_of then_of
 makings-judged = refl
 
 -- a slot's words: a length above 1,456 is read as 1,456; of k the low 16 bits, of a feedback time those under 2^60; all other bits are ignored
@@ -201,17 +201,17 @@ unfolding entry_of
 others-ignored = refl
 
 -- and written 0, as word 2 is of a received entry
-others-written : (writeAt (replicate 3 (2 ^ 64 - 1)) 0 (Lost 2 5) ++ writeAt (replicate 3 (2 ^ 64 - 1)) 0 (Received 10 3 7 5)) ≡ (0 ∷ 2 ∷ 5 ∷ 253993 ∷ 5 ∷ 0 ∷ [])
-unfolding writeAt
+others-written : (write_at (replicate 3 (2 ^ 64 - 1)) 0 (Lost 2 5) ++ write_at (replicate 3 (2 ^ 64 - 1)) 0 (Received 10 3 7 5)) ≡ (0 ∷ 2 ∷ 5 ∷ 253993 ∷ 5 ∷ 0 ∷ [])
+unfolding write_at
 others-written = refl
 
 -- a payload leaves the bytes past its length
-bytes_past : withPayload (replicate 1460 9) 0 (1 ∷ 2 ∷ []) ≡ (1 ∷ 2 ∷ replicate 1458 9)
+bytes_past : with_payload (replicate 1460 9) 0 (1 ∷ 2 ∷ []) ≡ (1 ∷ 2 ∷ replicate 1458 9)
 bytes_past = refl
 
 -- a departure after `now` is read as `now`; of its word those bits count that are under 2^60, of a data number those under 2^31
 departures-read :
-    (history.departureAt (0 ∷ 1000 ∷ []) 0 (pos 1000) ∷ history.departureAt (0 ∷ 1001 ∷ []) 0 (pos 1000) ∷ history.departureAt (0 ∷ (2 ^ 60 + 5) ∷ []) 0 (pos 1000) ∷ pos (history.number_at ((2 ^ 31 + 3) ∷ 0 ∷ []) 0) ∷ [])
+    (history.departure_at (0 ∷ 1000 ∷ []) 0 (pos 1000) ∷ history.departure_at (0 ∷ 1001 ∷ []) 0 (pos 1000) ∷ history.departure_at (0 ∷ (2 ^ 60 + 5) ∷ []) 0 (pos 1000) ∷ pos (history.number_at ((2 ^ 31 + 3) ∷ 0 ∷ []) 0) ∷ [])
     ≡ (pos 1000 ∷ pos 1000 ∷ pos 5 ∷ pos 3 ∷ [])
-unfolding history.departureAt
+unfolding history.departure_at
 departures-read = refl

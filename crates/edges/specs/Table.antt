@@ -48,8 +48,8 @@ worked =
     }
 
 -- P2: RTT 18,000 from fresh: 11,000, 2,500
-abbrev pub roundTrip : Row
-roundTrip =
+abbrev pub round_trip : Row
+round_trip =
     record {
       file = header 0 0 0 0 2 ++ sends 0 0 3 0 0 ++ acks 0 ++ acks2 18000 1;
       gives = bytes "1 got 1 0\n2 ack 1 1 10000 1000 1 - - -\n3 rtt 11000 2500\nend 3 1 0 1\n";
@@ -72,4 +72,4 @@ lateness =
     }
 
 abbrev pub table : List Row
-table = worked ∷ roundTrip ∷ feedback ∷ lateness ∷ []
+table = worked ∷ round_trip ∷ feedback ∷ lateness ∷ []

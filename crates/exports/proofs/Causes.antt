@@ -9,21 +9,21 @@ use lib.Ieee.{fits, nan_bits, of_bits}
 use lib.ListN.{replicate, set}
 use Rattle.numbers.specs.Circular.{signed}
 use Rattle.numbers.proofs.Flags.{and_left, and_right}
-use Rattle.clock.specs.Base.{freshBase}
-use Rattle.clock.specs.Ranges.{clockOk}
-use Rattle.clock.specs.Samples.{noSamples}
-use Rattle.clock.specs.Sync.{freshClock}
-use Rattle.acks.specs.History.{freshHistory, historyOk}
-use Rattle.acks.specs.Rtt.{freshRtt, rttOk}
-use Rattle.intervals.specs.Rates.{freshArrivals, freshLinks, arrivalsOk, linksOk, windowOf, allUnder}
-use Rattle.head.specs.Head.{headOk, freshHead, unmade}
-use Rattle.head.specs.Rules.{thenOf}
+use Rattle.clock.specs.Base.{fresh_base}
+use Rattle.clock.specs.Ranges.{clock_ok}
+use Rattle.clock.specs.Samples.{no_samples}
+use Rattle.clock.specs.Sync.{fresh_clock}
+use Rattle.acks.specs.History.{fresh_history, history_ok}
+use Rattle.acks.specs.Rtt.{fresh_rtt, rtt_ok}
+use Rattle.intervals.specs.Rates.{fresh_arrivals, fresh_links, arrivals_ok, links_ok, window_of, all_under}
+use Rattle.head.specs.Head.{head_ok, fresh_head, unmade}
+use Rattle.head.specs.Rules.{then_of}
 use Rattle.head.specs.declared.state.Head.{Head}
-use Rattle.upkeep.specs.Request.{roomCallOf}
-use Rattle.packing.specs.Packed.{at, numbersFormed, sixteenOf, formed, head_of, unpackOf}
-use Rattle.packing.specs.Words.{numberFormed, flagFormed, floatFormed, momentFormed}
-use Rattle.exports.specs.Calls.{roomExportOf}
-use Rattle.exports.specs.Causes.{flagsRight, besideRight, timesRight, floatsRight, fieldsRight}
+use Rattle.upkeep.specs.Request.{room_call_of}
+use Rattle.packing.specs.Packed.{at, numbers_formed, sixteen_of, formed, head_of, unpack_of}
+use Rattle.packing.specs.Words.{number_formed, flag_formed, float_formed, moment_formed}
+use Rattle.exports.specs.Calls.{room_export_of}
+use Rattle.exports.specs.Causes.{flags_right, beside_right, times_right, floats_right, fields_right}
 
 -- two tests that hold together are one
 same_truth : (a b : Bool) → (a ≡ true → b ≡ true) → (b ≡ true → a ≡ true) → a ≡ b
@@ -55,8 +55,8 @@ module _ (n4 n5 n6 f7 n9 s10 u10 f12 d13 d14 n15 n16 n17 s52 u52 s72 u72 n76 n77
   abbrev lasts : List Bool
   lasts = n16 ∷ n17 ∷ (s52 && u52) ∷ (s72 && u72) ∷ n76 ∷ n77 ∷ n78 ∷ []
 
-  abbrev by-words : Bool
-  by-words = joined true firsts && joined true lasts && (r18 && r34 && r54)
+  abbrev by_words : Bool
+  by_words = joined true firsts && joined true lasts && (r18 && r34 && r54)
 
   abbrev flags : List Bool
   flags = f7 ∷ f12 ∷ s10 ∷ s52 ∷ s72 ∷ []
@@ -64,10 +64,10 @@ module _ (n4 n5 n6 f7 n9 s10 u10 f12 d13 d14 n15 n16 n17 s52 u52 s72 u72 n76 n77
   abbrev fields : List Bool
   fields = n4 ∷ n5 ∷ n6 ∷ n9 ∷ n15 ∷ n16 ∷ n17 ∷ r18 ∷ r34 ∷ r54 ∷ n76 ∷ n77 ∷ n78 ∷ []
 
-  abbrev by-cause : Bool
-  by-cause = joined true flags && (u10 && u52 && u72) && (d13 && d14) && joined true fields
+  abbrev by_cause : Bool
+  by_cause = joined true flags && (u10 && u52 && u72) && (d13 && d14) && joined true fields
 
-  to-cause : by-words ≡ true → by-cause ≡ true
+  to-cause : by_words ≡ true → by_cause ≡ true
   to-cause e =
       let p = each (joined true firsts ∷ joined true lasts ∷ (r18 && r34 && r54) ∷ []) e in
       let a = each firsts p.0 in
@@ -79,7 +79,7 @@ module _ (n4 n5 n6 f7 n9 s10 u10 f12 d13 d14 n15 n16 n17 s52 u52 s72 u72 n76 n77
       rw (a.1.1.1.0, a.1.1.1.1.1.1.0, m.0, k.0, q.0, m.1.0, k.1.0, q.1.0, a.1.1.1.1.1.1.1.0, a.1.1.1.1.1.1.1.1.0)
       (rw (a.0, a.1.0, a.1.1.0, a.1.1.1.1.0, a.1.1.1.1.1.1.1.1.1.0, b.0, b.1.0, c.0, c.1.0, c.1.1.0, b.1.1.1.1.0, b.1.1.1.1.1.0, b.1.1.1.1.1.1.0))
 
-  to-words : by-cause ≡ true → by-words ≡ true
+  to-words : by_cause ≡ true → by_words ≡ true
   to-words e =
       let p = each (joined true flags ∷ (u10 && u52 && u72) ∷ (d13 && d14) ∷ joined true fields ∷ []) e in
       let a = each flags p.0 in
@@ -90,36 +90,36 @@ module _ (n4 n5 n6 f7 n9 s10 u10 f12 d13 d14 n15 n16 n17 s52 u52 s72 u72 n76 n77
       (rw (f.1.1.1.1.1.0, f.1.1.1.1.1.1.0, a.1.1.1.0, b.1.0, a.1.1.1.1.0, b.1.1.0)
       (rw (f.1.1.1.1.1.1.1.1.1.1.0, f.1.1.1.1.1.1.1.1.1.1.1.0, f.1.1.1.1.1.1.1.1.1.1.1.1.0, f.1.1.1.1.1.1.1.0, f.1.1.1.1.1.1.1.1.0, f.1.1.1.1.1.1.1.1.1.0)))
 
-  sorted : by-words ≡ by-cause
-  sorted = same_truth by-words by-cause to-cause to-words
+  sorted : by_words ≡ by_cause
+  sorted = same_truth by_words by_cause to-cause to-words
 
 -- an optional time is two words: a flag, and nothing beside an unset one
-moment-right : (set time : ℕ) → momentFormed set time ≡ (flagFormed set && besideRight set time)
+moment-right : (set time : ℕ) → moment_formed set time ≡ (flag_formed set && beside_right set time)
 moment-right zero time = refl
 moment-right (suc zero) time = refl
 moment-right (suc (suc n)) time =
     rw (ne_eqb (suc (suc n)) 1 (λ e. omega arith), ne_eqb (suc (suc n)) 0 (λ e. omega arith), le-ltb (suc (suc n)) 2 (omega arith))
 
 -- words that are not formed say a head out of range
-by_form : (b : Bool) (h : Head) → headOk (cond b h unmade) ≡ (b && headOk h)
-unfolding headOk freshHead
+by_form : (b : Bool) (h : Head) → head_ok (cond b h unmade) ≡ (b && head_ok h)
+unfolding head_ok fresh_head
 by_form true h = refl
 by_form false h = refl
 
 module _ (ws : List ℕ) where
-  pub formed-exactly : formed ws ≡ (flagsRight ws && timesRight ws && floatsRight ws && fieldsRight ws)
+  pub formed-exactly : formed ws ≡ (flags_right ws && times_right ws && floats_right ws && fields_right ws)
   unfolding formed
   formed-exactly =
       rw (moment-right (at ws 10) (at ws 11), moment-right (at ws 52) (at ws 53), moment-right (at ws 72) (at ws 73))
-      (sorted (numberFormed (at ws 4)) (numberFormed (at ws 5)) (numberFormed (at ws 6)) (flagFormed (at ws 7)) (numberFormed (at ws 9))
-      (flagFormed (at ws 10)) (besideRight (at ws 10) (at ws 11)) (flagFormed (at ws 12)) (floatFormed (at ws 13)) (floatFormed (at ws 14)) (numberFormed (at ws 15))
-      (numberFormed (at ws 16)) (numberFormed (at ws 17)) (flagFormed (at ws 52)) (besideRight (at ws 52) (at ws 53)) (flagFormed (at ws 72)) (besideRight (at ws 72) (at ws 73))
-      (numberFormed (at ws 76)) (numberFormed (at ws 77)) (numberFormed (at ws 78)) (numbersFormed ws 18 16) (numbersFormed ws 34 16) (numbersFormed ws 54 16))
+      (sorted (number_formed (at ws 4)) (number_formed (at ws 5)) (number_formed (at ws 6)) (flag_formed (at ws 7)) (number_formed (at ws 9))
+      (flag_formed (at ws 10)) (beside_right (at ws 10) (at ws 11)) (flag_formed (at ws 12)) (float_formed (at ws 13)) (float_formed (at ws 14)) (number_formed (at ws 15))
+      (number_formed (at ws 16)) (number_formed (at ws 17)) (flag_formed (at ws 52)) (beside_right (at ws 52) (at ws 53)) (flag_formed (at ws 72)) (beside_right (at ws 72) (at ws 73))
+      (number_formed (at ws 76)) (number_formed (at ws 77)) (number_formed (at ws 78)) (numbers_formed ws 18 16) (numbers_formed ws 34 16) (numbers_formed ws 54 16))
 
   -- in range only if nothing of 1a to 1d is wrong, and the head that the words say is in range: 01's ranges, and 1e
-  pub refused-exactly : headOk (unpackOf ws) ≡ (flagsRight ws && timesRight ws && floatsRight ws && fieldsRight ws && headOk (head_of ws))
-  unfolding unpackOf
-  refused-exactly = by_form (formed ws) (head_of ws) ∙ ap (λ (b : Bool). b && headOk (head_of ws)) formed-exactly
+  pub refused-exactly : head_ok (unpack_of ws) ≡ (flags_right ws && times_right ws && floats_right ws && fields_right ws && head_ok (head_of ws))
+  unfolding unpack_of
+  refused-exactly = by_form (formed ws) (head_of ws) ∙ ap (λ (b : Bool). b && head_ok (head_of ws)) formed-exactly
 
 -- the words of a fresh head (start 5, latency 120,000, late dropping, first number 7, capacity 32), with one word, or two, put otherwise
 abbrev fresh : List ℕ
@@ -161,6 +161,6 @@ right =
     ∷ set fresh 70 15
     ∷ []
 
-causes-refused : map (λ (ws : List ℕ). (roomExportOf ws).returned) (wrong ++ right) ≡ (replicate 13 1 ++ replicate 13 0)
-unfolding roomExportOf roomCallOf thenOf unpackOf formed head_of numbersFormed sixteenOf headOk freshHead freshClock freshBase noSamples freshRtt freshArrivals freshLinks freshHistory clockOk rttOk arrivalsOk linksOk windowOf allUnder historyOk signed nan_bits of_bits fits
+causes-refused : map (λ (ws : List ℕ). (room_export_of ws).returned) (wrong ++ right) ≡ (replicate 13 1 ++ replicate 13 0)
+unfolding room_export_of room_call_of then_of unpack_of formed head_of numbers_formed sixteen_of head_ok fresh_head fresh_clock fresh_base no_samples fresh_rtt fresh_arrivals fresh_links fresh_history clock_ok rtt_ok arrivals_ok links_ok window_of all_under history_ok signed nan_bits of_bits fits
 causes-refused = refl

@@ -7,136 +7,136 @@ use Prim.Native.Nat.{ℕ}
 use borrow.Author.Tests.{ne_eqb}
 use lib.IntN.{ℤ}
 use Rattle.window.specs.declared.push.Packet.{Packet}
-use Rattle.head.specs.Head.{freshHead, headOk}
-use Rattle.head.specs.Rules.{thenOf}
+use Rattle.head.specs.Head.{fresh_head, head_ok}
+use Rattle.head.specs.Rules.{then_of}
 use Rattle.head.specs.declared.state.Head.{Head}
-use Rattle.feedback.specs.Acking.{fullAckCallOf, ack2CallOf}
-use Rattle.receiver.specs.Data.{dataCallOf}
-use Rattle.feedback.specs.Loss.{reportCallOf}
-use Rattle.receiver.specs.Message.{popCallOf}
-use Rattle.upkeep.specs.Request.{dropCallOf, clearCallOf, roomCallOf}
-use Rattle.upkeep.specs.Show.{shownCallOf, placeCallOf}
-use Rattle.feedback.specs.Sync.{clockCallOf}
-use Rattle.packing.specs.Packed.{formed, unpackOf}
-use Rattle.packing.specs.Tally.{countersWords, countersOf}
+use Rattle.feedback.specs.Acking.{full_ack_call_of, ack2_call_of}
+use Rattle.receiver.specs.Data.{data_call_of}
+use Rattle.feedback.specs.Loss.{report_call_of}
+use Rattle.receiver.specs.Message.{pop_call_of}
+use Rattle.upkeep.specs.Request.{drop_call_of, clear_call_of, room_call_of}
+use Rattle.upkeep.specs.Show.{shown_call_of, place_call_of}
+use Rattle.feedback.specs.Sync.{clock_call_of}
+use Rattle.packing.specs.Packed.{formed, unpack_of}
+use Rattle.packing.specs.Tally.{counters_words, counters_of}
 use Rattle.cells.specs.Cells.{cells_of}
-use Rattle.head.specs.Paper.{refusedBy}
-use Rattle.exports.specs.Calls.{left, kept, newOf, dataExportOf, messageExportOf, lossExportOf, fullAckExportOf, ack2ExportOf, dropExportOf, clockExportOf, clearExportOf, roomExportOf, showExportOf, dataCountedOf, ack2CountedOf, dropCountedOf, clockCountedOf}
+use Rattle.head.specs.Paper.{refused_by}
+use Rattle.exports.specs.Calls.{left, kept, new_of, data_export_of, message_export_of, loss_export_of, full_ack_export_of, ack2_export_of, drop_export_of, clock_export_of, clear_export_of, room_export_of, show_export_of, data_counted_of, ack2_counted_of, drop_counted_of, clock_counted_of}
 
 -- on a refusal the head's words stay
 kept_same : (ws : List ℕ) (n : ℕ) (h : Head) → (n ≡ 0 → ⊥) → kept ws n h ≡ ws
 kept_same ws n h e = rw (ne_eqb n 0 e)
 
 module _ (ws : List ℕ) where
-  pub new-stays : (start : ℤ) (latency : ℕ) (dropping : Bool) (first capacity : ℕ) → ((newOf ws start latency dropping first capacity).returned ≡ 0 → ⊥) → (newOf ws start latency dropping first capacity).words ≡ ws
-  unfolding newOf
+  pub new-stays : (start : ℤ) (latency : ℕ) (dropping : Bool) (first capacity : ℕ) → ((new_of ws start latency dropping first capacity).returned ≡ 0 → ⊥) → (new_of ws start latency dropping first capacity).words ≡ ws
+  unfolding new_of
   new-stays start latency dropping first capacity e = kept_same ws _ _ e
 
-  pub data-stays : (slots payloads : List ℕ) (now : ℤ) (p : Packet) (payload : List ℕ) → ((dataExportOf ws slots payloads now p payload).returned ≡ 0 → ⊥) → (dataExportOf ws slots payloads now p payload).words ≡ ws
-  unfolding dataExportOf
+  pub data-stays : (slots payloads : List ℕ) (now : ℤ) (p : Packet) (payload : List ℕ) → ((data_export_of ws slots payloads now p payload).returned ≡ 0 → ⊥) → (data_export_of ws slots payloads now p payload).words ≡ ws
+  unfolding data_export_of
   data-stays slots payloads now p payload e = kept_same ws _ _ e
 
-  pub message-stays : (slots payloads output : List ℕ) (now : ℤ) → ((messageExportOf ws slots payloads output now).returned ≡ 0 → ⊥) → (messageExportOf ws slots payloads output now).words ≡ ws
-  unfolding messageExportOf
+  pub message-stays : (slots payloads output : List ℕ) (now : ℤ) → ((message_export_of ws slots payloads output now).returned ≡ 0 → ⊥) → (message_export_of ws slots payloads output now).words ≡ ws
+  unfolding message_export_of
   message-stays slots payloads output now e = kept_same ws _ _ e
 
-  pub loss-stays : (slots list : List ℕ) (now : ℤ) → ((lossExportOf ws slots list now).returned ≡ 0 → ⊥) → (lossExportOf ws slots list now).words ≡ ws
-  unfolding lossExportOf
+  pub loss-stays : (slots list : List ℕ) (now : ℤ) → ((loss_export_of ws slots list now).returned ≡ 0 → ⊥) → (loss_export_of ws slots list now).words ≡ ws
+  unfolding loss_export_of
   loss-stays slots list now e = kept_same ws _ _ e
 
-  pub full-ack-stays : (history : List ℕ) (now : ℤ) → ((fullAckExportOf ws history now).returned ≡ 0 → ⊥) → (fullAckExportOf ws history now).words ≡ ws
-  unfolding fullAckExportOf
+  pub full-ack-stays : (history : List ℕ) (now : ℤ) → ((full_ack_export_of ws history now).returned ≡ 0 → ⊥) → (full_ack_export_of ws history now).words ≡ ws
+  unfolding full_ack_export_of
   full-ack-stays history now e = kept_same ws _ _ e
 
-  pub ack2-stays : (history : List ℕ) (now : ℤ) (number : ℕ) → ((ack2ExportOf ws history now number).returned ≡ 0 → ⊥) → (ack2ExportOf ws history now number).words ≡ ws
-  unfolding ack2ExportOf
+  pub ack2-stays : (history : List ℕ) (now : ℤ) (number : ℕ) → ((ack2_export_of ws history now number).returned ≡ 0 → ⊥) → (ack2_export_of ws history now number).words ≡ ws
+  unfolding ack2_export_of
   ack2-stays history now number e = kept_same ws _ _ e
 
-  pub clock-stays : (now : ℤ) (stamp : ℕ) → ((clockExportOf ws now stamp).returned ≡ 0 → ⊥) → (clockExportOf ws now stamp).words ≡ ws
-  unfolding clockExportOf
+  pub clock-stays : (now : ℤ) (stamp : ℕ) → ((clock_export_of ws now stamp).returned ≡ 0 → ⊥) → (clock_export_of ws now stamp).words ≡ ws
+  unfolding clock_export_of
   clock-stays now stamp e = kept_same ws _ _ e
 
-  pub clear_stays : ((clearExportOf ws).returned ≡ 0 → ⊥) → (clearExportOf ws).words ≡ ws
-  unfolding clearExportOf
+  pub clear_stays : ((clear_export_of ws).returned ≡ 0 → ⊥) → (clear_export_of ws).words ≡ ws
+  unfolding clear_export_of
   clear_stays e = kept_same ws _ _ e
 
-  pub data-counted-stays : (cs slots payloads : List ℕ) (now : ℤ) (p : Packet) (payload : List ℕ) → ((dataCountedOf ws cs slots payloads now p payload).returned ≡ 0 → ⊥) → (dataCountedOf ws cs slots payloads now p payload).words ≡ ws
-  unfolding dataCountedOf
+  pub data-counted-stays : (cs slots payloads : List ℕ) (now : ℤ) (p : Packet) (payload : List ℕ) → ((data_counted_of ws cs slots payloads now p payload).returned ≡ 0 → ⊥) → (data_counted_of ws cs slots payloads now p payload).words ≡ ws
+  unfolding data_counted_of
   data-counted-stays cs slots payloads now p payload e = kept_same ws _ _ e
 
-  pub ack2-counted-stays : (cs history : List ℕ) (now : ℤ) (number : ℕ) → ((ack2CountedOf ws cs history now number).returned ≡ 0 → ⊥) → (ack2CountedOf ws cs history now number).words ≡ ws
-  unfolding ack2CountedOf
+  pub ack2-counted-stays : (cs history : List ℕ) (now : ℤ) (number : ℕ) → ((ack2_counted_of ws cs history now number).returned ≡ 0 → ⊥) → (ack2_counted_of ws cs history now number).words ≡ ws
+  unfolding ack2_counted_of
   ack2-counted-stays cs history now number e = kept_same ws _ _ e
 
-  pub clock-counted-stays : (cs : List ℕ) (now : ℤ) (stamp : ℕ) → ((clockCountedOf ws cs now stamp).returned ≡ 0 → ⊥) → (clockCountedOf ws cs now stamp).words ≡ ws
-  unfolding clockCountedOf
+  pub clock-counted-stays : (cs : List ℕ) (now : ℤ) (stamp : ℕ) → ((clock_counted_of ws cs now stamp).returned ≡ 0 → ⊥) → (clock_counted_of ws cs now stamp).words ≡ ws
+  unfolding clock_counted_of
   clock-counted-stays cs now stamp e = kept_same ws _ _ e
 
 -- words that are not formed say a head of no capacity
-unformed : (ws : List ℕ) → formed ws ≡ false → headOk (unpackOf ws) ≡ false
-unfolding unpackOf headOk freshHead
+unformed : (ws : List ℕ) → formed ws ≡ false → head_ok (unpack_of ws) ≡ false
+unfolding unpack_of head_ok fresh_head
 unformed ws e = rw e
 
 -- so each call refuses them with 1, and all that it was lent stays; counters go through their own words, which ten words do unchanged (packing's `tally-words`)
-abbrev headBad : List ℤ
-headBad = cells_of (refusedBy 1 [])
+abbrev head_bad : List ℤ
+head_bad = cells_of (refused_by 1 [])
 
 abbrev tally : List ℕ → List ℕ
-tally cs = countersWords (countersOf cs)
+tally cs = counters_words (counters_of cs)
 
 module _ (ws : List ℕ) (e : formed ws ≡ false) where
-  pub data-unformed : (slots payloads : List ℕ) (now : ℤ) (p : Packet) (payload : List ℕ) → dataExportOf ws slots payloads now p payload ≡ left 1 ws headBad (slots ∷ payloads ∷ [])
-  unfolding dataExportOf dataCallOf thenOf
+  pub data-unformed : (slots payloads : List ℕ) (now : ℤ) (p : Packet) (payload : List ℕ) → data_export_of ws slots payloads now p payload ≡ left 1 ws head_bad (slots ∷ payloads ∷ [])
+  unfolding data_export_of data_call_of then_of
   data-unformed slots payloads now p payload = rw (unformed ws e)
 
-  pub message-unformed : (slots payloads output : List ℕ) (now : ℤ) → messageExportOf ws slots payloads output now ≡ left 1 ws headBad (output ∷ [])
-  unfolding messageExportOf popCallOf thenOf
+  pub message-unformed : (slots payloads output : List ℕ) (now : ℤ) → message_export_of ws slots payloads output now ≡ left 1 ws head_bad (output ∷ [])
+  unfolding message_export_of pop_call_of then_of
   message-unformed slots payloads output now = rw (unformed ws e)
 
-  pub loss-unformed : (slots list : List ℕ) (now : ℤ) → lossExportOf ws slots list now ≡ left 1 ws headBad (slots ∷ list ∷ [])
-  unfolding lossExportOf reportCallOf thenOf
+  pub loss-unformed : (slots list : List ℕ) (now : ℤ) → loss_export_of ws slots list now ≡ left 1 ws head_bad (slots ∷ list ∷ [])
+  unfolding loss_export_of report_call_of then_of
   loss-unformed slots list now = rw (unformed ws e)
 
-  pub full-ack-unformed : (history : List ℕ) (now : ℤ) → fullAckExportOf ws history now ≡ left 1 ws headBad (history ∷ [])
-  unfolding fullAckExportOf fullAckCallOf thenOf
+  pub full-ack-unformed : (history : List ℕ) (now : ℤ) → full_ack_export_of ws history now ≡ left 1 ws head_bad (history ∷ [])
+  unfolding full_ack_export_of full_ack_call_of then_of
   full-ack-unformed history now = rw (unformed ws e)
 
-  pub ack2-unformed : (history : List ℕ) (now : ℤ) (number : ℕ) → ack2ExportOf ws history now number ≡ left 1 ws headBad []
-  unfolding ack2ExportOf ack2CallOf thenOf
+  pub ack2-unformed : (history : List ℕ) (now : ℤ) (number : ℕ) → ack2_export_of ws history now number ≡ left 1 ws head_bad []
+  unfolding ack2_export_of ack2_call_of then_of
   ack2-unformed history now number = rw (unformed ws e)
 
-  pub drop-unformed : (slots : List ℕ) (first last : ℕ) → dropExportOf ws slots first last ≡ left 1 ws headBad (slots ∷ [])
-  unfolding dropExportOf dropCallOf thenOf
+  pub drop-unformed : (slots : List ℕ) (first last : ℕ) → drop_export_of ws slots first last ≡ left 1 ws head_bad (slots ∷ [])
+  unfolding drop_export_of drop_call_of then_of
   drop-unformed slots first last = rw (unformed ws e)
 
-  pub clock-unformed : (now : ℤ) (stamp : ℕ) → clockExportOf ws now stamp ≡ left 1 ws headBad []
-  unfolding clockExportOf clockCallOf thenOf
+  pub clock-unformed : (now : ℤ) (stamp : ℕ) → clock_export_of ws now stamp ≡ left 1 ws head_bad []
+  unfolding clock_export_of clock_call_of then_of
   clock-unformed now stamp = rw (unformed ws e)
 
-  pub clear-unformed : clearExportOf ws ≡ left 1 ws headBad []
-  unfolding clearExportOf clearCallOf thenOf
+  pub clear-unformed : clear_export_of ws ≡ left 1 ws head_bad []
+  unfolding clear_export_of clear_call_of then_of
   clear-unformed = rw (unformed ws e)
 
-  pub room-unformed : roomExportOf ws ≡ left 1 ws headBad []
-  unfolding roomExportOf roomCallOf thenOf
+  pub room-unformed : room_export_of ws ≡ left 1 ws head_bad []
+  unfolding room_export_of room_call_of then_of
   room-unformed = rw (unformed ws e)
 
-  pub show-unformed : (slots payloads : List ℕ) (number : ℕ) → showExportOf ws slots payloads number ≡ left 1 ws headBad []
-  unfolding showExportOf shownCallOf placeCallOf thenOf
+  pub show-unformed : (slots payloads : List ℕ) (number : ℕ) → show_export_of ws slots payloads number ≡ left 1 ws head_bad []
+  unfolding show_export_of shown_call_of place_call_of then_of
   show-unformed slots payloads number = rw (unformed ws e)
 
-  pub data-counted-unformed : (cs slots payloads : List ℕ) (now : ℤ) (p : Packet) (payload : List ℕ) → dataCountedOf ws cs slots payloads now p payload ≡ left 1 ws headBad (tally cs ∷ slots ∷ payloads ∷ [])
-  unfolding dataCountedOf dataCallOf thenOf
+  pub data-counted-unformed : (cs slots payloads : List ℕ) (now : ℤ) (p : Packet) (payload : List ℕ) → data_counted_of ws cs slots payloads now p payload ≡ left 1 ws head_bad (tally cs ∷ slots ∷ payloads ∷ [])
+  unfolding data_counted_of data_call_of then_of
   data-counted-unformed cs slots payloads now p payload = rw (unformed ws e)
 
-  pub ack2-counted-unformed : (cs history : List ℕ) (now : ℤ) (number : ℕ) → ack2CountedOf ws cs history now number ≡ left 1 ws headBad (tally cs ∷ [])
-  unfolding ack2CountedOf ack2CallOf thenOf
+  pub ack2-counted-unformed : (cs history : List ℕ) (now : ℤ) (number : ℕ) → ack2_counted_of ws cs history now number ≡ left 1 ws head_bad (tally cs ∷ [])
+  unfolding ack2_counted_of ack2_call_of then_of
   ack2-counted-unformed cs history now number = rw (unformed ws e)
 
-  pub drop-counted-unformed : (cs slots : List ℕ) (first last : ℕ) → dropCountedOf ws cs slots first last ≡ left 1 ws headBad (tally cs ∷ slots ∷ [])
-  unfolding dropCountedOf dropCallOf thenOf
+  pub drop-counted-unformed : (cs slots : List ℕ) (first last : ℕ) → drop_counted_of ws cs slots first last ≡ left 1 ws head_bad (tally cs ∷ slots ∷ [])
+  unfolding drop_counted_of drop_call_of then_of
   drop-counted-unformed cs slots first last = rw (unformed ws e)
 
-  pub clock-counted-unformed : (cs : List ℕ) (now : ℤ) (stamp : ℕ) → clockCountedOf ws cs now stamp ≡ left 1 ws headBad (tally cs ∷ [])
-  unfolding clockCountedOf clockCallOf thenOf
+  pub clock-counted-unformed : (cs : List ℕ) (now : ℤ) (stamp : ℕ) → clock_counted_of ws cs now stamp ≡ left 1 ws head_bad (tally cs ∷ [])
+  unfolding clock_counted_of clock_call_of then_of
   clock-counted-unformed cs now stamp = rw (unformed ws e)

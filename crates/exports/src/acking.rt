@@ -1,6 +1,6 @@
 // Full ACKs and ACK2s: 01, "ACKs, RTT, rates", with refusals 1 to 4 and 13.
 ghost use Rattle.std.specs.Prelude.{◌≡◌, [], ◌∷◌};
-ghost use Rattle.exports.specs.Calls.{left, ack2ExportOf, fullAckExportOf};
+ghost use Rattle.exports.specs.Calls.{left, ack2_export_of, full_ack_export_of};
 
 #[unsafe(no_mangle)]
 pub extern "C" fn pt_on_full_ack_event(
@@ -9,7 +9,7 @@ pub extern "C" fn pt_on_full_ack_event(
     history: &mut [u64],
     time: i64,
 ) -> u32
-    ensures { left result words.new answer.new (history.new ∷ []) ≡ fullAckExportOf words.old history.old time }
+    ensures { left result words.new answer.new (history.new ∷ []) ≡ full_ack_export_of words.old history.old time }
 {
     let h = packing::unpack::unpack(words);
     let r = feedback::acking::on_full_ack_event(h, history, time);
@@ -29,7 +29,7 @@ pub extern "C" fn pt_handle_ack2_packet(
     time: i64,
     number: u32,
 ) -> u32
-    ensures { left result words.new answer.new [] ≡ ack2ExportOf words.old history.now time number }
+    ensures { left result words.new answer.new [] ≡ ack2_export_of words.old history.now time number }
 {
     let h = packing::unpack::unpack(words);
     let r = feedback::acking::handle_ack2_packet(h, history, time, number);

@@ -1,7 +1,7 @@
 // The four calls that count, with the ten counters beside the head: 01, "Counters follow 003". Refusals 7 to 10 still count.
 ghost use Rattle.std.specs.Prelude.{◌≡◌, [], ◌∷◌};
 ghost use Rattle.receiver.specs.Data.{packet};
-ghost use Rattle.exports.specs.Calls.{left, ack2CountedOf, clockCountedOf, dataCountedOf, dropCountedOf};
+ghost use Rattle.exports.specs.Calls.{left, ack2_counted_of, clock_counted_of, data_counted_of, drop_counted_of};
 
 #[unsafe(no_mangle)]
 pub extern "C" fn pt_counted_handle_data_packet(
@@ -17,7 +17,7 @@ pub extern "C" fn pt_counted_handle_data_packet(
     stamp: u32,
     payload: &[u8],
 ) -> u32
-    ensures { left result words.new answer.new (counts.new ∷ slots.new ∷ payloads.new ∷ []) ≡ dataCountedOf words.old counts.old slots.old payloads.old time (packet number message location stamp) payload.now }
+    ensures { left result words.new answer.new (counts.new ∷ slots.new ∷ payloads.new ∷ []) ≡ data_counted_of words.old counts.old slots.old payloads.old time (packet number message location stamp) payload.now }
 {
     let c = packing::tally::counters(counts);
     let size = payload.len();
@@ -38,7 +38,7 @@ pub extern "C" fn pt_counted_handle_ack2_packet(
     time: i64,
     number: u32,
 ) -> u32
-    ensures { left result words.new answer.new (counts.new ∷ []) ≡ ack2CountedOf words.old counts.old history.now time number }
+    ensures { left result words.new answer.new (counts.new ∷ []) ≡ ack2_counted_of words.old counts.old history.now time number }
 {
     let h = packing::unpack::unpack(words);
     let c = packing::tally::counters(counts);
@@ -63,7 +63,7 @@ pub extern "C" fn pt_counted_handle_drop_request(
     first: u32,
     last: u32,
 ) -> u32
-    ensures { left result words.now answer.new (counts.new ∷ slots.new ∷ []) ≡ dropCountedOf words.now counts.old slots.old first last }
+    ensures { left result words.now answer.new (counts.new ∷ slots.new ∷ []) ≡ drop_counted_of words.now counts.old slots.old first last }
 {
     let h = packing::unpack::unpack(words);
     let c = packing::tally::counters(counts);
@@ -83,7 +83,7 @@ pub extern "C" fn pt_counted_synchronize_clock(
     time: i64,
     stamp: u32,
 ) -> u32
-    ensures { left result words.new answer.new (counts.new ∷ []) ≡ clockCountedOf words.old counts.old time stamp }
+    ensures { left result words.new answer.new (counts.new ∷ []) ≡ clock_counted_of words.old counts.old time stamp }
 {
     let h = packing::unpack::unpack(words);
     let c = packing::tally::counters(counts);

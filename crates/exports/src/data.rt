@@ -1,7 +1,7 @@
 // A data packet comes: 01, "Window", with refusals 1 to 10.
 ghost use Rattle.std.specs.Prelude.{◌≡◌, [], ◌∷◌};
 ghost use Rattle.receiver.specs.Data.{packet};
-ghost use Rattle.exports.specs.Calls.{left, dataExportOf};
+ghost use Rattle.exports.specs.Calls.{left, data_export_of};
 
 #[unsafe(no_mangle)]
 pub extern "C" fn pt_handle_data_packet(
@@ -16,7 +16,7 @@ pub extern "C" fn pt_handle_data_packet(
     stamp: u32,
     payload: &[u8],
 ) -> u32
-    ensures { left result words.new answer.new (slots.new ∷ payloads.new ∷ []) ≡ dataExportOf words.old slots.old payloads.old time (packet number message location stamp) payload.now }
+    ensures { left result words.new answer.new (slots.new ∷ payloads.new ∷ []) ≡ data_export_of words.old slots.old payloads.old time (packet number message location stamp) payload.now }
 {
     let a = inplace::data::handle_data_packet(
         words, slots, payloads, time, number, message, location, stamp, payload,

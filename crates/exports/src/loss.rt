@@ -1,6 +1,6 @@
 // The loss report: 01, "Window", with refusals 1 to 4 and 12.
 ghost use Rattle.std.specs.Prelude.{◌≡◌, [], ◌∷◌};
-ghost use Rattle.exports.specs.Calls.{left, lossExportOf};
+ghost use Rattle.exports.specs.Calls.{left, loss_export_of};
 
 #[unsafe(no_mangle)]
 pub extern "C" fn pt_on_nak_event(
@@ -10,7 +10,7 @@ pub extern "C" fn pt_on_nak_event(
     list: &mut [u32],
     time: i64,
 ) -> u32
-    ensures { left result words.new answer.new (slots.new ∷ list.new ∷ []) ≡ lossExportOf words.old slots.old list.old time }
+    ensures { left result words.new answer.new (slots.new ∷ list.new ∷ []) ≡ loss_export_of words.old slots.old list.old time }
 {
     let h = packing::unpack::unpack(words);
     let r = feedback::loss::on_nak_event(h, slots, list, time);

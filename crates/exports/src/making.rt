@@ -1,6 +1,6 @@
 // A fresh receiver: 01, refusal 15.
 ghost use Rattle.std.specs.Prelude.{◌≡◌, []};
-ghost use Rattle.exports.specs.Calls.{left, newOf};
+ghost use Rattle.exports.specs.Calls.{left, new_of};
 
 use head::state::Head;
 
@@ -14,7 +14,7 @@ pub extern "C" fn pt_new(
     first: u32,
     capacity: usize,
 ) -> u32
-    ensures { left result words.new answer.new [] ≡ newOf words.old start latency dropping first capacity }
+    ensures { left result words.new answer.new [] ≡ new_of words.old start latency dropping first capacity }
 {
     let made = Head::new(start, latency, dropping, first, capacity);
     let next = made.head;

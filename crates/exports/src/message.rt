@@ -1,6 +1,6 @@
 // The next message: 01, "Window", with refusals 1 to 4 and 11.
 ghost use Rattle.std.specs.Prelude.{◌≡◌, [], ◌∷◌};
-ghost use Rattle.exports.specs.Calls.{left, messageExportOf};
+ghost use Rattle.exports.specs.Calls.{left, message_export_of};
 
 #[unsafe(no_mangle)]
 pub extern "C" fn pt_pop_next_message(
@@ -11,7 +11,7 @@ pub extern "C" fn pt_pop_next_message(
     output: &mut [u8],
     time: i64,
 ) -> u32
-    ensures { left result words.new answer.new (output.new ∷ []) ≡ messageExportOf words.old slots.now payloads.now output.old time }
+    ensures { left result words.new answer.new (output.new ∷ []) ≡ message_export_of words.old slots.now payloads.now output.old time }
 {
     let a = inplace::message::pop_next_message(words, slots, payloads, output, time);
     *answer = cells::message_cells(a);

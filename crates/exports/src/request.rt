@@ -1,6 +1,6 @@
 // The drop request, clear and room: 01, "Window", with refusals 1, 2 and 5; 1; and 1. A drop request and the question of room have no head to write.
 ghost use Rattle.std.specs.Prelude.{◌≡◌, [], ◌∷◌};
-ghost use Rattle.exports.specs.Calls.{left, clearExportOf, dropExportOf, roomExportOf};
+ghost use Rattle.exports.specs.Calls.{left, clear_export_of, drop_export_of, room_export_of};
 
 #[unsafe(no_mangle)]
 pub extern "C" fn pt_handle_drop_request(
@@ -10,7 +10,7 @@ pub extern "C" fn pt_handle_drop_request(
     first: u32,
     last: u32,
 ) -> u32
-    ensures { left result words.now answer.new (slots.new ∷ []) ≡ dropExportOf words.now slots.old first last }
+    ensures { left result words.now answer.new (slots.new ∷ []) ≡ drop_export_of words.now slots.old first last }
 {
     let h = packing::unpack::unpack(words);
     let a = upkeep::request::handle_drop_request(h, slots, first, last);
@@ -20,7 +20,7 @@ pub extern "C" fn pt_handle_drop_request(
 
 #[unsafe(no_mangle)]
 pub extern "C" fn pt_clear(words: &mut [u64; 79], answer: &mut [i64; 10]) -> u32
-    ensures { left result words.new answer.new [] ≡ clearExportOf words.old }
+    ensures { left result words.new answer.new [] ≡ clear_export_of words.old }
 {
     let h = packing::unpack::unpack(words);
     let r = upkeep::request::clear(h);
@@ -34,7 +34,7 @@ pub extern "C" fn pt_clear(words: &mut [u64; 79], answer: &mut [i64; 10]) -> u32
 
 #[unsafe(no_mangle)]
 pub extern "C" fn pt_buffer_available(words: &[u64; 79], answer: &mut [i64; 10]) -> u32
-    ensures { left result words.now answer.new [] ≡ roomExportOf words.now }
+    ensures { left result words.now answer.new [] ≡ room_export_of words.now }
 {
     let h = packing::unpack::unpack(words);
     let a = upkeep::request::buffer_available(h);

@@ -1,6 +1,6 @@
 // Where a payload lies: 01, "Window", with refusals 1, 2 and 5. C has the payload area, so the answer is an offset and a length.
 ghost use Rattle.std.specs.Prelude.{◌≡◌, []};
-ghost use Rattle.exports.specs.Calls.{left, showExportOf};
+ghost use Rattle.exports.specs.Calls.{left, show_export_of};
 
 #[unsafe(no_mangle)]
 pub extern "C" fn pt_show(
@@ -10,7 +10,7 @@ pub extern "C" fn pt_show(
     payloads: &[u8],
     number: u32,
 ) -> u32
-    ensures { left result words.now answer.new [] ≡ showExportOf words.now slots.now payloads.now number }
+    ensures { left result words.now answer.new [] ≡ show_export_of words.now slots.now payloads.now number }
 {
     let h = packing::unpack::unpack(words);
     let a = upkeep::show::shown(h, slots, payloads, number);

@@ -1,6 +1,6 @@
 // The clock call: 01, "Clock", with refusals 1, 3, 4 and 14.
 ghost use Rattle.std.specs.Prelude.{◌≡◌, []};
-ghost use Rattle.exports.specs.Calls.{left, clockExportOf};
+ghost use Rattle.exports.specs.Calls.{left, clock_export_of};
 
 #[unsafe(no_mangle)]
 pub extern "C" fn pt_synchronize_clock(
@@ -9,7 +9,7 @@ pub extern "C" fn pt_synchronize_clock(
     time: i64,
     stamp: u32,
 ) -> u32
-    ensures { left result words.new answer.new [] ≡ clockExportOf words.old time stamp }
+    ensures { left result words.new answer.new [] ≡ clock_export_of words.old time stamp }
 {
     let h = packing::unpack::unpack(words);
     let r = feedback::sync::synchronize_clock(h, time, stamp);

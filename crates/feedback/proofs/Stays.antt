@@ -8,8 +8,8 @@ use lib.IntN.{ℤ}
 use lib.ListN.{length}
 use Rattle.window_report.specs.Report as report
 use Rattle.window_report.specs.declared.report.ReportAnswer.TheVariants as reports
-use Rattle.head.specs.Rules.{firstRefusal, timedRules}
-use Rattle.head.specs.Head.{headOk}
+use Rattle.head.specs.Rules.{first_refusal, timed_rules}
+use Rattle.head.specs.Head.{head_ok}
 use Rattle.head.specs.declared.state.Head.{Head}
 use Rattle.feedback.specs.Stays.{LossStays}
 use Rattle.feedback.specs.Loss as loss
@@ -24,21 +24,21 @@ module _ (h : Head) (ws list : List ℕ) (now : ℤ) where
   report-by true x y p q = p
   report-by false x y p q = q
 
-  reported-stays : LossStays h ws list (loss.reportedOf h ws list now)
-  unfolding loss.reportedOf report.reportOf
+  reported-stays : LossStays h ws list (loss.reported_of h ws list now)
+  unfolding loss.reported_of report.report_of
   reported-stays =
       let w = h.window in
       let m = h.rtt.mean in
       let n = report.needed w ws now m in
-      let none = report.reportEnded reports.Nothing ws list in
-      let short = report.reportEnded reports.ListShort ws list in
-      let done = report.reportEnded (reports.Report n) (report.slotsTo w ws now m w.held) (report.listAll w ws now m list) in
+      let none = report.report_ended reports.Nothing ws list in
+      let short = report.report_ended reports.ListShort ws list in
+      let done = report.report_ended (reports.Report n) (report.slots_to w ws now m w.held) (report.list_all w ws now m list) in
       report-by (eqb n 0) none (cond (ltb (length list) n) short done)
       (λ e. absurd (e refl))
       (report-by (ltb (length list) n) short done (λ e. refl) (λ e. absurd (e refl)))
 
-  pub loss-stays : LossStays h ws list (loss.reportCallOf h ws list now)
-  unfolding loss.reportCallOf
+  pub loss-stays : LossStays h ws list (loss.report_call_of h ws list now)
+  unfolding loss.report_call_of
   loss-stays =
-      let n = firstRefusal (timedRules (headOk h) (length ws) (3 * h.window.capacity) now h.latest) in
-      loss-by (eqb n 0) (loss.reportedOf h ws list now) (loss.lossEnded (record { head = h; answer = losses.Refused n }) ws list) reported-stays (λ e. refl)
+      let n = first_refusal (timed_rules (head_ok h) (length ws) (3 * h.window.capacity) now h.latest) in
+      loss-by (eqb n 0) (loss.reported_of h ws list now) (loss.loss_ended (record { head = h; answer = losses.Refused n }) ws list) reported-stays (λ e. refl)

@@ -1,7 +1,7 @@
 -- The calls for full ACKs and ACK2s: 01, "ACKs, RTT, rates", with refusals 1 to 4 and 13.
 use Rattle.std.specs.Prelude.{cond, List, ℕ, eqb, ℤ, length}
-use Rattle.acks.specs.History.{AckOutcome, fullAckOf, ack2Of}
-use Rattle.intervals.specs.Rates.{speedOf, capacityOf}
+use Rattle.acks.specs.History.{AckOutcome, full_ack_of, ack2_of}
+use Rattle.intervals.specs.Rates.{speed_of, capacity_of}
 use Rattle.acks.specs.Rtt.{updated}
 use Rattle.acks.specs.declared.history.History.{History}
 use Rattle.acks.specs.declared.history.AckAnswer.{AckAnswer}
@@ -11,14 +11,14 @@ use Rattle.acks.specs.declared.history.Ack2Answer.TheVariants as acks2
 use Rattle.intervals.specs.declared.rates.Arrivals.{Arrivals}
 use Rattle.intervals.specs.declared.rates.Links.{Links}
 use Rattle.acks.specs.declared.rtt.Rtt.{Rtt}
-use Rattle.window.specs.Window.{roomOf}
+use Rattle.window.specs.Window.{room_of}
 use Rattle.window.specs.declared.Window.{Window}
-use Rattle.head.specs.Rules.{firstRefusal, judged, timedRules}
-use Rattle.head.specs.Head.{headOk}
-use Rattle.head.specs.Parts.{withRtt, withHistory, withLatest}
+use Rattle.head.specs.Rules.{first_refusal, judged, timed_rules}
+use Rattle.head.specs.Head.{head_ok}
+use Rattle.head.specs.Parts.{with_rtt, with_history, with_latest}
 use Rattle.head.specs.declared.state.Head.{Head}
 use Rattle.head.specs.Paper.{Line}
-use Rattle.feedback.specs.Paper.{fullAckLine, rttLine}
+use Rattle.feedback.specs.Paper.{full_ack_line, rtt_line}
 use Rattle.feedback.specs.declared.acking.FullAcked.{FullAcked}
 use Rattle.feedback.specs.declared.acking.FullAckAnswer.{FullAckAnswer}
 use Rattle.feedback.specs.declared.acking.FullAckAnswer.TheVariants as answers
@@ -27,15 +27,15 @@ use Rattle.feedback.specs.declared.acking.RttAnswer.TheVariants as rtts
 
 -- an ACK of this number with the head's figures: lrsn, the round trip, the room, packet_receive_rate, and
 -- estimated_link_capacity, which carries bytes a second, and data_receive_rate, which carries the link figure
-abbrev pub figuresOf : ℕ → Window → Rtt → Arrivals → Links → FullAckAnswer
-figuresOf n w t a l =
-    answers.Ack n w.lrsn t.mean t.variance (roomOf w) (speedOf a).packets (speedOf a).bytes (capacityOf l)
+abbrev pub figures_of : ℕ → Window → Rtt → Arrivals → Links → FullAckAnswer
+figures_of n w t a l =
+    answers.Ack n w.lrsn t.mean t.variance (room_of w) (speed_of a).packets (speed_of a).bytes (capacity_of l)
 
 -- the history's answer as the call's; `none` moves the latest reading only, and on refusal 13 the head stays
-abbrev pub afterAck : Head → History → AckAnswer → ℤ → FullAcked
-afterAck h y acks.Nothing now = record { head = withLatest h now; answer = answers.Nothing }
-afterAck h y acks.Worn now = record { head = h; answer = answers.Refused 13 }
-afterAck h y (acks.Ack n) now = record { head = withLatest (withHistory h y) now; answer = figuresOf n h.window h.rtt h.arrivals h.links }
+abbrev pub after_ack : Head → History → AckAnswer → ℤ → FullAcked
+after_ack h y acks.Nothing now = record { head = with_latest h now; answer = answers.Nothing }
+after_ack h y acks.Worn now = record { head = h; answer = answers.Refused 13 }
+after_ack h y (acks.Ack n) now = record { head = with_latest (with_history h y) now; answer = figures_of n h.window h.rtt h.arrivals h.links }
 
 -- all that a full ACK leaves: the head and the answer, its line on paper, and the history area
 pub record FullAckOutcome : Type 0 where
@@ -43,48 +43,48 @@ pub record FullAckOutcome : Type 0 where
   pub line : Line
   pub area : List ℕ
 
-abbrev pub fullAckEnded : FullAcked → List ℕ → FullAckOutcome
-fullAckEnded r a = record { acked = r; line = fullAckLine r.answer; area = a }
+abbrev pub full_ack_ended : FullAcked → List ℕ → FullAckOutcome
+full_ack_ended r a = record { acked = r; line = full_ack_line r.answer; area = a }
 
 -- a full ACK with room: what the history does, at this reading
-abbrev pub ofHistory : Head → AckOutcome → ℤ → FullAckOutcome
-ofHistory h o now = fullAckEnded (afterAck h o.acked.history o.acked.answer now) o.area
+abbrev pub of_history : Head → AckOutcome → ℤ → FullAckOutcome
+of_history h o now = full_ack_ended (after_ack h o.acked.history o.acked.answer now) o.area
 
-unfoldable pub roomyAck : Head → List ℕ → ℤ → FullAckOutcome
-roomyAck h a now = ofHistory h (fullAckOf h.history a now h.rtt.mean h.latency h.window.lrsn) now
+unfoldable pub roomy_ack : Head → List ℕ → ℤ → FullAckOutcome
+roomy_ack h a now = of_history h (full_ack_of h.history a now h.rtt.mean h.latency h.window.lrsn) now
 
 -- none if there is no room
-unfoldable pub dueAck : Head → List ℕ → ℤ → FullAckOutcome
-dueAck h a now =
-    cond (eqb (roomOf h.window) 0) (fullAckEnded (record { head = withLatest h now; answer = answers.Nothing }) a) (roomyAck h a now)
+unfoldable pub due_ack : Head → List ℕ → ℤ → FullAckOutcome
+due_ack h a now =
+    cond (eqb (room_of h.window) 0) (full_ack_ended (record { head = with_latest h now; answer = answers.Nothing }) a) (roomy_ack h a now)
 
-unfoldable pub fullAckCallOf : Head → List ℕ → ℤ → FullAckOutcome
-fullAckCallOf h a now =
-    judged (firstRefusal (timedRules (headOk h) (length a) 2048 now h.latest))
-    (dueAck h a now)
-    (λ n. fullAckEnded (record { head = h; answer = answers.Refused n }) a)
+unfoldable pub full_ack_call_of : Head → List ℕ → ℤ → FullAckOutcome
+full_ack_call_of h a now =
+    judged (first_refusal (timed_rules (head_ok h) (length a) 2048 now h.latest))
+    (due_ack h a now)
+    (λ n. full_ack_ended (record { head = h; answer = answers.Refused n }) a)
 
 -- ACK2 of a held ACK: the history's new largest_ack2_dsn, and the round trip with the interval r; of another, `none`
-abbrev pub afterAck2 : Head → History → Ack2Answer → ℤ → Ack2ed
-afterAck2 h y acks2.NotHeld now = record { head = withLatest h now; answer = rtts.Nothing }
-afterAck2 h y (acks2.Held r) now =
-    record { head = withLatest (withRtt (withHistory h y) (updated h.rtt r)) now; answer = rtts.Rtt (updated h.rtt r).mean (updated h.rtt r).variance }
+abbrev pub after_ack2 : Head → History → Ack2Answer → ℤ → Ack2ed
+after_ack2 h y acks2.NotHeld now = record { head = with_latest h now; answer = rtts.Nothing }
+after_ack2 h y (acks2.Held r) now =
+    record { head = with_latest (with_rtt (with_history h y) (updated h.rtt r)) now; answer = rtts.Rtt (updated h.rtt r).mean (updated h.rtt r).variance }
 
-unfoldable pub heldAck2 : Head → List ℕ → ℤ → ℕ → Ack2ed
-heldAck2 h a now number =
-    let k = ack2Of h.history a now number in
-    afterAck2 h k.history k.answer now
+unfoldable pub held_ack2 : Head → List ℕ → ℤ → ℕ → Ack2ed
+held_ack2 h a now number =
+    let k = ack2_of h.history a now number in
+    after_ack2 h k.history k.answer now
 
 -- all that an ACK2 leaves: the head and the answer, and its line on paper
 pub record Ack2Outcome : Type 0 where
   pub acked2 : Ack2ed
   pub line : Line
 
-abbrev pub ack2Ended : Ack2ed → Ack2Outcome
-ack2Ended r = record { acked2 = r; line = rttLine r.answer }
+abbrev pub ack2_ended : Ack2ed → Ack2Outcome
+ack2_ended r = record { acked2 = r; line = rtt_line r.answer }
 
-unfoldable pub ack2CallOf : Head → List ℕ → ℤ → ℕ → Ack2Outcome
-ack2CallOf h a now number =
-    judged (firstRefusal (timedRules (headOk h) (length a) 2048 now h.latest))
-    (ack2Ended (heldAck2 h a now number))
-    (λ n. ack2Ended (record { head = h; answer = rtts.Refused n }))
+unfoldable pub ack2_call_of : Head → List ℕ → ℤ → ℕ → Ack2Outcome
+ack2_call_of h a now number =
+    judged (first_refusal (timed_rules (head_ok h) (length a) 2048 now h.latest))
+    (ack2_ended (held_ack2 h a now number))
+    (λ n. ack2_ended (record { head = h; answer = rtts.Refused n }))

@@ -4,12 +4,12 @@ use Rattle.clock.specs.Sync.{synchronized}
 use Rattle.clock.specs.declared.time.SynchronizedRemoteClock.{SynchronizedRemoteClock}
 use Rattle.clock.specs.declared.time.Synchronized.{Synchronized}
 use Rattle.clock.specs.declared.time.Synchronized.TheVariants as clocks
-use Rattle.head.specs.Rules.{firstRefusal, judged, clockRules}
-use Rattle.head.specs.Head.{headOk}
-use Rattle.head.specs.Parts.{withClock, withLatest}
+use Rattle.head.specs.Rules.{first_refusal, judged, clock_rules}
+use Rattle.head.specs.Head.{head_ok}
+use Rattle.head.specs.Parts.{with_clock, with_latest}
 use Rattle.head.specs.declared.state.Head.{Head}
 use Rattle.head.specs.Paper.{Line}
-use Rattle.feedback.specs.Paper.{clockLine}
+use Rattle.feedback.specs.Paper.{clock_line}
 use Rattle.feedback.specs.declared.sync.Clocked.{Clocked}
 use Rattle.feedback.specs.declared.sync.ClockAnswer.TheVariants as answers
 
@@ -18,21 +18,21 @@ pub record ClockOutcome : Type 0 where
   pub clocked : Clocked
   pub line : Line
 
-abbrev pub clockEnded : Clocked → ClockOutcome
-clockEnded r = record { clocked = r; line = clockLine r.answer }
+abbrev pub clock_ended : Clocked → ClockOutcome
+clock_ended r = record { clocked = r; line = clock_line r.answer }
 
 -- the clock's answer as the call's; on refusal 14 the head stays
-abbrev pub afterSync : Head → SynchronizedRemoteClock → Synchronized → ℤ → Clocked
-afterSync h k clocks.Nothing now = record { head = withLatest (withClock h k) now; answer = answers.Nothing }
-afterSync h k (clocks.Adjusted mean deviation) now = record { head = withLatest (withClock h k) now; answer = answers.Adjusted mean deviation }
-afterSync h k (clocks.Unsteady deviation v) now = record { head = withLatest (withClock h k) now; answer = answers.Unsteady deviation v }
-afterSync h k clocks.DriftRange now = record { head = h; answer = answers.Refused 14 }
+abbrev pub after_sync : Head → SynchronizedRemoteClock → Synchronized → ℤ → Clocked
+after_sync h k clocks.Nothing now = record { head = with_latest (with_clock h k) now; answer = answers.Nothing }
+after_sync h k (clocks.Adjusted mean deviation) now = record { head = with_latest (with_clock h k) now; answer = answers.Adjusted mean deviation }
+after_sync h k (clocks.Unsteady deviation v) now = record { head = with_latest (with_clock h k) now; answer = answers.Unsteady deviation v }
+after_sync h k clocks.DriftRange now = record { head = h; answer = answers.Refused 14 }
 
-unfoldable pub syncOf : Head → ℤ → ℕ → Clocked
-syncOf h now stamp = afterSync h (synchronized h.clock now stamp).clock (synchronized h.clock now stamp).answer now
+unfoldable pub sync_of : Head → ℤ → ℕ → Clocked
+sync_of h now stamp = after_sync h (synchronized h.clock now stamp).clock (synchronized h.clock now stamp).answer now
 
-unfoldable pub clockCallOf : Head → ℤ → ℕ → ClockOutcome
-clockCallOf h now stamp =
-    judged (firstRefusal (clockRules (headOk h) now h.latest))
-    (clockEnded (syncOf h now stamp))
-    (λ n. clockEnded (record { head = h; answer = answers.Refused n }))
+unfoldable pub clock_call_of : Head → ℤ → ℕ → ClockOutcome
+clock_call_of h now stamp =
+    judged (first_refusal (clock_rules (head_ok h) now h.latest))
+    (clock_ended (sync_of h now stamp))
+    (λ n. clock_ended (record { head = h; answer = answers.Refused n }))

@@ -1,9 +1,9 @@
 // The calls for full ACKs and ACK2s, arq.rs `on_full_ack_event` and `handle_ack2_packet`: 01, "ACKs, RTT, rates".
 ghost use Rattle.std.specs.Prelude.{◌≡◌, true, ◌≤◌};
-ghost use Rattle.intervals.specs.Rates.{arrivalsOk};
+ghost use Rattle.intervals.specs.Rates.{arrivals_ok};
 ghost use Rattle.head.specs.Ready.{InRange};
-ghost use Rattle.head.specs.Parts.{withRtt, withHistory, withLatest};
-ghost use Rattle.feedback.specs.Acking.{figuresOf, afterAck, roomyAck, dueAck, fullAckEnded, fullAckCallOf, afterAck2, heldAck2, ack2Ended, ack2CallOf};
+ghost use Rattle.head.specs.Parts.{with_rtt, with_history, with_latest};
+ghost use Rattle.feedback.specs.Acking.{figures_of, after_ack, roomy_ack, due_ack, full_ack_ended, full_ack_call_of, after_ack2, held_ack2, ack2_ended, ack2_call_of};
 ghost use Rattle.feedback.specs.Ready.{AckReady};
 
 use acks::history::{Ack2Answer, AckAnswer, History};
@@ -50,7 +50,7 @@ pub struct Ack2ed {
 
 // The head with the history after an ACK, at a reading.
 fn with_history(h: Head, history: History, time: i64) -> Head
-    ensures { result ≡ withLatest (withHistory h history) time }
+    ensures { result ≡ with_latest (with_history h history) time }
 {
     let next = h.with_history(history);
     next.with_latest(time)
@@ -58,7 +58,7 @@ fn with_history(h: Head, history: History, time: i64) -> Head
 
 // The same, with the figures of the round trip after an ACK2.
 fn with_rtt(h: Head, history: History, rtt: Rtt, time: i64) -> Head
-    ensures { result ≡ withLatest (withRtt (withHistory h history) rtt) time }
+    ensures { result ≡ with_latest (with_rtt (with_history h history) rtt) time }
 {
     let kept = h.with_history(history);
     let next = kept.with_rtt(rtt);
@@ -68,8 +68,8 @@ fn with_rtt(h: Head, history: History, rtt: Rtt, time: i64) -> Head
 // An ACK of this number with the head's figures, by the parts that have them. Its estimated_link_capacity carries bytes a second, and its
 // data_receive_rate the link figure.
 fn figures(number: u32, w: Window, rtt: Rtt, arrivals: Arrivals, links: Links) -> FullAckAnswer
-    requires { (w.held ≤ w.capacity) × (arrivalsOk arrivals ≡ true) }
-    ensures { result ≡ figuresOf number w rtt arrivals links }
+    requires { (w.held ≤ w.capacity) × (arrivals_ok arrivals ≡ true) }
+    ensures { result ≡ figures_of number w rtt arrivals links }
 {
     let room = window::room(w);
     let speed = arrivals.speed();
@@ -91,7 +91,7 @@ fn figures(number: u32, w: Window, rtt: Rtt, arrivals: Arrivals, links: Links) -
 // The history's answer as the call's; a worn history leaves the head.
 fn after_ack(h: Head, history: History, answer: AckAnswer, time: i64) -> FullAcked
     requires { InRange h }
-    ensures { result ≡ afterAck h history answer time }
+    ensures { result ≡ after_ack h history answer time }
 {
     match answer {
         AckAnswer::Nothing => FullAcked {
@@ -112,7 +112,7 @@ fn after_ack(h: Head, history: History, answer: AckAnswer, time: i64) -> FullAck
 // A full ACK, once nothing refuses it and there is room.
 fn roomy_ack(h: Head, area: &mut [u64], time: i64) -> FullAcked
     requires { AckReady h area.old }
-    ensures { fullAckEnded result area.new ≡ roomyAck h area.old time }
+    ensures { full_ack_ended result area.new ≡ roomy_ack h area.old time }
 {
     let y = h.history;
     let acked = y.next_full_ack(area, time, h.rtt.mean, h.latency, h.window.lrsn);
@@ -124,7 +124,7 @@ fn roomy_ack(h: Head, area: &mut [u64], time: i64) -> FullAcked
 // The same, with the question of room.
 fn due_ack(h: Head, area: &mut [u64], time: i64) -> FullAcked
     requires { AckReady h area.old }
-    ensures { fullAckEnded result area.new ≡ dueAck h area.old time }
+    ensures { full_ack_ended result area.new ≡ due_ack h area.old time }
 {
     let w = h.window;
     if window::room(w) == 0 {
@@ -137,7 +137,7 @@ fn due_ack(h: Head, area: &mut [u64], time: i64) -> FullAcked
 }
 
 pub fn on_full_ack_event(h: Head, area: &mut [u64], time: i64) -> FullAcked
-    ensures { fullAckEnded result area.new ≡ fullAckCallOf h area.old time }
+    ensures { full_ack_ended result area.new ≡ full_ack_call_of h area.old time }
 {
     let n = head::refuse::history(h, area.len(), time);
     if n == 0 {
@@ -151,7 +151,7 @@ pub fn on_full_ack_event(h: Head, area: &mut [u64], time: i64) -> FullAcked
 
 // The history's answer as the call's; a number that is not held moves the latest reading only.
 fn after_ack2(h: Head, history: History, answer: Ack2Answer, time: i64) -> Ack2ed
-    ensures { result ≡ afterAck2 h history answer time }
+    ensures { result ≡ after_ack2 h history answer time }
 {
     let Ack2Answer::Held { r } = answer else {
         return Ack2ed {
@@ -173,7 +173,7 @@ fn after_ack2(h: Head, history: History, answer: Ack2Answer, time: i64) -> Ack2e
 // An ACK2, once nothing refuses it.
 fn held_ack2(h: Head, area: &[u64], time: i64, number: u32) -> Ack2ed
     requires { AckReady h area.now }
-    ensures { result ≡ heldAck2 h area.now time number }
+    ensures { result ≡ held_ack2 h area.now time number }
 {
     let y = h.history;
     let answered = y.calculate_ack2(area, time, number);
@@ -183,7 +183,7 @@ fn held_ack2(h: Head, area: &[u64], time: i64, number: u32) -> Ack2ed
 }
 
 pub fn handle_ack2_packet(h: Head, area: &[u64], time: i64, number: u32) -> Ack2ed
-    ensures { ack2Ended result ≡ ack2CallOf h area.now time number }
+    ensures { ack2_ended result ≡ ack2_call_of h area.now time number }
 {
     let n = head::refuse::history(h, area.len(), time);
     if n == 0 {

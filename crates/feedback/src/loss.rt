@@ -1,6 +1,6 @@
 // The loss report call, arq.rs `on_nak_event`: 01, "Window", with refusals 1 to 4 and 12.
 ghost use Rattle.std.specs.Prelude.{◌≡◌};
-ghost use Rattle.feedback.specs.Loss.{lossEnded, answer_of, afterReport, reportedOf, reportCallOf};
+ghost use Rattle.feedback.specs.Loss.{loss_ended, answer_of, after_report, reported_of, report_call_of};
 ghost use Rattle.feedback.specs.Ready.{ReportReady};
 
 use head::state::Head;
@@ -32,7 +32,7 @@ fn answer_of(answer: ReportAnswer) -> LossAnswer
 
 // A list that is short leaves the head; all else moves it on.
 fn after_report(h: Head, answer: ReportAnswer, time: i64) -> Reported
-    ensures { result ≡ afterReport h answer time }
+    ensures { result ≡ after_report h answer time }
 {
     let (ReportAnswer::Nothing | ReportAnswer::Report { .. }) = answer else {
         return Reported {
@@ -49,7 +49,7 @@ fn after_report(h: Head, answer: ReportAnswer, time: i64) -> Reported
 // The call, once nothing refuses it.
 fn report(h: Head, words: &mut [u64], list: &mut [u32], time: i64) -> Reported
     requires { ReportReady h words.old }
-    ensures { lossEnded result words.new list.new ≡ reportedOf h words.old list.old time }
+    ensures { loss_ended result words.new list.new ≡ reported_of h words.old list.old time }
 {
     let w = h.window;
     let answer = window_report::report::loss_report(w, words, list, time, h.rtt.mean);
@@ -57,7 +57,7 @@ fn report(h: Head, words: &mut [u64], list: &mut [u32], time: i64) -> Reported
 }
 
 pub fn on_nak_event(h: Head, words: &mut [u64], list: &mut [u32], time: i64) -> Reported
-    ensures { lossEnded result words.new list.new ≡ reportCallOf h words.old list.old time }
+    ensures { loss_ended result words.new list.new ≡ report_call_of h words.old list.old time }
 {
     let n = head::refuse::report(h, words.len(), time);
     if n == 0 {

@@ -1,8 +1,8 @@
 // The clock call, arq.rs `synchronize_clock`: 01, "Clock".
 ghost use Rattle.std.specs.Prelude.{◌≡◌};
-ghost use Rattle.feedback.specs.Sync.{afterSync, syncOf, clockEnded, clockCallOf};
+ghost use Rattle.feedback.specs.Sync.{after_sync, sync_of, clock_ended, clock_call_of};
 ghost use Rattle.head.specs.Ready.{Timed};
-ghost use Rattle.head.specs.Parts.{withClock, withLatest};
+ghost use Rattle.head.specs.Parts.{with_clock, with_latest};
 
 use clock::time::{Step, Synchronized, SynchronizedRemoteClock};
 use head::state::Head;
@@ -23,7 +23,7 @@ pub struct Clocked {
 
 // The head with the clock after a sample, at a reading.
 fn with_clock(h: Head, clock: SynchronizedRemoteClock, time: i64) -> Head
-    ensures { result ≡ withLatest (withClock h clock) time }
+    ensures { result ≡ with_latest (with_clock h clock) time }
 {
     let next = h.with_clock(clock);
     next.with_latest(time)
@@ -31,7 +31,7 @@ fn with_clock(h: Head, clock: SynchronizedRemoteClock, time: i64) -> Head
 
 // The clock's answer as the call's; a clock that refuses 14 leaves the head.
 fn after_sync(h: Head, clock: SynchronizedRemoteClock, answer: Synchronized, time: i64) -> Clocked
-    ensures { result ≡ afterSync h clock answer time }
+    ensures { result ≡ after_sync h clock answer time }
 {
     let head = with_clock(h, clock, time);
     match answer {
@@ -63,7 +63,7 @@ fn after_sync(h: Head, clock: SynchronizedRemoteClock, answer: Synchronized, tim
 // The call, once nothing refuses it.
 fn synchronize(h: Head, time: i64, stamp: u32) -> Clocked
     requires { Timed h time }
-    ensures { result ≡ syncOf h time stamp }
+    ensures { result ≡ sync_of h time stamp }
 {
     let k = h.clock;
     let step = k.synchronize(time, stamp);
@@ -73,7 +73,7 @@ fn synchronize(h: Head, time: i64, stamp: u32) -> Clocked
 }
 
 pub fn synchronize_clock(h: Head, time: i64, stamp: u32) -> Clocked
-    ensures { clockEnded result ≡ clockCallOf h time stamp }
+    ensures { clock_ended result ≡ clock_call_of h time stamp }
 {
     let n = head::refuse::clock(h, time);
     if n == 0 {

@@ -5,20 +5,20 @@ use Prim.Native.Nat.{ℕ}
 use borrow.Author.Rules.{rules}
 use lib.Dec.{leb}
 use lib.IntN.{ℤ, pos}
-use Rattle.numbers.specs.Instants.{isReading}
-use Rattle.clock.specs.Sync.{freshClock}
-use Rattle.clock.specs.Ranges.{clockOk}
+use Rattle.numbers.specs.Instants.{is_reading}
+use Rattle.clock.specs.Sync.{fresh_clock}
+use Rattle.clock.specs.Ranges.{clock_ok}
 use Rattle.clock.specs.declared.time.SynchronizedRemoteClock.{SynchronizedRemoteClock}
-use Rattle.acks.specs.Rtt.{freshRtt, rttOk}
-use Rattle.intervals.specs.Rates.{freshArrivals, freshLinks, arrivalsOk, linksOk}
-use Rattle.acks.specs.History.{freshHistory, historyOk}
+use Rattle.acks.specs.Rtt.{fresh_rtt, rtt_ok}
+use Rattle.intervals.specs.Rates.{fresh_arrivals, fresh_links, arrivals_ok, links_ok}
+use Rattle.acks.specs.History.{fresh_history, history_ok}
 use Rattle.acks.specs.declared.rtt.Rtt.{Rtt}
 use Rattle.intervals.specs.declared.rates.Arrivals.{Arrivals}
 use Rattle.intervals.specs.declared.rates.Links.{Links}
 use Rattle.acks.specs.declared.history.History.{History}
-use Rattle.head.specs.Rules.{firstRefusal, makeRules}
-use Rattle.head.specs.Head.{headOk, freshHead, unmade, made_of}
-use Rattle.window.specs.Window.{windowOk}
+use Rattle.head.specs.Rules.{first_refusal, make_rules}
+use Rattle.head.specs.Head.{head_ok, fresh_head, unmade, made_of}
+use Rattle.window.specs.Window.{window_ok}
 use Rattle.head.specs.declared.state.Head.{Head}
 use Rattle.head.specs.declared.state.Made.{Made}
 use Rattle.head.proofs.Gates.{taken, refused}
@@ -26,33 +26,33 @@ use Rattle.head.proofs.Gates.{taken, refused}
 -- Head::fresh, Head::new
 pub fresh-head : (start : ℤ) (latency : ℕ) (dropping : Bool) (first capacity : ℕ)
     {s s₁ : ℤ} {k : SynchronizedRemoteClock} {t : Rtt} {a : Arrivals} {l : Links} {y : History}
-    → k ≡ freshClock s → s ≡ start → t ≡ freshRtt → a ≡ freshArrivals → l ≡ freshLinks → y ≡ freshHistory first → s₁ ≡ start
-    → ◌≡◌ {A = Head} (record { window = record { capacity = capacity; start = 0; held = 0; seqno0 = first; lrsn = first }; latency = latency; dropping = dropping; clock = k; rtt = t; arrivals = a; links = l; history = y; latest = s₁ }) (freshHead start latency dropping first capacity)
-unfolding freshHead
+    → k ≡ fresh_clock s → s ≡ start → t ≡ fresh_rtt → a ≡ fresh_arrivals → l ≡ fresh_links → y ≡ fresh_history first → s₁ ≡ start
+    → ◌≡◌ {A = Head} (record { window = record { capacity = capacity; start = 0; held = 0; seqno0 = first; lrsn = first }; latency = latency; dropping = dropping; clock = k; rtt = t; arrivals = a; links = l; history = y; latest = s₁ }) (fresh_head start latency dropping first capacity)
+unfolding fresh_head
 fresh-head start latency dropping first capacity a b c d e f g = rw (a, b, c, d, e, f, g)
 
 pub made : (start : ℤ) (latency : ℕ) (dropping : Bool) (first capacity : ℕ) {s s₁ : ℤ} {n : ℕ} {h : Head}
-    → n ≡ firstRefusal (makeRules s latency first capacity) → s ≡ start → n ≡ 0 → h ≡ freshHead s₁ latency dropping first capacity → s₁ ≡ start
+    → n ≡ first_refusal (make_rules s latency first capacity) → s ≡ start → n ≡ 0 → h ≡ fresh_head s₁ latency dropping first capacity → s₁ ≡ start
     → ◌≡◌ {A = Made} (record { refusal = 0; head = h }) (made_of start latency dropping first capacity)
 unfolding made_of
 made start latency dropping first capacity a b c d e =
     rw (d, e)
-    (sym (taken (record { refusal = 0; head = freshHead start latency dropping first capacity }) (λ n. record { refusal = n; head = unmade }) (a ∙ ap (λ (z : ℤ). firstRefusal (makeRules z latency first capacity)) b) c))
+    (sym (taken (record { refusal = 0; head = fresh_head start latency dropping first capacity }) (λ n. record { refusal = n; head = unmade }) (a ∙ ap (λ (z : ℤ). first_refusal (make_rules z latency first capacity)) b) c))
 
 pub not_made : (start : ℤ) (latency : ℕ) (dropping : Bool) (first capacity : ℕ) {s : ℤ} {n : ℕ} {h : Head}
-    → n ≡ firstRefusal (makeRules s latency first capacity) → s ≡ start → (n ≡ 0 → ⊥) → h ≡ freshHead (pos 0) 0 false 0 0
+    → n ≡ first_refusal (make_rules s latency first capacity) → s ≡ start → (n ≡ 0 → ⊥) → h ≡ fresh_head (pos 0) 0 false 0 0
     → ◌≡◌ {A = Made} (record { refusal = n; head = h }) (made_of start latency dropping first capacity)
 unfolding made_of
 not_made start latency dropping first capacity a b c d =
     rw d
-    (sym (refused (record { refusal = 0; head = freshHead start latency dropping first capacity }) (λ n. record { refusal = n; head = unmade }) (a ∙ ap (λ (z : ℤ). firstRefusal (makeRules z latency first capacity)) b) c))
+    (sym (refused (record { refusal = 0; head = fresh_head start latency dropping first capacity }) (λ n. record { refusal = n; head = unmade }) (a ∙ ap (λ (z : ℤ). first_refusal (make_rules z latency first capacity)) b) c))
 
 -- Head::in_range
 pub in-range : (h : Head) {a b c d e f g : Bool} {z : ℤ}
-    → a ≡ windowOk h.window → b ≡ clockOk h.clock → c ≡ rttOk h.rtt → d ≡ arrivalsOk h.arrivals → e ≡ linksOk h.links → f ≡ historyOk h.history
-    → g ≡ isReading z → z ≡ h.latest
-    → (a && leb h.latency 65535000 && b && c && d && e && f && g) ≡ headOk h
-unfolding headOk
+    → a ≡ window_ok h.window → b ≡ clock_ok h.clock → c ≡ rtt_ok h.rtt → d ≡ arrivals_ok h.arrivals → e ≡ links_ok h.links → f ≡ history_ok h.history
+    → g ≡ is_reading z → z ≡ h.latest
+    → (a && leb h.latency 65535000 && b && c && d && e && f && g) ≡ head_ok h
+unfolding head_ok
 in-range h a b c d e f g i = rw (a, b, c, d, e, f, g, i)
 
 pub ruleset heads = (fresh-head, made, not_made, in-range, rules)

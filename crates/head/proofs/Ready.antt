@@ -7,36 +7,36 @@ use borrow.Author.Tests.{leb-true, leb-false, ltb-false, not-false}
 use lib.Dec.{leb, lit<}
 use lib.IntN.{ℤ}
 use lib.ListN.{length}
-use Rattle.numbers.specs.Instants.{isReading}
+use Rattle.numbers.specs.Instants.{is_reading}
 use Rattle.numbers.proofs.Flags.{and_left, and_right}
-use Rattle.clock.specs.Ranges.{clockOk}
+use Rattle.clock.specs.Ranges.{clock_ok}
 use Rattle.clock.proofs.Ranges.{ready, ranges}
-use Rattle.acks.specs.Rtt.{rttOk}
-use Rattle.intervals.specs.Rates.{arrivalsOk, linksOk}
-use Rattle.acks.specs.History.{historyOk}
+use Rattle.acks.specs.Rtt.{rtt_ok}
+use Rattle.intervals.specs.Rates.{arrivals_ok, links_ok}
+use Rattle.acks.specs.History.{history_ok}
 use Rattle.window.specs.Ready.{Good}
-use Rattle.window.specs.Window.{windowOk}
+use Rattle.window.specs.Window.{window_ok}
 use Rattle.window.specs.declared.Window.{Window}
 use Rattle.window.specs.declared.push.Packet.{Packet}
 use Rattle.window.proofs.Ranges.{in_window}
 use Rattle.window_pop.specs.Ready.{PopReady}
-use Rattle.head.specs.Rules.{firstRefusal, pushRules, popRules, timedRules, dropRules, showRules, clockRules, headRules}
-use Rattle.head.specs.Head.{headOk}
+use Rattle.head.specs.Rules.{first_refusal, push_rules, pop_rules, timed_rules, drop_rules, show_rules, clock_rules, head_rules}
+use Rattle.head.specs.Head.{head_ok}
 use Rattle.head.specs.Ready.{InRange, Timed, PushReady}
 use Rattle.head.specs.declared.state.Head.{Head}
 use Rattle.head.proofs.Gates.{clear}
 
 -- the parts of a head in range
-pub in_parts : (h : Head) → headOk h ≡ true → InRange h
-unfolding headOk
+pub in_parts : (h : Head) → head_ok h ≡ true → InRange h
+unfolding head_ok
 in_parts h e =
-    let a = windowOk h.window in
+    let a = window_ok h.window in
     let b = leb h.latency 65535000 in
-    let c = clockOk h.clock in
-    let d = rttOk h.rtt in
-    let f = arrivalsOk h.arrivals in
-    let g = linksOk h.links in
-    let i = historyOk h.history in
+    let c = clock_ok h.clock in
+    let d = rtt_ok h.rtt in
+    let f = arrivals_ok h.arrivals in
+    let g = links_ok h.links in
+    let i = history_ok h.history in
     let e7 = and_left (a && b && c && d && f && g && i) _ e in
     let e6 = and_left (a && b && c && d && f && g) _ e7 in
     let e5 = and_left (a && b && c && d && f) _ e6 in
@@ -54,28 +54,28 @@ in_parts h e =
       latest = and_right (a && b && c && d && f && g && i) _ e;
     }
 
-pub good : (w : Window) (ws : List ℕ) → windowOk w ≡ true → 3 * w.capacity ≤ length ws → Good w ws
+pub good : (w : Window) (ws : List ℕ) → window_ok w ≡ true → 3 * w.capacity ≤ length ws → Good w ws
 good w ws e h = record { ranges = in_window w e; words = h }
 
-pub head-ready : (h : Head) → firstRefusal (headRules (headOk h)) ≡ 0 → InRange h
-head-ready h e = let c = clear (headRules (headOk h)) (lit< tt, tt) e in in_parts h (not-false (headOk h) c.0)
+pub head-ready : (h : Head) → first_refusal (head_rules (head_ok h)) ≡ 0 → InRange h
+head-ready h e = let c = clear (head_rules (head_ok h)) (lit< tt, tt) e in in_parts h (not-false (head_ok h) c.0)
 
 module _ (h : Head) (now : ℤ) where
-  pub clock-ready : firstRefusal (clockRules (headOk h) now h.latest) ≡ 0 → Timed h now
+  pub clock-ready : first_refusal (clock_rules (head_ok h) now h.latest) ≡ 0 → Timed h now
   clock-ready e =
-      let c = clear (clockRules (headOk h) now h.latest) (lit< tt, (lit< tt, (lit< tt, tt))) e in
-      record { head = in_parts h (not-false (headOk h) c.0); reading = not-false (isReading now) c.1.0; later = c.1.1.0 }
+      let c = clear (clock_rules (head_ok h) now h.latest) (lit< tt, (lit< tt, (lit< tt, tt))) e in
+      record { head = in_parts h (not-false (head_ok h) c.0); reading = not-false (is_reading now) c.1.0; later = c.1.1.0 }
 
-  pub timed-ready : (len need : ℕ) → firstRefusal (timedRules (headOk h) len need now h.latest) ≡ 0 → Timed h now × (need ≤ len)
+  pub timed-ready : (len need : ℕ) → first_refusal (timed_rules (head_ok h) len need now h.latest) ≡ 0 → Timed h now × (need ≤ len)
   timed-ready len need e =
-      let c = clear (timedRules (headOk h) len need now h.latest) (lit< tt, (lit< tt, (lit< tt, (lit< tt, tt)))) e in
-      (record { head = in_parts h (not-false (headOk h) c.0); reading = not-false (isReading now) c.1.1.0; later = c.1.1.1.0 }, ltb-false len need c.1.0)
+      let c = clear (timed_rules (head_ok h) len need now h.latest) (lit< tt, (lit< tt, (lit< tt, (lit< tt, tt)))) e in
+      (record { head = in_parts h (not-false (head_ok h) c.0); reading = not-false (is_reading now) c.1.1.0; later = c.1.1.1.0 }, ltb-false len need c.1.0)
 
-  pub pop-ready : (ws bs : List ℕ) → firstRefusal (popRules (headOk h) h.window.capacity (length ws) (length bs) now h.latest) ≡ 0 → PopReady h.clock h.latency h.window ws bs now
+  pub pop-ready : (ws bs : List ℕ) → first_refusal (pop_rules (head_ok h) h.window.capacity (length ws) (length bs) now h.latest) ≡ 0 → PopReady h.clock h.latency h.window ws bs now
   pop-ready ws bs e =
-      let c = clear (popRules (headOk h) h.window.capacity (length ws) (length bs) now h.latest) (lit< tt, (lit< tt, (lit< tt, (lit< tt, (lit< tt, tt))))) e in
-      let r = in_parts h (not-false (headOk h) c.0) in
-      let k = ready h.clock now r.clock (not-false (isReading now) c.1.1.1.0) in
+      let c = clear (pop_rules (head_ok h) h.window.capacity (length ws) (length bs) now h.latest) (lit< tt, (lit< tt, (lit< tt, (lit< tt, (lit< tt, tt))))) e in
+      let r = in_parts h (not-false (head_ok h) c.0) in
+      let k = ready h.clock now r.clock (not-false (is_reading now) c.1.1.1.0) in
       record {
         good = good h.window ws r.window (ltb-false (length ws) (3 * h.window.capacity) c.1.0);
         payloads = ltb-false (length bs) (1456 * h.window.capacity) c.1.1.0;
@@ -86,13 +86,13 @@ module _ (h : Head) (now : ℤ) where
 
 -- a push that nothing refused
 pub push-ready : (h : Head) (ws bs : List ℕ) (now : ℤ) (p : Packet) (payload : List ℕ)
-    → firstRefusal (pushRules (headOk h) h.window.capacity (length ws) (length bs) now h.latest p (length payload)) ≡ 0 → PushReady h ws bs now p payload
+    → first_refusal (push_rules (head_ok h) h.window.capacity (length ws) (length bs) now h.latest p (length payload)) ≡ 0 → PushReady h ws bs now p payload
 push-ready h ws bs now p payload e =
-    let c = clear (pushRules (headOk h) h.window.capacity (length ws) (length bs) now h.latest p (length payload)) (lit< tt, (lit< tt, (lit< tt, (lit< tt, (lit< tt, (lit< tt, (lit< tt, (lit< tt, (lit< tt, tt))))))))) e in
-    let r = in_parts h (not-false (headOk h) c.0) in
+    let c = clear (push_rules (head_ok h) h.window.capacity (length ws) (length bs) now h.latest p (length payload)) (lit< tt, (lit< tt, (lit< tt, (lit< tt, (lit< tt, (lit< tt, (lit< tt, (lit< tt, (lit< tt, tt))))))))) e in
+    let r = in_parts h (not-false (head_ok h) c.0) in
     record {
       head = r;
-      reading = not-false (isReading now) c.1.1.1.0;
+      reading = not-false (is_reading now) c.1.1.1.0;
       good = good h.window ws r.window (ltb-false (length ws) (3 * h.window.capacity) c.1.0);
       payloads = ltb-false (length bs) (1456 * h.window.capacity) c.1.1.0;
       right = record {
@@ -104,20 +104,20 @@ push-ready h ws bs now p payload e =
     }
 
 -- a drop request and a show that nothing refused, by the number that a program has
-pub drop-ready : (h : Head) (ws : List ℕ) (first last : ℕ) {n : ℕ} → n ≡ firstRefusal (dropRules (headOk h) h.window.capacity (length ws) first last) → n ≡ 0 → Good h.window ws
+pub drop-ready : (h : Head) (ws : List ℕ) (first last : ℕ) {n : ℕ} → n ≡ first_refusal (drop_rules (head_ok h) h.window.capacity (length ws) first last) → n ≡ 0 → Good h.window ws
 drop-ready h ws first last b z =
-    let c = clear (dropRules (headOk h) h.window.capacity (length ws) first last) (lit< tt, (lit< tt, (lit< tt, (lit< tt, tt)))) (sym b ∙ z) in
-    let r = in_parts h (not-false (headOk h) c.0) in
+    let c = clear (drop_rules (head_ok h) h.window.capacity (length ws) first last) (lit< tt, (lit< tt, (lit< tt, (lit< tt, tt)))) (sym b ∙ z) in
+    let r = in_parts h (not-false (head_ok h) c.0) in
     good h.window ws r.window (ltb-false (length ws) (3 * h.window.capacity) c.1.0)
 
-module _ (h : Head) (ws : List ℕ) (bytes number : ℕ) {n : ℕ} (b : n ≡ firstRefusal (showRules (headOk h) h.window.capacity (length ws) bytes number)) (z : n ≡ 0) where
+module _ (h : Head) (ws : List ℕ) (bytes number : ℕ) {n : ℕ} (b : n ≡ first_refusal (show_rules (head_ok h) h.window.capacity (length ws) bytes number)) (z : n ≡ 0) where
   pub show-ready : Good h.window ws
   show-ready =
-      let c = clear (showRules (headOk h) h.window.capacity (length ws) bytes number) (lit< tt, (lit< tt, (lit< tt, (lit< tt, tt)))) (sym b ∙ z) in
-      let r = in_parts h (not-false (headOk h) c.0) in
+      let c = clear (show_rules (head_ok h) h.window.capacity (length ws) bytes number) (lit< tt, (lit< tt, (lit< tt, (lit< tt, tt)))) (sym b ∙ z) in
+      let r = in_parts h (not-false (head_ok h) c.0) in
       good h.window ws r.window (ltb-false (length ws) (3 * h.window.capacity) c.1.0)
 
   pub show-bytes : 1456 * h.window.capacity ≤ bytes
   show-bytes =
-      let c = clear (showRules (headOk h) h.window.capacity (length ws) bytes number) (lit< tt, (lit< tt, (lit< tt, (lit< tt, tt)))) (sym b ∙ z) in
+      let c = clear (show_rules (head_ok h) h.window.capacity (length ws) bytes number) (lit< tt, (lit< tt, (lit< tt, (lit< tt, tt)))) (sym b ∙ z) in
       ltb-false bytes (1456 * h.window.capacity) c.1.1.0

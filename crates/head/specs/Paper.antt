@@ -25,8 +25,8 @@ pub record Line : Type 0 where
 abbrev pub said : Word → List Value → Line
 said w vs = record { word = w; refusal = 0; values = vs; exact = [] }
 
-abbrev pub refusedBy : ℕ → List Value → Line
-refusedBy n vs = record { word = refused; refusal = n; values = vs; exact = [] }
+abbrev pub refused_by : ℕ → List Value → Line
+refused_by n vs = record { word = refused; refusal = n; values = vs; exact = [] }
 
 -- 1 if it holds
 abbrev pub flag : Bool → Value

@@ -8,8 +8,8 @@ use Rattle.clock.specs.declared.time.SynchronizedRemoteClock.{SynchronizedRemote
 use Rattle.window.specs.declared.Window.{Window}
 use Rattle.head.specs.declared.state.Head.{Head}
 
-abbrev pub withWindow : Head → Window → Head
-withWindow h w =
+abbrev pub with_window : Head → Window → Head
+with_window h w =
     record {
       window = w;
       latency = h.latency;
@@ -22,8 +22,8 @@ withWindow h w =
       latest = h.latest;
     }
 
-abbrev pub withClock : Head → SynchronizedRemoteClock → Head
-withClock h k =
+abbrev pub with_clock : Head → SynchronizedRemoteClock → Head
+with_clock h k =
     record {
       window = h.window;
       latency = h.latency;
@@ -36,8 +36,8 @@ withClock h k =
       latest = h.latest;
     }
 
-abbrev pub withRtt : Head → Rtt → Head
-withRtt h t =
+abbrev pub with_rtt : Head → Rtt → Head
+with_rtt h t =
     record {
       window = h.window;
       latency = h.latency;
@@ -51,8 +51,8 @@ withRtt h t =
     }
 
 -- the windows of intervals, of arrivals and of probes
-abbrev pub withRates : Head → Arrivals → Links → Head
-withRates h a l =
+abbrev pub with_rates : Head → Arrivals → Links → Head
+with_rates h a l =
     record {
       window = h.window;
       latency = h.latency;
@@ -65,8 +65,8 @@ withRates h a l =
       latest = h.latest;
     }
 
-abbrev pub withHistory : Head → History → Head
-withHistory h y =
+abbrev pub with_history : Head → History → Head
+with_history h y =
     record {
       window = h.window;
       latency = h.latency;
@@ -80,8 +80,8 @@ withHistory h y =
     }
 
 -- the latest reading of an unrefused call
-abbrev pub withLatest : Head → ℤ → Head
-withLatest h now =
+abbrev pub with_latest : Head → ℤ → Head
+with_latest h now =
     record {
       window = h.window;
       latency = h.latency;

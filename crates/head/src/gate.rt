@@ -1,10 +1,10 @@
 // The tests that refuse, in order: 01, "Refused, in order of test". Each is safe by itself, so that all can be asked in one line after the other.
 ghost use Rattle.std.specs.Prelude.{◌≡◌, ◌*◌, ltb};
-ghost use Rattle.head.specs.Rules.{firstRefusal, thenOf, pushRules, popRules, timedRules, dropRules, showRules, clockRules, headRules};
+ghost use Rattle.head.specs.Rules.{first_refusal, then_of, push_rules, pop_rules, timed_rules, drop_rules, show_rules, clock_rules, head_rules};
 
 // The first number that is not 0 stays.
 pub fn then(k: u32, bad: bool, n: u32) -> u32
-    ensures { result ≡ thenOf k bad n }
+    ensures { result ≡ then_of k bad n }
 {
     if k == 0 {
         if bad {
@@ -39,7 +39,7 @@ pub fn refuse_push(
     p: window::push::Packet,
     len: usize,
 ) -> u32
-    ensures { result ≡ firstRefusal (pushRules ok capacity words bytes time latest p len) }
+    ensures { result ≡ first_refusal (push_rules ok capacity words bytes time latest p len) }
 {
     let a = then(0, !ok, 1);
     let b = then(a, words_short(words, capacity), 2);
@@ -60,7 +60,7 @@ pub fn refuse_pop(
     time: i64,
     latest: i64,
 ) -> u32
-    ensures { result ≡ firstRefusal (popRules ok capacity words bytes time latest) }
+    ensures { result ≡ first_refusal (pop_rules ok capacity words bytes time latest) }
 {
     let a = then(0, !ok, 1);
     let b = then(a, words_short(words, capacity), 2);
@@ -70,7 +70,7 @@ pub fn refuse_pop(
 }
 
 pub fn refuse_report(ok: bool, capacity: usize, words: usize, time: i64, latest: i64) -> u32
-    ensures { result ≡ firstRefusal (timedRules ok words (3 * capacity) time latest) }
+    ensures { result ≡ first_refusal (timed_rules ok words (3 * capacity) time latest) }
 {
     let a = then(0, !ok, 1);
     let b = then(a, words_short(words, capacity), 2);
@@ -79,7 +79,7 @@ pub fn refuse_report(ok: bool, capacity: usize, words: usize, time: i64, latest:
 }
 
 pub fn refuse_history(ok: bool, words: usize, time: i64, latest: i64) -> u32
-    ensures { result ≡ firstRefusal (timedRules ok words 2048 time latest) }
+    ensures { result ≡ first_refusal (timed_rules ok words 2048 time latest) }
 {
     let a = then(0, !ok, 1);
     let b = then(a, words < 2048, 2);
@@ -88,7 +88,7 @@ pub fn refuse_history(ok: bool, words: usize, time: i64, latest: i64) -> u32
 }
 
 pub fn refuse_drop(ok: bool, capacity: usize, words: usize, first: u32, last: u32) -> u32
-    ensures { result ≡ firstRefusal (dropRules ok capacity words first last) }
+    ensures { result ≡ first_refusal (drop_rules ok capacity words first last) }
 {
     let a = then(0, !ok, 1);
     let b = then(a, words_short(words, capacity), 2);
@@ -97,7 +97,7 @@ pub fn refuse_drop(ok: bool, capacity: usize, words: usize, first: u32, last: u3
 }
 
 pub fn refuse_show(ok: bool, capacity: usize, words: usize, bytes: usize, number: u32) -> u32
-    ensures { result ≡ firstRefusal (showRules ok capacity words bytes number) }
+    ensures { result ≡ first_refusal (show_rules ok capacity words bytes number) }
 {
     let a = then(0, !ok, 1);
     let b = then(a, words_short(words, capacity), 2);
@@ -106,7 +106,7 @@ pub fn refuse_show(ok: bool, capacity: usize, words: usize, bytes: usize, number
 }
 
 pub fn refuse_clock(ok: bool, time: i64, latest: i64) -> u32
-    ensures { result ≡ firstRefusal (clockRules ok time latest) }
+    ensures { result ≡ first_refusal (clock_rules ok time latest) }
 {
     let a = then(0, !ok, 1);
     let b = then(a, !numbers::instant::is_reading(time), 3);
@@ -114,7 +114,7 @@ pub fn refuse_clock(ok: bool, time: i64, latest: i64) -> u32
 }
 
 pub fn refuse_head(ok: bool) -> u32
-    ensures { result ≡ firstRefusal (headRules ok) }
+    ensures { result ≡ first_refusal (head_rules ok) }
 {
     then(0, !ok, 1)
 }

@@ -1,9 +1,9 @@
 // The head of a receiver: 01, "Head and lent areas". It goes into a call by value and comes out of it.
 ghost use Rattle.std.specs.Prelude.{◌≡◌};
-ghost use Rattle.head.specs.Head.{freshHead, headOk, made_of};
-ghost use Rattle.window.specs.Window.{windowOk};
-ghost use Rattle.head.specs.Parts.{withWindow, withClock, withRtt, withRates, withHistory, withLatest};
-ghost use Rattle.head.specs.Rules.{firstRefusal, makeRules};
+ghost use Rattle.head.specs.Head.{fresh_head, head_ok, made_of};
+ghost use Rattle.window.specs.Window.{window_ok};
+ghost use Rattle.head.specs.Parts.{with_window, with_clock, with_rtt, with_rates, with_history, with_latest};
+ghost use Rattle.head.specs.Rules.{first_refusal, make_rules};
 
 use acks::history::History;
 use acks::rtt::Rtt;
@@ -32,7 +32,7 @@ pub struct Made {
 }
 
 pub fn window_in_range(w: Window) -> bool
-    ensures { result ≡ windowOk w }
+    ensures { result ≡ window_ok w }
 {
     (1 <= w.capacity)
         & (w.capacity <= 8192)
@@ -43,7 +43,7 @@ pub fn window_in_range(w: Window) -> bool
 }
 
 fn refuse_make(start: i64, latency: u32, first: u32, capacity: usize) -> u32
-    ensures { result ≡ firstRefusal (makeRules start latency first capacity) }
+    ensures { result ≡ first_refusal (make_rules start latency first capacity) }
 {
     let a = crate::gate::then(0, !numbers::instant::is_reading(start), 15);
     let b = crate::gate::then(a, 65535000 < latency, 15);
@@ -54,7 +54,7 @@ fn refuse_make(start: i64, latency: u32, first: u32, capacity: usize) -> u32
 
 impl Head {
     fn fresh(start: i64, latency: u32, dropping: bool, first: u32, capacity: usize) -> Self
-        ensures { result ≡ freshHead start latency dropping first capacity }
+        ensures { result ≡ fresh_head start latency dropping first capacity }
     {
         Head {
             window: Window {
@@ -94,7 +94,7 @@ impl Head {
 
     // Refusal 1, by parts.
     pub fn in_range(self) -> bool
-        ensures { result ≡ headOk self }
+        ensures { result ≡ head_ok self }
     {
         let window = self.window;
         let clock = self.clock;
@@ -115,7 +115,7 @@ impl Head {
     // The head with another part.
 
     pub fn with_window(self, window: Window) -> Self
-        ensures { result ≡ withWindow self window }
+        ensures { result ≡ with_window self window }
     {
         let mut next = self;
         next.window = window;
@@ -123,7 +123,7 @@ impl Head {
     }
 
     pub fn with_clock(self, clock: SynchronizedRemoteClock) -> Self
-        ensures { result ≡ withClock self clock }
+        ensures { result ≡ with_clock self clock }
     {
         let mut next = self;
         next.clock = clock;
@@ -131,7 +131,7 @@ impl Head {
     }
 
     pub fn with_rtt(self, rtt: Rtt) -> Self
-        ensures { result ≡ withRtt self rtt }
+        ensures { result ≡ with_rtt self rtt }
     {
         let mut next = self;
         next.rtt = rtt;
@@ -139,7 +139,7 @@ impl Head {
     }
 
     pub fn with_rates(self, arrivals: Arrivals, links: Links) -> Self
-        ensures { result ≡ withRates self arrivals links }
+        ensures { result ≡ with_rates self arrivals links }
     {
         let mut next = self;
         next.arrivals = arrivals;
@@ -148,7 +148,7 @@ impl Head {
     }
 
     pub fn with_history(self, history: History) -> Self
-        ensures { result ≡ withHistory self history }
+        ensures { result ≡ with_history self history }
     {
         let mut next = self;
         next.history = history;
@@ -156,7 +156,7 @@ impl Head {
     }
 
     pub fn with_latest(self, time: i64) -> Self
-        ensures { result ≡ withLatest self time }
+        ensures { result ≡ with_latest self time }
     {
         let mut next = self;
         next.latest = time;

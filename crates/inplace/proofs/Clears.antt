@@ -10,26 +10,26 @@ use borrow.Author.Tests.{ltb-true, leb-true, le-ltb, lt-leb, not-true}
 use lib.Dec.{ltb, leb}
 use lib.IntN.{ℤ}
 use lib.Signed.{lt_z}
-use Rattle.numbers.specs.Instants.{isReading}
+use Rattle.numbers.specs.Instants.{is_reading}
 use Rattle.window.specs.declared.push.Packet.{Packet}
 use Rattle.head.specs.Rules as rules
-use Rattle.head.specs.Rules.{firstRefusal, pushRules, popRules}
-use Rattle.head.specs.Head.{headOk}
+use Rattle.head.specs.Rules.{first_refusal, push_rules, pop_rules}
+use Rattle.head.specs.Head.{head_ok}
 use Rattle.packing.specs.Words.{whole_of}
-use Rattle.packing.specs.Packed.{at, unpackOf}
+use Rattle.packing.specs.Packed.{at, unpack_of}
 use Rattle.sound.proofs.Quick.{parts}
 use Rattle.inplace.proofs.Messages.{refusal-by as pop-by}
 use Rattle.inplace.proofs.Datas.{refusal-by as push-by}
-use Rattle.inplace.specs.Clear.{areasClear, packetClear}
-use Rattle.inplace.specs.Pops.{popRefusal}
-use Rattle.inplace.specs.Pushes.{pushRefusal}
+use Rattle.inplace.specs.Clear.{areas_clear, packet_clear}
+use Rattle.inplace.specs.Pops.{pop_refusal}
+use Rattle.inplace.specs.Pushes.{push_refusal}
 
-module _ (ok : Bool) (capacity slots bytes : ℕ) (now latest : ℤ) (c : areasClear ok capacity slots bytes now latest ≡ true) where
+module _ (ok : Bool) (capacity slots bytes : ℕ) (now latest : ℤ) (c : areas_clear ok capacity slots bytes now latest ≡ true) where
   abbrev early : Bool
   early = lt_z now latest
 
-  clear : (ok ≡ true) × ((leb capacity 8192 ≡ true) × ((leb (capacity % 16384 * 3) slots ≡ true) × ((leb (capacity % 16384 * 1456) bytes ≡ true) × ((isReading now ≡ true) × ((not early ≡ true) × Unit {0})))))
-  clear = parts ok (leb capacity 8192 ∷ leb (capacity % 16384 * 3) slots ∷ leb (capacity % 16384 * 1456) bytes ∷ isReading now ∷ not early ∷ []) c
+  clear : (ok ≡ true) × ((leb capacity 8192 ≡ true) × ((leb (capacity % 16384 * 3) slots ≡ true) × ((leb (capacity % 16384 * 1456) bytes ≡ true) × ((is_reading now ≡ true) × ((not early ≡ true) × Unit {0})))))
+  clear = parts ok (leb capacity 8192 ∷ leb (capacity % 16384 * 3) slots ∷ leb (capacity % 16384 * 1456) bytes ∷ is_reading now ∷ not early ∷ []) c
 
   itself : capacity % 16384 ≡ capacity
   itself = let h = leb-true capacity 8192 clear.1.0 in mod-eq_of_lt (omega arith)
@@ -40,12 +40,12 @@ module _ (ok : Bool) (capacity slots bytes : ℕ) (now latest : ℤ) (c : areasC
   bytes-long : ltb bytes (1456 * capacity) ≡ false
   bytes-long = let h = leb-true (capacity % 16384 * 1456) bytes clear.1.1.1.0 in le-ltb bytes (1456 * capacity) (omega (arith, itself))
 
-  pop-clear : firstRefusal (popRules ok capacity slots bytes now latest) ≡ 0
-  unfolding rules.thenOf
+  pop-clear : first_refusal (pop_rules ok capacity slots bytes now latest) ≡ 0
+  unfolding rules.then_of
   pop-clear = rw (clear.0, slots-long, bytes-long, clear.1.1.1.1.0, not-true early clear.1.1.1.1.1.0)
 
-  push-clear : (p : Packet) (size : ℕ) → packetClear p size ≡ true → firstRefusal (pushRules ok capacity slots bytes now latest p size) ≡ 0
-  unfolding rules.thenOf
+  push-clear : (p : Packet) (size : ℕ) → packet_clear p size ≡ true → first_refusal (push_rules ok capacity slots bytes now latest p size) ≡ 0
+  unfolding rules.then_of
   push-clear p size d =
       let q = parts (ltb p.number (2 ^ 31)) (ltb p.message (2 ^ 26) ∷ ltb p.location 4 ∷ leb size 1456 ∷ []) d in
       rw (
@@ -61,20 +61,20 @@ module _ (ok : Bool) (capacity slots bytes : ℕ) (now latest : ℤ) (c : areasC
       )
 
 -- areas_clear: the machine's whole numbers are the definition's
-pub areas-by : (ok : Bool) (capacity slots bytes : ℕ) (now latest : ℤ) {b : Bool} {t t₁ l : ℤ} → b ≡ isReading t → t ≡ now → t₁ ≡ now → l ≡ latest
-    → (ok && leb capacity 8192 && leb (capacity % 16384 * 3) slots && leb (capacity % 16384 * 1456) bytes && b && not (lt_z t₁ l)) ≡ areasClear ok capacity slots bytes now latest
+pub areas-by : (ok : Bool) (capacity slots bytes : ℕ) (now latest : ℤ) {b : Bool} {t t₁ l : ℤ} → b ≡ is_reading t → t ≡ now → t₁ ≡ now → l ≡ latest
+    → (ok && leb capacity 8192 && leb (capacity % 16384 * 3) slots && leb (capacity % 16384 * 1456) bytes && b && not (lt_z t₁ l)) ≡ areas_clear ok capacity slots bytes now latest
 areas-by ok capacity slots bytes now latest e f g h = rw (e, f, g, h)
 
 -- refusal: 0 where all is clear
-module _ (ws : List ℕ) (slots bytes : ℕ) (now : ℤ) {ok a : Bool} {c : ℕ} {t l l₁ : ℤ} (e : ok ≡ headOk (unpackOf ws)) (f : c ≡ at ws 1) (g : l ≡ whole_of (at ws 0)) (h : l₁ ≡ l)
-    (i : a ≡ areasClear ok c slots bytes t l₁) (k : t ≡ now) (d : a ≡ true) where
-  pub pop-none : 0 ≡ popRefusal ws slots bytes now
-  unfolding popRefusal
-  pop-none = sym (pop-clear (headOk (unpackOf ws)) (at ws 1) slots bytes now (whole_of (at ws 0)) (rw (e, f, h, g, k) at (sym i ∙ d)))
+module _ (ws : List ℕ) (slots bytes : ℕ) (now : ℤ) {ok a : Bool} {c : ℕ} {t l l₁ : ℤ} (e : ok ≡ head_ok (unpack_of ws)) (f : c ≡ at ws 1) (g : l ≡ whole_of (at ws 0)) (h : l₁ ≡ l)
+    (i : a ≡ areas_clear ok c slots bytes t l₁) (k : t ≡ now) (d : a ≡ true) where
+  pub pop-none : 0 ≡ pop_refusal ws slots bytes now
+  unfolding pop_refusal
+  pop-none = sym (pop-clear (head_ok (unpack_of ws)) (at ws 1) slots bytes now (whole_of (at ws 0)) (rw (e, f, h, g, k) at (sym i ∙ d)))
 
-  pub push-none : (p : Packet) (size : ℕ) {b : Bool} → b ≡ packetClear p size → b ≡ true → 0 ≡ pushRefusal ws slots bytes now p size
-  unfolding pushRefusal
-  push-none p size m n = sym (push-clear (headOk (unpackOf ws)) (at ws 1) slots bytes now (whole_of (at ws 0)) (rw (e, f, h, g, k) at (sym i ∙ d)) p size (sym m ∙ n))
+  pub push-none : (p : Packet) (size : ℕ) {b : Bool} → b ≡ packet_clear p size → b ≡ true → 0 ≡ push_refusal ws slots bytes now p size
+  unfolding push_refusal
+  push-none p size m n = sym (push-clear (head_ok (unpack_of ws)) (at ws 1) slots bytes now (whole_of (at ws 0)) (rw (e, f, h, g, k) at (sym i ∙ d)) p size (sym m ∙ n))
 
 pub ruleset clears = (areas-by, rules)
 

@@ -17,23 +17,23 @@ use Rattle.numbers.specs.declared.instant.Moment.{Moment}
 use Rattle.numbers.specs.declared.instant.Moment.TheVariants.{Unset, At}
 use Rattle.numbers.proofs.Flags.{and_left, and_right, by_bool, by-test, by-order}
 use Rattle.numbers.proofs.Signs.{reading-size, since-under}
-use Rattle.clock.specs.Ranges.{lastOk}
-use Rattle.clock.specs.Release.{releaseOf}
+use Rattle.clock.specs.Ranges.{last_ok}
+use Rattle.clock.specs.Release.{release_of}
 use Rattle.clock.specs.declared.time.SynchronizedRemoteClock.{SynchronizedRemoteClock}
 use Rattle.clock.proofs.Ranges.{ranges, reference-size}
-use Rattle.acks.specs.Rtt.{rttOk}
+use Rattle.acks.specs.Rtt.{rtt_ok}
 use Rattle.intervals.specs.Rates as rates
-use Rattle.intervals.specs.Rates.{timeOk, arrivalsOk, linksOk, allUnder, arrivalGaps, arrivalSizes, linkGaps}
-use Rattle.acks.specs.History.{historyOk}
+use Rattle.intervals.specs.Rates.{time_ok, arrivals_ok, links_ok, all_under, arrival_gaps, arrival_sizes, link_gaps}
+use Rattle.acks.specs.History.{history_ok}
 use Rattle.numbers.specs.Circular.{before, sum}
-use Rattle.numbers.specs.Instants.{sinceTime}
+use Rattle.numbers.specs.Instants.{since_time}
 use Rattle.acks.specs.declared.history.History.{History}
 use Rattle.acks.specs.declared.history.LightAcked.{LightAcked}
 use Rattle.intervals.specs.declared.rates.Arrivals.{Arrivals}
 use Rattle.intervals.specs.declared.rates.Links.{Links}
 use Rattle.acks.specs.declared.rtt.Rtt.{Rtt}
 use Rattle.acks.proofs.HistoryKept.{history-ranges}
-use Rattle.window.specs.Push.{pushOf}
+use Rattle.window.specs.Push.{push_of}
 use Rattle.window.specs.declared.Window.{Window}
 use Rattle.window.specs.declared.push.Packet.{Packet}
 use Rattle.window.specs.declared.push.PushAnswer.{PushAnswer}
@@ -42,9 +42,9 @@ use Rattle.window_pop.specs.Pop.{PopOutcome, pop_of}
 use Rattle.window_pop.specs.declared.pop.PopAnswer.{PopAnswer}
 use Rattle.window_pop.specs.declared.pop.PopAnswer.TheVariants as pops
 use Rattle.window_pop.proofs.PopLaws.{pop-cases}
-use Rattle.head.specs.Rules.{firstRefusal, popRules, pushRules}
+use Rattle.head.specs.Rules.{first_refusal, pop_rules, push_rules}
 use Rattle.head.specs.Head as heads
-use Rattle.head.specs.Head.{headOk}
+use Rattle.head.specs.Head.{head_ok}
 use Rattle.head.specs.declared.state.Head.{Head}
 use Rattle.head.proofs.Gates.{clear}
 use Rattle.head.proofs.Ready.{in_parts, push-ready}
@@ -54,12 +54,12 @@ use Rattle.clock.specs.Base as bases
 use Rattle.clock.specs.Samples as samples
 use Rattle.clock.specs.Sync as syncs
 use Rattle.acks.specs.History as histories
-use Rattle.receiver.specs.Data.{DataOutcome, placed_of, ratedOf, gotOf, ackedOf, afterPush, taken_of as dataTakenOf, dataCallOf}
-use Rattle.receiver.specs.Message.{MessageOutcome, headAfter, taken_of, popCallOf}
+use Rattle.receiver.specs.Data.{DataOutcome, placed_of, rated_of, got_of, acked_of, after_push, taken_of as dataTakenOf, data_call_of}
+use Rattle.receiver.specs.Message.{MessageOutcome, head_after, taken_of, pop_call_of}
 use Rattle.kept.proofs.DataKept.{data-kept}
 use Rattle.kept.proofs.Parts.{from_parts}
 use Rattle.kept.proofs.TimedKept.{message-kept}
-use Rattle.packing.specs.Packed.{at, sixteenOf, numbersFormed, formed, head_of, nowhere, packOf, unpackOf}
+use Rattle.packing.specs.Packed.{at, sixteen_of, numbers_formed, formed, head_of, nowhere, pack_of, unpack_of}
 use Rattle.packing.specs.Holds.{Number, Whole, Time, Numbers, Double, RttHolds, HistoryHolds, Holds}
 use Rattle.packing.proofs.Undo.{unpack-pack}
 use Rattle.sound.proofs.Sounds.{formed-under, element}
@@ -75,13 +75,13 @@ pub record Rest (h : Head) : Type 0 where
   pub first : Number h.history.first
 
 -- numbers of 32 bits
-under_first : (ns : List ℕ) (n k : ℕ) → numbersFormed ns 0 n ≡ true → k < n → at ns (0 + k) < 2 ^ 32
-unfolding numbersFormed
+under_first : (ns : List ℕ) (n k : ℕ) → numbers_formed ns 0 n ≡ true → k < n → at ns (0 + k) < 2 ^ 32
+unfolding numbers_formed
 under_first ns zero k e l = absurd (omega arith)
 under_first ns (suc n) k e l =
     by-order k n
-    (λ m. under_first ns n k (and_left (numbersFormed ns 0 n) (ltb (at ns (0 + n)) (2 ^ 32)) e) m)
-    (λ m. let q : k ≡ n = omega arith in rw q (ltb-true (at ns (0 + n)) (2 ^ 32) (and_right (numbersFormed ns 0 n) (ltb (at ns (0 + n)) (2 ^ 32)) e)))
+    (λ m. under_first ns n k (and_left (numbers_formed ns 0 n) (ltb (at ns (0 + n)) (2 ^ 32)) e) m)
+    (λ m. let q : k ≡ n = omega arith in rw q (ltb-true (at ns (0 + n)) (2 ^ 32) (and_right (numbers_formed ns 0 n) (ltb (at ns (0 + n)) (2 ^ 32)) e)))
 
 under_all : (ns : List ℕ) → Numbers ns → (k : ℕ) → k < 16 → at ns k < 2 ^ 32
 under_all ns h k l = let z : 0 + k ≡ k = omega arith in rw z at (under_first ns 16 k h.1 l)
@@ -97,12 +97,12 @@ numbers-set ns i x h l =
     (λ e. let q = eqb-true i k e in rw (← q) (subst (λ (y : ℕ). y < 2 ^ 32) (sym (get_or-set_same ns i x 0 (let z = h.0 in omega arith))) l))
     (λ e. subst (λ (y : ℕ). y < 2 ^ 32) (sym (get_or-set_other ns i k x 0 (λ q. eqb-false i k e (sym q)))) (under_all ns h k m)))
 
-sixteen-long : (ws : List ℕ) (i : ℕ) → length (sixteenOf ws i) ≡ 16
-unfolding sixteenOf
+sixteen-long : (ws : List ℕ) (i : ℕ) → length (sixteen_of ws i) ≡ 16
+unfolding sixteen_of
 sixteen-long ws i = refl
 
-numbers-said : (ws : List ℕ) (i : ℕ) → Numbers (sixteenOf ws i)
-numbers-said ws i = numbers_of (sixteenOf ws i) (sixteen-long ws i) (λ k m. subst (λ (y : ℕ). y < 2 ^ 32) (sym (element ws i k m)) (mod-lt (at ws (i + k)) (omega arith)))
+numbers-said : (ws : List ℕ) (i : ℕ) → Numbers (sixteen_of ws i)
+numbers-said ws i = numbers_of (sixteen_of ws i) (sixteen-long ws i) (λ k m. subst (λ (y : ℕ). y < 2 ^ 32) (sym (element ws i k m)) (mod-lt (at ws (i + k)) (omega arith)))
 
 -- the head that words say
 rest-head : (ws : List ℕ) → Rest (head_of ws)
@@ -119,12 +119,12 @@ rest-head ws =
     }
 
 rest-nowhere : Rest nowhere
-unfolding heads.freshHead syncs.freshClock bases.freshBase ieee.fits samples.noSamples rates.freshArrivals rates.freshLinks histories.freshHistory numbersFormed
+unfolding heads.fresh_head syncs.fresh_clock bases.fresh_base ieee.fits samples.no_samples rates.fresh_arrivals rates.fresh_links histories.fresh_history numbers_formed
 rest-nowhere =
     record { stamp = lit< tt; mean = tt; squares = tt; gaps = (refl, refl); sizes = (refl, refl); probes = (refl, refl); first = lit< tt }
 
-rest-said : (ws : List ℕ) → Rest (unpackOf ws)
-unfolding unpackOf
+rest-said : (ws : List ℕ) → Rest (unpack_of ws)
+unfolding unpack_of
 rest-said ws = by-test Rest (formed ws) (head_of ws) nowhere (λ b. rest-head ws) (λ b. rest-nowhere)
 
 -- and in range it fits its types
@@ -132,37 +132,37 @@ mag-small : (z : ℤ) → nat_abs z ≤ 2 ^ 62 → Whole z
 mag-small (pos n) h = omega arith
 mag-small (negsuc n) h = omega arith
 
-last-small : (m : Moment) → lastOk m ≡ true → Time m
+last-small : (m : Moment) → last_ok m ≡ true → Time m
 last-small Unset e = tt
 last-small (At (pos n)) e = let h = leb-true n (2 ^ 61 + 2 ^ 31) e in omega arith
 last-small (At (negsuc n)) e = let h = leb-true n (2 ^ 61 + 2 ^ 31 - 1) (and_left (leb n (2 ^ 61 + 2 ^ 31 - 1)) true e) in omega arith
 
-time-small : (m : Moment) → timeOk m ≡ true → Time m
+time-small : (m : Moment) → time_ok m ≡ true → Time m
 time-small Unset e = tt
 time-small (At t) e = mag-small t (let h = reading-size t e in omega arith)
 
-rtt-small : (t : Rtt) → rttOk t ≡ true → RttHolds t
-unfolding rttOk
+rtt-small : (t : Rtt) → rtt_ok t ≡ true → RttHolds t
+unfolding rtt_ok
 rtt-small t e =
     record {
       mean = let a = ltb-true t.mean (2 ^ 31) (and_left (ltb t.mean (2 ^ 31)) _ e) in omega arith;
       variance = let a = ltb-true t.variance (2 ^ 31) (and_right (ltb t.mean (2 ^ 31)) _ e) in omega arith;
     }
 
-arrival-time : (a : Arrivals) → arrivalsOk a ≡ true → timeOk a.last ≡ true
-unfolding arrivalsOk
-arrival-time a e = and_right (leb a.count 16 && ltb a.at 16 && allUnder (2 ^ 31) (arrivalGaps a) && allUnder 1457 (arrivalSizes a)) (timeOk a.last) e
+arrival-time : (a : Arrivals) → arrivals_ok a ≡ true → time_ok a.last ≡ true
+unfolding arrivals_ok
+arrival-time a e = and_right (leb a.count 16 && ltb a.at 16 && all_under (2 ^ 31) (arrival_gaps a) && all_under 1457 (arrival_sizes a)) (time_ok a.last) e
 
-probe-time : (l : Links) → linksOk l ≡ true → timeOk l.probe ≡ true
-unfolding linksOk
-probe-time l e = and_right (leb l.count 16 && ltb l.at 16 && allUnder (2 ^ 31) (linkGaps l)) (timeOk l.probe) e
+probe-time : (l : Links) → links_ok l ≡ true → time_ok l.probe ≡ true
+unfolding links_ok
+probe-time l e = and_right (leb l.count 16 && ltb l.at 16 && all_under (2 ^ 31) (link_gaps l)) (time_ok l.probe) e
 
-history-small : (y : History) → historyOk y ≡ true → Number y.first → HistoryHolds y
+history-small : (y : History) → history_ok y ≡ true → Number y.first → HistoryHolds y
 history-small y e f =
     let r = history-ranges y e in
     record { first = f; largest = let a = r.largest in omega arith; lastack = let a = r.lastack in omega arith }
 
-holds-from : (h : Head) → headOk h ≡ true → Rest h → Holds h
+holds-from : (h : Head) → head_ok h ≡ true → Rest h → Holds h
 holds-from h e r =
     let p = in_parts h e in
     let w = in_window h.window p.window in
@@ -185,90 +185,90 @@ module _ (k : SynchronizedRemoteClock) (latency : ℕ) (drop : Bool) (w : Window
   Same o = (o.popped.clock.base ≡ k.base) × (o.popped.clock.stats ≡ k.stats)
 
   pop-same : Same (pop_of k latency drop w ws now bs out)
-  unfolding releaseOf
+  unfolding release_of
   pop-same = pop-cases k latency drop w ws now bs out Same (refl, refl) (refl, refl) (λ a b c. (refl, refl)) (λ n s a b. (refl, refl))
 
-rest-after-pop : (h : Head) (w : Window) (k : SynchronizedRemoteClock) (now : ℤ) → k.base ≡ h.clock.base → k.stats ≡ h.clock.stats → Rest h → (a : PopAnswer) → Rest (headAfter h w k a now)
+rest-after-pop : (h : Head) (w : Window) (k : SynchronizedRemoteClock) (now : ℤ) → k.base ≡ h.clock.base → k.stats ≡ h.clock.stats → Rest h → (a : PopAnswer) → Rest (head_after h w k a now)
 rest-after-pop h w k now e f r = go
   where
-    moved : Rest (headAfter h w k pops.Nothing now)
+    moved : Rest (head_after h w k pops.Nothing now)
     moved = record { stamp = rw e r.stamp; mean = rw f r.mean; squares = rw f r.squares; gaps = r.gaps; sizes = r.sizes; probes = r.probes; first = r.first }
 
-    go : (a : PopAnswer) → Rest (headAfter h w k a now)
+    go : (a : PopAnswer) → Rest (head_after h w k a now)
     go pops.Nothing = moved
     go (pops.Message t b p) = moved
     go (pops.Late s l d) = moved
     go pops.OutShort = r
 
 module _ (h : Head) (slots bs out : List ℕ) (now : ℤ) where
-  abbrev pop-refusal : ℕ
-  pop-refusal = firstRefusal (popRules (headOk h) h.window.capacity (length slots) (length bs) now h.latest)
+  abbrev pop_refusal : ℕ
+  pop_refusal = first_refusal (pop_rules (head_ok h) h.window.capacity (length slots) (length bs) now h.latest)
 
-  rest-message : Rest h → Rest (popCallOf h slots bs out now).given.head
-  unfolding popCallOf taken_of
+  rest-message : Rest h → Rest (pop_call_of h slots bs out now).given.head
+  unfolding pop_call_of taken_of
   rest-message r =
       let o = pop_of h.clock h.latency h.dropping h.window slots now bs out in
       let s = pop-same h.clock h.latency h.dropping h.window slots now bs out in
-      by-test (λ (x : MessageOutcome). Rest x.given.head) (eqb pop-refusal 0) _ _
+      by-test (λ (x : MessageOutcome). Rest x.given.head) (eqb pop_refusal 0) _ _
       (λ z. rest-after-pop h o.popped.window o.popped.clock now s.0 s.1 r o.popped.answer)
       (λ z. r)
 
-  message-open : (popCallOf h slots bs out now).line.refusal ≡ 0 → pop-refusal ≡ 0
-  unfolding popCallOf
-  message-open = by-test (λ (x : MessageOutcome). x.line.refusal ≡ 0 → pop-refusal ≡ 0) (eqb pop-refusal 0) _ _ (λ z e. eqb-true pop-refusal 0 z) (λ z e. e)
+  message-open : (pop_call_of h slots bs out now).line.refusal ≡ 0 → pop_refusal ≡ 0
+  unfolding pop_call_of
+  message-open = by-test (λ (x : MessageOutcome). x.line.refusal ≡ 0 → pop_refusal ≡ 0) (eqb pop_refusal 0) _ _ (λ z e. eqb-true pop_refusal 0 z) (λ z e. e)
 
-  message-ranged : (popCallOf h slots bs out now).line.refusal ≡ 0 → headOk h ≡ true
+  message-ranged : (pop_call_of h slots bs out now).line.refusal ≡ 0 → head_ok h ≡ true
   message-ranged e =
-      not-false (headOk h)
-      (clear (popRules (headOk h) h.window.capacity (length slots) (length bs) now h.latest) (lit< tt, (lit< tt, (lit< tt, (lit< tt, (lit< tt, tt))))) (message-open e)).0
+      not-false (head_ok h)
+      (clear (pop_rules (head_ok h) h.window.capacity (length slots) (length bs) now h.latest) (lit< tt, (lit< tt, (lit< tt, (lit< tt, (lit< tt, tt))))) (message-open e)).0
 
 pub message-says : (ws slots bs out : List ℕ) (now : ℤ)
-    → let o = popCallOf (unpackOf ws) slots bs out now in o.line.refusal ≡ 0 → unpackOf (packOf o.given.head) ≡ o.given.head
+    → let o = pop_call_of (unpack_of ws) slots bs out now in o.line.refusal ≡ 0 → unpack_of (pack_of o.given.head) ≡ o.given.head
 message-says ws slots bs out now e =
-    let h = unpackOf ws in
-    unpack-pack (popCallOf h slots bs out now).given.head
-    (holds-from (popCallOf h slots bs out now).given.head (message-kept h slots bs out now (message-ranged h slots bs out now e)) (rest-message h slots bs out now (rest-said ws)))
+    let h = unpack_of ws in
+    unpack-pack (pop_call_of h slots bs out now).given.head
+    (holds-from (pop_call_of h slots bs out now).given.head (message-kept h slots bs out now (message-ranged h slots bs out now e)) (rest-message h slots bs out now (rest-said ws)))
 
 -- a data packet: one interval and size enter a window
-rest-rated : (h : Head) (now : ℤ) (number size : ℕ) → size < 2 ^ 32 → Rest h → Rest (ratedOf h now number size)
-unfolding ratedOf rates.arrivalOf rates.link_of rates.pair_of
+rest-rated : (h : Head) (now : ℤ) (number size : ℕ) → size < 2 ^ 32 → Rest h → Rest (rated_of h now number size)
+unfolding rated_of rates.arrival_of rates.link_of rates.pair_of
 rest-rated h now number size l r =
     let a = arrived h.arrivals.last in
     record { stamp = r.stamp; mean = r.mean; squares = r.squares; gaps = a.0; sizes = a.1; probes = linked; first = r.first }
   where
-    under : (t : ℤ) → sinceTime now t < 2 ^ 32
+    under : (t : ℤ) → since_time now t < 2 ^ 32
     under t = let k = since-under now t in omega arith
 
-    arrived : (m : Moment) → Numbers (rates.arrivedSince m h.arrivals now size).gaps × Numbers (rates.arrivedSince m h.arrivals now size).sizes
+    arrived : (m : Moment) → Numbers (rates.arrived_since m h.arrivals now size).gaps × Numbers (rates.arrived_since m h.arrivals now size).sizes
     arrived Unset = (r.gaps, r.sizes)
-    arrived (At t) = (numbers-set h.arrivals.gaps h.arrivals.at (sinceTime now t) r.gaps (under t), numbers-set h.arrivals.sizes h.arrivals.at size r.sizes l)
+    arrived (At t) = (numbers-set h.arrivals.gaps h.arrivals.at (since_time now t) r.gaps (under t), numbers-set h.arrivals.sizes h.arrivals.at size r.sizes l)
 
-    paired : (m : Moment) → Numbers (rates.pairedSince m h.links now).gaps
+    paired : (m : Moment) → Numbers (rates.paired_since m h.links now).gaps
     paired Unset = r.probes
-    paired (At t) = numbers-set h.links.gaps h.links.at (sinceTime now t) r.probes (under t)
+    paired (At t) = numbers-set h.links.gaps h.links.at (since_time now t) r.probes (under t)
 
-    linked : Numbers (cond (eqb (number % 16) 0) (rates.withProbe h.links (At now)) (cond (eqb (number % 16) 1) (rates.pairedSince h.links.probe h.links now) h.links)).gaps
+    linked : Numbers (cond (eqb (number % 16) 0) (rates.with_probe h.links (At now)) (cond (eqb (number % 16) 1) (rates.paired_since h.links.probe h.links now) h.links)).gaps
     linked =
         by-test (λ (x : Links). Numbers x.gaps) (eqb (number % 16) 0) _ _
         (λ b. r.probes)
         (λ b. by-test (λ (x : Links). Numbers x.gaps) (eqb (number % 16) 1) _ _ (λ c. paired h.links.probe) (λ c. r.probes))
 
-by-light : (h : Head) (lrsn : ℕ) → Number h.history.first → Number (histories.lightAckOf h.history lrsn).history.first
-unfolding histories.lightAckOf
+by-light : (h : Head) (lrsn : ℕ) → Number h.history.first → Number (histories.light_ack_of h.history lrsn).history.first
+unfolding histories.light_ack_of
 by-light h lrsn f = by-test (λ (x : LightAcked). Number x.history.first) (before 31 lrsn (sum 31 h.history.lastack 64)) _ _ (λ b. f) (λ b. f)
 
-rest-acked : (h : Head) (w : Window) (now : ℤ) (lrsn : ℕ) (recovered : Bool) → Rest h → Rest (ackedOf (placed_of h w now) lrsn recovered).head
-unfolding ackedOf
+rest-acked : (h : Head) (w : Window) (now : ℤ) (lrsn : ℕ) (recovered : Bool) → Rest h → Rest (acked_of (placed_of h w now) lrsn recovered).head
+unfolding acked_of
 rest-acked h w now lrsn recovered r =
     record { stamp = r.stamp; mean = r.mean; squares = r.squares; gaps = r.gaps; sizes = r.sizes; probes = r.probes; first = kept }
   where
-    kept : Number (histories.lightAckOf h.history lrsn).history.first
+    kept : Number (histories.light_ack_of h.history lrsn).history.first
     kept = by-light h lrsn r.first
 
-rest-after-push : (h : Head) (w : Window) (now : ℤ) (number size : ℕ) → size < 2 ^ 32 → Rest h → (a : PushAnswer) → Rest (afterPush h w a now number size).head
-unfolding gotOf
+rest-after-push : (h : Head) (w : Window) (now : ℤ) (number size : ℕ) → size < 2 ^ 32 → Rest h → (a : PushAnswer) → Rest (after_push h w a now number size).head
+unfolding got_of
 rest-after-push h w now number size l r (pushes.Got lrsn true) = rest-acked h w now lrsn true r
-rest-after-push h w now number size l r (pushes.Got lrsn false) = rest-acked (ratedOf h now number size) w now lrsn false (rest-rated h now number size l r)
+rest-after-push h w now number size l r (pushes.Got lrsn false) = rest-acked (rated_of h now number size) w now lrsn false (rest-rated h now number size l r)
 rest-after-push h w now number size l r (pushes.Loss first last) =
     record { stamp = r.stamp; mean = r.mean; squares = r.squares; gaps = r.gaps; sizes = r.sizes; probes = r.probes; first = r.first }
 rest-after-push h w now number size l r pushes.BufferFull = r
@@ -277,29 +277,29 @@ rest-after-push h w now number size l r pushes.PacketTooLate = r
 rest-after-push h w now number size l r pushes.DiscardedDuplicate = r
 
 module _ (h : Head) (slots bs : List ℕ) (now : ℤ) (p : Packet) (payload : List ℕ) where
-  abbrev push-refusal : ℕ
-  push-refusal = firstRefusal (pushRules (headOk h) h.window.capacity (length slots) (length bs) now h.latest p (length payload))
+  abbrev push_refusal : ℕ
+  push_refusal = first_refusal (push_rules (head_ok h) h.window.capacity (length slots) (length bs) now h.latest p (length payload))
 
-  rest-data : Rest h → Rest (dataCallOf h slots bs now p payload).handled.head
-  unfolding dataCallOf dataTakenOf
+  rest-data : Rest h → Rest (data_call_of h slots bs now p payload).handled.head
+  unfolding data_call_of dataTakenOf
   rest-data r =
-      let o = pushOf h.window slots bs now p payload in
-      by-test (λ (x : DataOutcome). Rest x.handled.head) (eqb push-refusal 0) _ _
+      let o = push_of h.window slots bs now p payload in
+      by-test (λ (x : DataOutcome). Rest x.handled.head) (eqb push_refusal 0) _ _
       (λ z.
-      let d = push-ready h slots bs now p payload (eqb-true push-refusal 0 z) in
+      let d = push-ready h slots bs now p payload (eqb-true push_refusal 0 z) in
       rest-after-push h o.pushed.window now p.number (length payload) (let b = d.right.bytes in omega arith) r o.pushed.answer)
       (λ z. r)
 
-  data-open : (dataCallOf h slots bs now p payload).line.refusal ≡ 0 → push-refusal ≡ 0
-  unfolding dataCallOf
-  data-open = by-test (λ (x : DataOutcome). x.line.refusal ≡ 0 → push-refusal ≡ 0) (eqb push-refusal 0) _ _ (λ z e. eqb-true push-refusal 0 z) (λ z e. e)
+  data-open : (data_call_of h slots bs now p payload).line.refusal ≡ 0 → push_refusal ≡ 0
+  unfolding data_call_of
+  data-open = by-test (λ (x : DataOutcome). x.line.refusal ≡ 0 → push_refusal ≡ 0) (eqb push_refusal 0) _ _ (λ z e. eqb-true push_refusal 0 z) (λ z e. e)
 
-  data-ranged : (dataCallOf h slots bs now p payload).line.refusal ≡ 0 → headOk h ≡ true
+  data-ranged : (data_call_of h slots bs now p payload).line.refusal ≡ 0 → head_ok h ≡ true
   data-ranged e = from_parts h (push-ready h slots bs now p payload (data-open e)).head
 
 pub data-says : (ws slots bs : List ℕ) (now : ℤ) (p : Packet) (payload : List ℕ)
-    → let o = dataCallOf (unpackOf ws) slots bs now p payload in o.line.refusal ≡ 0 → unpackOf (packOf o.handled.head) ≡ o.handled.head
+    → let o = data_call_of (unpack_of ws) slots bs now p payload in o.line.refusal ≡ 0 → unpack_of (pack_of o.handled.head) ≡ o.handled.head
 data-says ws slots bs now p payload e =
-    let h = unpackOf ws in
-    unpack-pack (dataCallOf h slots bs now p payload).handled.head
-    (holds-from (dataCallOf h slots bs now p payload).handled.head (data-kept h slots bs now p payload (data-ranged h slots bs now p payload e)) (rest-data h slots bs now p payload (rest-said ws)))
+    let h = unpack_of ws in
+    unpack-pack (data_call_of h slots bs now p payload).handled.head
+    (holds-from (data_call_of h slots bs now p payload).handled.head (data-kept h slots bs now p payload (data-ranged h slots bs now p payload e)) (rest-data h slots bs now p payload (rest-said ws)))

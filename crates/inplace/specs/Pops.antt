@@ -2,32 +2,32 @@
 use Rattle.std.specs.Prelude.{◌≡◌, Bool, true, not, ◌&&◌, List, ℕ, ◌^◌, ◌<◌, ◌≤◌, ltb, ℤ, nat_abs, length, set}
 use Rattle.std.proofs.Math.Seq.{paste}
 use Rattle.std.specs.Int.Signed.{lt_z}
-use Rattle.clock.specs.Base.{instantOf}
-use Rattle.clock.specs.Release.{laterOf}
+use Rattle.clock.specs.Base.{instant_of}
+use Rattle.clock.specs.Release.{later_of}
 use Rattle.clock.specs.declared.base.TimeBase.{TimeBase}
-use Rattle.slots.specs.Words.{entry_at, lengthIn, stampIn, isFirst, is_last}
-use Rattle.slots.specs.Ring.{payloadAt}
+use Rattle.slots.specs.Words.{entry_at, length_in, stamp_in, is_first, is_last}
+use Rattle.slots.specs.Ring.{payload_at}
 use Rattle.window.specs.Window.{cut}
 use Rattle.window.specs.Ready.{Good, Bytes}
 use Rattle.clock.specs.declared.time.SynchronizedRemoteClock.{SynchronizedRemoteClock}
 use Rattle.window.specs.declared.Window.{Window}
-use Rattle.window_pop.specs.Pop.{PopOutcome, pop_of, dueOf}
+use Rattle.window_pop.specs.Pop.{PopOutcome, pop_of, due_of}
 use Rattle.window_pop.specs.Ready.{PopReady}
 use Rattle.window_pop.specs.declared.pop.PopAnswer.{PopAnswer}
 use Rattle.window_pop.specs.declared.pop.PopAnswer.TheVariants as pops
-use Rattle.head.specs.Rules.{firstRefusal, popRules}
-use Rattle.head.specs.Head.{headOk}
+use Rattle.head.specs.Rules.{first_refusal, pop_rules}
+use Rattle.head.specs.Head.{head_ok}
 use Rattle.receiver.specs.Message.{taken_of}
 use Rattle.receiver.specs.declared.message.MessageAnswer.{MessageAnswer}
 use Rattle.receiver.specs.declared.message.MessageAnswer.TheVariants as answers
-use Rattle.packing.specs.Words.{word_of, whole_of, number_of, flagOf, momentOf}
-use Rattle.packing.specs.Packed.{at, windowOf, base_of, clockOf, head_of, formed, unpackOf}
-use Rattle.packing.specs.Puts.{putWindow, putBase, putStats}
-use Rattle.inplace.specs.Calls.{PopIn, popIn, messageLeft}
+use Rattle.packing.specs.Words.{word_of, whole_of, number_of, flag_of, moment_of}
+use Rattle.packing.specs.Packed.{at, window_of, base_of, clock_of, head_of, formed, unpack_of}
+use Rattle.packing.specs.Puts.{put_window, put_base, put_stats}
+use Rattle.inplace.specs.Calls.{PopIn, pop_in, message_left}
 
 -- the window and clock after a pop, and the reading as the latest
-unfoldable pub putPopped : List ℕ → Window → SynchronizedRemoteClock → ℤ → List ℕ
-putPopped ws w k now = set (putStats (putBase (putWindow ws w) k) k) 0 (word_of now)
+unfoldable pub put_popped : List ℕ → Window → SynchronizedRemoteClock → ℤ → List ℕ
+put_popped ws w k now = set (put_stats (put_base (put_window ws w) k) k) 0 (word_of now)
 
 -- an answer and the words
 pub record Settled : Type 0 where
@@ -39,31 +39,31 @@ settled a ws = record { answer = a; words = ws }
 
 -- an output that is short leaves the words
 abbrev pub settled_of : List ℕ → Window → SynchronizedRemoteClock → PopAnswer → ℤ → Settled
-settled_of ws w k pops.Nothing now = settled answers.Nothing (putPopped ws w k now)
-settled_of ws w k (pops.Message time bytes packets) now = settled (answers.Message time bytes packets) (putPopped ws w k now)
-settled_of ws w k (pops.Late first end delay) now = settled (answers.Late first end delay) (putPopped ws w k now)
+settled_of ws w k pops.Nothing now = settled answers.Nothing (put_popped ws w k now)
+settled_of ws w k (pops.Message time bytes packets) now = settled (answers.Message time bytes packets) (put_popped ws w k now)
+settled_of ws w k (pops.Late first end delay) now = settled (answers.Late first end delay) (put_popped ws w k now)
 settled_of ws w k pops.OutShort now = settled (answers.Refused 11) ws
 
-abbrev pub settledBy : List ℕ → ℤ → PopOutcome → PopIn
-settledBy ws now o =
-    let s = settled_of ws o.popped.window o.popped.clock o.popped.answer now in popIn s.answer s.words o.output
+abbrev pub settled_by : List ℕ → ℤ → PopOutcome → PopIn
+settled_by ws now o =
+    let s = settled_of ws o.popped.window o.popped.clock o.popped.answer now in pop_in s.answer s.words o.output
 
-unfoldable pub releasedOf : List ℕ → List ℕ → List ℕ → List ℕ → ℤ → PopIn
-releasedOf ws slots bs out now = settledBy ws now (pop_of (clockOf ws) (number_of (at ws 6)) (flagOf (at ws 7)) (windowOf ws) slots now bs out)
+unfoldable pub released_of : List ℕ → List ℕ → List ℕ → List ℕ → ℤ → PopIn
+released_of ws slots bs out now = settled_by ws now (pop_of (clock_of ws) (number_of (at ws 6)) (flag_of (at ws 7)) (window_of ws) slots now bs out)
 
 -- the front is a message of one packet, due, and of at most `room` bytes
-unfoldable pub isSingle : Window → TimeBase → ℕ → List ℕ → ℕ → ℤ → Bool
-isSingle w base latency slots room now =
+unfoldable pub is_single : Window → TimeBase → ℕ → List ℕ → ℕ → ℤ → Bool
+is_single w base latency slots room now =
     let e = entry_at slots w.start in
-    ltb 0 w.held && (isFirst e && is_last e && not (lt_z now (dueOf base latency (stampIn e))) && not (ltb room (lengthIn e)))
+    ltb 0 w.held && (is_first e && is_last e && not (lt_z now (due_of base latency (stamp_in e))) && not (ltb room (length_in e)))
 
 -- its time, never before the last one
-abbrev pub releaseTime : List ℕ → TimeBase → ℕ → ℤ
-releaseTime ws base stamp = laterOf (momentOf (at ws 10) (at ws 11)) (instantOf base stamp)
+abbrev pub release_time : List ℕ → TimeBase → ℕ → ℤ
+release_time ws base stamp = later_of (moment_of (at ws 10) (at ws 11)) (instant_of base stamp)
 
 -- the words that its release moves: the front, the last released time and the latest reading
-unfoldable pub putSingle : List ℕ → Window → ℤ → ℤ → List ℕ
-putSingle ws w released now =
+unfoldable pub put_single : List ℕ → Window → ℤ → ℤ → List ℕ
+put_single ws w released now =
     set (set (set (set (set (set ws 2 w.start) 3 w.held) 4 w.seqno0) 10 1) 11 (word_of released)) 0 (word_of now)
 
 -- what its release counts on
@@ -72,39 +72,39 @@ pub record Single (w : Window) (base : TimeBase) (slots bs out : List ℕ) : Typ
   pub payloads : Bytes w bs
   pub some : 0 < w.held
   pub reference : nat_abs base.time ≤ 2 ^ 61
-  pub fits : lengthIn (entry_at slots w.start) ≤ length out
+  pub fits : length_in (entry_at slots w.start) ≤ length out
 
--- its release: `releasedOf` where `isSingle` holds
-unfoldable pub singleOf : List ℕ → Window → TimeBase → List ℕ → List ℕ → List ℕ → ℤ → PopIn
-singleOf ws w base slots bs out now =
+-- its release: `released_of` where `is_single` holds
+unfoldable pub single_of : List ℕ → Window → TimeBase → List ℕ → List ℕ → List ℕ → ℤ → PopIn
+single_of ws w base slots bs out now =
     let e = entry_at slots w.start in
-    let t = releaseTime ws base (stampIn e) in
-    popIn (answers.Message t (lengthIn e) 1) (putSingle ws (cut w 1) t now) (paste out 0 (payloadAt bs w.start (lengthIn e)) (lengthIn e))
+    let t = release_time ws base (stamp_in e) in
+    pop_in (answers.Message t (length_in e) 1) (put_single ws (cut w 1) t now) (paste out 0 (payload_at bs w.start (length_in e)) (length_in e))
 
 -- the same on the words
 pub record Fronted (ws slots : List ℕ) : Type 0 where
-  pub good : Good (windowOf ws) slots
+  pub good : Good (window_of ws) slots
   pub reference : nat_abs (base_of ws).time ≤ 2 ^ 61
   pub setting : number_of (at ws 6) ≤ 65535000
 
-unfoldable pub isUsual : List ℕ → List ℕ → ℕ → ℤ → Bool
-isUsual ws slots room now = isSingle (windowOf ws) (base_of ws) (number_of (at ws 6)) slots room now
+unfoldable pub is_usual : List ℕ → List ℕ → ℕ → ℤ → Bool
+is_usual ws slots room now = is_single (window_of ws) (base_of ws) (number_of (at ws 6)) slots room now
 
 -- `Single` by the words alone, as search finds it
 pub record Usual (ws slots bs out : List ℕ) : Type 0 where
-  pub single : Single (windowOf ws) (base_of ws) slots bs out
+  pub single : Single (window_of ws) (base_of ws) slots bs out
 
-unfoldable pub usualOf : List ℕ → List ℕ → List ℕ → List ℕ → ℤ → PopIn
-usualOf ws slots bs out now = singleOf ws (windowOf ws) (base_of ws) slots bs out now
+unfoldable pub usual_of : List ℕ → List ℕ → List ℕ → List ℕ → ℤ → PopIn
+usual_of ws slots bs out now = single_of ws (window_of ws) (base_of ws) slots bs out now
 
-unfoldable pub popRefusal : List ℕ → ℕ → ℕ → ℤ → ℕ
-popRefusal ws slots bytes now = firstRefusal (popRules (headOk (unpackOf ws)) (at ws 1) slots bytes now (whole_of (at ws 0)))
+unfoldable pub pop_refusal : List ℕ → ℕ → ℕ → ℤ → ℕ
+pop_refusal ws slots bytes now = first_refusal (pop_rules (head_ok (unpack_of ws)) (at ws 1) slots bytes now (whole_of (at ws 0)))
 
 -- once nothing refuses it: the words say a head, and the window asks for this
 pub record Popping (ws slots bs : List ℕ) (now : ℤ) : Type 0 where
   pub says : formed ws ≡ true
-  pub ready : PopReady (clockOf ws) (number_of (at ws 6)) (windowOf ws) slots bs now
+  pub ready : PopReady (clock_of ws) (number_of (at ws 6)) (window_of ws) slots bs now
 
 -- the call on that head
-abbrev pub messageTaken : List ℕ → List ℕ → List ℕ → List ℕ → ℤ → PopIn
-messageTaken ws slots bs out now = messageLeft ws (taken_of (head_of ws) slots bs out now)
+abbrev pub message_taken : List ℕ → List ℕ → List ℕ → List ℕ → ℤ → PopIn
+message_taken ws slots bs out now = message_left ws (taken_of (head_of ws) slots bs out now)

@@ -1,6 +1,6 @@
 // Whether nothing refuses, all tests at once: 01, "Refused, in order of test", 1 to 6. Which one refuses is asked only where one does.
 ghost use Rattle.std.specs.Prelude.{◌≡◌};
-ghost use Rattle.inplace.specs.Clear.{areasClear, packetClear};
+ghost use Rattle.inplace.specs.Clear.{areas_clear, packet_clear};
 
 use window::push::Packet;
 
@@ -13,7 +13,7 @@ pub fn areas_clear(
     time: i64,
     latest: i64,
 ) -> bool
-    ensures { result ≡ areasClear ok capacity slots bytes time latest }
+    ensures { result ≡ areas_clear ok capacity slots bytes time latest }
 {
     ok & (capacity <= 8192)
         & (capacity % 0x4000 * 3 <= slots)
@@ -24,7 +24,7 @@ pub fn areas_clear(
 
 // Numbers and payload.
 pub fn packet_clear(p: Packet, size: usize) -> bool
-    ensures { result ≡ packetClear p size }
+    ensures { result ≡ packet_clear p size }
 {
     (p.number < 0x8000_0000) & (p.message < 0x400_0000) & (p.location < 4) & (size <= 1456)
 }

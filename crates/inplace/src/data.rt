@@ -2,8 +2,8 @@
 ghost use Rattle.std.specs.Prelude.{◌≡◌, true, false, ◌<◌, ◌≤◌};
 ghost use Rattle.receiver.specs.Data.{packet};
 ghost use Rattle.packing.specs.Packed.{at};
-ghost use Rattle.inplace.specs.Calls.{dataIn, dataLeft};
-ghost use Rattle.inplace.specs.Pushes.{putLast, putArrival, put_pair, putLinked, putRated, putPlaced, heard, ackedIn, recoveredIn, afterOther, takenBy, Pairs, Rates, TakeReady, isNext, putNext, ackedNext, keptNext, nextTaken, Pushing, dataTaken, pushRefusal};
+ghost use Rattle.inplace.specs.Calls.{data_in, data_left};
+ghost use Rattle.inplace.specs.Pushes.{put_last, put_arrival, put_pair, put_linked, put_rated, put_placed, heard, acked_in, recovered_in, after_other, taken_by, Pairs, Rates, TakeReady, is_next, put_next, acked_next, kept_next, next_taken, Pushing, data_taken, push_refusal};
 
 use acks::history::History;
 use intervals::rates::one_more;
@@ -14,7 +14,7 @@ use window::Window;
 use window::push::{Packet, PushAnswer, Pushed};
 
 fn put_last(ws: &mut [u64; 79], time: i64)
-    ensures { ws.new ≡ putLast ws.old time }
+    ensures { ws.new ≡ put_last ws.old time }
 {
     ws[52] = 1;
     ws[53] = words::of_whole(time);
@@ -23,7 +23,7 @@ fn put_last(ws: &mut [u64; 79], time: i64)
 // An arrival: the interval since the last one enters its window, if there was one.
 fn put_arrival(ws: &mut [u64; 79], at: usize, count: usize, last: Moment, time: i64, size: u32)
     requires { (at < 16) × (count ≤ 16) }
-    ensures { ws.new ≡ putArrival ws.old at count last time size }
+    ensures { ws.new ≡ put_arrival ws.old at count last time size }
 {
     let Moment::At(t) = last else {
         put_last(ws, time);
@@ -54,7 +54,7 @@ fn put_pair(ws: &mut [u64; 79], at: usize, count: usize, probe: Moment, time: i6
 // An append of this number: the first of a pair, the second, or neither. Most are neither, and read nothing.
 fn put_link(ws: &mut [u64; 79], time: i64, number: u32)
     requires { Pairs ws.old }
-    ensures { ws.new ≡ putLinked ws.old time number }
+    ensures { ws.new ≡ put_linked ws.old time number }
 {
     let place = number % 16;
     if place == 0 {
@@ -73,7 +73,7 @@ fn put_link(ws: &mut [u64; 79], time: i64, number: u32)
 // Rates count appends without gap.
 fn rate(ws: &mut [u64; 79], time: i64, number: u32, size: u32)
     requires { Rates ws.old }
-    ensures { ws.new ≡ putRated ws.old time number size }
+    ensures { ws.new ≡ put_rated ws.old time number size }
 {
     let at = words::size(ws[50]);
     let count = words::size(ws[51]);
@@ -84,7 +84,7 @@ fn rate(ws: &mut [u64; 79], time: i64, number: u32, size: u32)
 
 // The window after a push, at a reading.
 fn place(ws: &mut [u64; 79], window: Window, time: i64)
-    ensures { ws.new ≡ putPlaced ws.old window time }
+    ensures { ws.new ≡ put_placed ws.old window time }
 {
     pack::put_window(ws, window);
     ws[0] = words::of_whole(time);
@@ -92,7 +92,7 @@ fn place(ws: &mut [u64; 79], window: Window, time: i64)
 
 // A recovery asks for a light ACK, as an append without gap does.
 fn acknowledge(ws: &mut [u64; 79], y: History, lrsn: u32) -> DataAnswer
-    ensures { heard result ws.new ≡ ackedIn ws.old y lrsn true }
+    ensures { heard result ws.new ≡ acked_in ws.old y lrsn true }
 {
     let acked = y.next_light_ack(lrsn);
     let history = acked.history;
@@ -111,7 +111,7 @@ fn acknowledge(ws: &mut [u64; 79], y: History, lrsn: u32) -> DataAnswer
 
 // A packet recovered.
 fn recovered(ws: &mut [u64; 79], window: Window, lrsn: u32, time: i64) -> DataAnswer
-    ensures { heard result ws.new ≡ recoveredIn ws.old window lrsn time }
+    ensures { heard result ws.new ≡ recovered_in ws.old window lrsn time }
 {
     let y = unpack::history(ws);
     place(ws, window, time);
@@ -120,7 +120,7 @@ fn recovered(ws: &mut [u64; 79], window: Window, lrsn: u32, time: i64) -> DataAn
 
 // The window's answer as the call's: a refusal leaves the words, a gap asks for no ACK. What a packet that is not the next one got, it recovered.
 fn after_push(ws: &mut [u64; 79], pushed: Pushed, time: i64) -> DataAnswer
-    ensures { heard result ws.new ≡ afterOther ws.old pushed.window pushed.answer time }
+    ensures { heard result ws.new ≡ after_other ws.old pushed.window pushed.answer time }
 {
     let window = pushed.window;
     let answer = pushed.answer;
@@ -144,8 +144,8 @@ fn take_packet(
     p: Packet,
     payload: &[u8],
 ) -> DataAnswer
-    requires { TakeReady ws.old w slots.old bytes.old time p payload.now × (isNext w p.number ≡ false) }
-    ensures { dataLeft result ws.new slots.new bytes.new ≡ takenBy ws.old w slots.old bytes.old time p payload.now }
+    requires { TakeReady ws.old w slots.old bytes.old time p payload.now × (is_next w p.number ≡ false) }
+    ensures { data_left result ws.new slots.new bytes.new ≡ taken_by ws.old w slots.old bytes.old time p payload.now }
 {
     let pushed = window::push::push(w, slots, bytes, time, p, payload);
     after_push(ws, pushed, time)
@@ -154,7 +154,7 @@ fn take_packet(
 // Whether a packet is the next expected one: by the distance, as the push tells it, so that the compiler sees that no other packet is appended without gap.
 fn is_next(w: Window, number: u32) -> bool
     requires { w.held ≤ 8192 }
-    ensures { result ≡ isNext w number }
+    ensures { result ≡ is_next w number }
 {
     let next = window::number(w, w.held);
     numbers::seq::distance(number, next) == 0
@@ -162,7 +162,7 @@ fn is_next(w: Window, number: u32) -> bool
 
 // The words that its append moves besides the rates: what is held, lrsn and the latest reading.
 fn put_next(ws: &mut [u64; 79], held: usize, lrsn: u32, time: i64)
-    ensures { ws.new ≡ putNext ws.old held lrsn time }
+    ensures { ws.new ≡ put_next ws.old held lrsn time }
 {
     ws[3] = words::of_size(held);
     ws[5] = words::of_number(lrsn);
@@ -171,7 +171,7 @@ fn put_next(ws: &mut [u64; 79], held: usize, lrsn: u32, time: i64)
 
 // Of the history a light ACK moves one word, and all else none.
 fn acknowledge_next(ws: &mut [u64; 79], lrsn: u32) -> DataAnswer
-    ensures { heard result ws.new ≡ ackedNext ws.old lrsn }
+    ensures { heard result ws.new ≡ acked_next ws.old lrsn }
 {
     let y = unpack::history(ws);
     let acked = y.next_light_ack(lrsn);
@@ -198,7 +198,7 @@ fn keep_next(
     size: u32,
 ) -> DataAnswer
     requires { Rates ws.old }
-    ensures { heard result ws.new ≡ keptNext ws.old held lrsn time number size }
+    ensures { heard result ws.new ≡ kept_next ws.old held lrsn time number size }
 {
     rate(ws, time, number, size);
     put_next(ws, held, lrsn, time);
@@ -216,7 +216,7 @@ fn take_next(
     payload: &[u8],
 ) -> DataAnswer
     requires { TakeReady ws.old w slots.old bytes.old time p payload.now }
-    ensures { dataLeft result ws.new slots.new bytes.new ≡ nextTaken ws.old w slots.old bytes.old time p payload.now }
+    ensures { data_left result ws.new slots.new bytes.new ≡ next_taken ws.old w slots.old bytes.old time p payload.now }
 {
     if w.held == w.capacity {
         return DataAnswer::Refused(7);
@@ -240,7 +240,7 @@ fn take(
     payload: &[u8],
 ) -> DataAnswer
     requires { Pushing ws.old slots.old bytes.old time p payload.now }
-    ensures { dataLeft result ws.new slots.new bytes.new ≡ dataTaken ws.old slots.old bytes.old time p payload.now }
+    ensures { data_left result ws.new slots.new bytes.new ≡ data_taken ws.old slots.old bytes.old time p payload.now }
 {
     sound::typed(ws);
     let w = unpack::window(ws);
@@ -251,7 +251,7 @@ fn take(
 }
 
 fn refusal(ws: &[u64; 79], slots: usize, bytes: usize, time: i64, p: Packet, size: usize) -> u32
-    ensures { result ≡ pushRefusal ws.now slots bytes time p size }
+    ensures { result ≡ push_refusal ws.now slots bytes time p size }
 {
     let ok = sound::sound(ws);
     let capacity = words::size(ws[1]);
@@ -275,7 +275,7 @@ pub fn handle_data_packet(
     stamp: u32,
     payload: &[u8],
 ) -> DataAnswer
-    ensures { dataLeft result ws.new slots.new bytes.new ≡ dataIn ws.old slots.old bytes.old time (packet number message location stamp) payload.now }
+    ensures { data_left result ws.new slots.new bytes.new ≡ data_in ws.old slots.old bytes.old time (packet number message location stamp) payload.now }
 {
     let p = Packet {
         number,

@@ -4,9 +4,9 @@ ghost use Rattle.window.specs.Ready.{Good};
 ghost use Rattle.window_pop.specs.Pop.{pop_of};
 ghost use Rattle.window_pop.specs.Ready.{PopReady};
 ghost use Rattle.packing.specs.Words.{number_of};
-ghost use Rattle.packing.specs.Packed.{at, windowOf, clockOf};
-ghost use Rattle.inplace.specs.Calls.{popIn, messageIn};
-ghost use Rattle.inplace.specs.Pops.{putPopped, settled, settled_of, settledBy, releasedOf, isSingle, releaseTime, putSingle, Single, singleOf, Fronted, isUsual, Usual, usualOf, Popping, messageTaken, popRefusal};
+ghost use Rattle.packing.specs.Packed.{at, window_of, clock_of};
+ghost use Rattle.inplace.specs.Calls.{pop_in, message_in};
+ghost use Rattle.inplace.specs.Pops.{put_popped, settled, settled_of, settled_by, released_of, is_single, release_time, put_single, Single, single_of, Fronted, is_usual, Usual, usual_of, Popping, message_taken, pop_refusal};
 
 use clock::base::TimeBase;
 use clock::stats::OnlineStats;
@@ -18,7 +18,7 @@ use window_pop::pop::PopAnswer;
 
 // The window and clock after a pop, and the reading as the latest.
 fn put_popped(ws: &mut [u64; 79], window: Window, clock: SynchronizedRemoteClock, time: i64)
-    ensures { ws.new ≡ putPopped ws.old window clock time }
+    ensures { ws.new ≡ put_popped ws.old window clock time }
 {
     pack::put_window(ws, window);
     pack::put_base(ws, clock);
@@ -56,7 +56,7 @@ fn move_on(
     time: i64,
 ) -> MessageAnswer
     requires { PopReady k latency w slots.now bytes.now time }
-    ensures { popIn result ws.new out.new ≡ settledBy ws.old time (pop_of k latency dropping w slots.now time bytes.now out.old) }
+    ensures { pop_in result ws.new out.new ≡ settled_by ws.old time (pop_of k latency dropping w slots.now time bytes.now out.old) }
 {
     let popped = window_pop::pop::pop(w, k, latency, dropping, slots, bytes, out, time);
     let window = popped.window;
@@ -73,8 +73,8 @@ fn release(
     out: &mut [u8],
     time: i64,
 ) -> MessageAnswer
-    requires { PopReady (clockOf ws.old) (number_of (at ws.old 6)) (windowOf ws.old) slots.now bytes.now time }
-    ensures { popIn result ws.new out.new ≡ releasedOf ws.old slots.now bytes.now out.old time }
+    requires { PopReady (clock_of ws.old) (number_of (at ws.old 6)) (window_of ws.old) slots.now bytes.now time }
+    ensures { pop_in result ws.new out.new ≡ released_of ws.old slots.now bytes.now out.old time }
 {
     let w = unpack::window(ws);
     let k = unpack::clock(ws);
@@ -86,7 +86,7 @@ fn release(
 // Whether the front is a message of one packet, due, and of at most `room` bytes.
 fn is_single(w: Window, base: TimeBase, latency: u32, slots: &[u64], room: usize, time: i64) -> bool
     requires { Good w slots.now × (nat_abs base.time ≤ 2 ^ 61) × (latency ≤ 65535000) }
-    ensures { result ≡ isSingle w base latency slots.now room time }
+    ensures { result ≡ is_single w base latency slots.now room time }
 {
     if w.held == 0 {
         return false;
@@ -102,7 +102,7 @@ fn is_single(w: Window, base: TimeBase, latency: u32, slots: &[u64], room: usize
 // The time at which an entry with this stamp is released: never before the last one.
 fn release_time(ws: &[u64; 79], base: TimeBase, stamp: u32) -> i64
     requires { nat_abs base.time ≤ 2 ^ 61 }
-    ensures { result ≡ releaseTime ws.now base stamp }
+    ensures { result ≡ release_time ws.now base stamp }
 {
     let k = SynchronizedRemoteClock {
         base,
@@ -116,7 +116,7 @@ fn release_time(ws: &[u64; 79], base: TimeBase, stamp: u32) -> i64
 
 // The words that the release of one packet moves: the front, the last released time and the latest reading.
 fn put_single(ws: &mut [u64; 79], w: Window, released: i64, reading: i64)
-    ensures { ws.new ≡ putSingle ws.old w released reading }
+    ensures { ws.new ≡ put_single ws.old w released reading }
 {
     ws[2] = words::of_size(w.start);
     ws[3] = words::of_size(w.held);
@@ -137,7 +137,7 @@ fn release_single(
     time: i64,
 ) -> MessageAnswer
     requires { Single w base slots.now bytes.now out.old }
-    ensures { popIn result ws.new out.new ≡ singleOf ws.old w base slots.now bytes.now out.old time }
+    ensures { pop_in result ws.new out.new ≡ single_of ws.old w base slots.now bytes.now out.old time }
 {
     let c = window::cut_front(w, 1);
     let e = slots::entry::read_at(slots, w.start);
@@ -155,7 +155,7 @@ fn release_single(
 // Both on the words: the test, and the release.
 fn is_usual(ws: &[u64; 79], slots: &[u64], room: usize, time: i64) -> bool
     requires { Fronted ws.now slots.now }
-    ensures { result ≡ isUsual ws.now slots.now room time }
+    ensures { result ≡ is_usual ws.now slots.now room time }
 {
     let w = unpack::window(ws);
     let base = unpack::base(ws);
@@ -171,7 +171,7 @@ fn release_usual(
     time: i64,
 ) -> MessageAnswer
     requires { Usual ws.old slots.now bytes.now out.old }
-    ensures { popIn result ws.new out.new ≡ usualOf ws.old slots.now bytes.now out.old time }
+    ensures { pop_in result ws.new out.new ≡ usual_of ws.old slots.now bytes.now out.old time }
 {
     let w = unpack::window(ws);
     let base = unpack::base(ws);
@@ -181,7 +181,7 @@ fn release_usual(
 // The same, as the head's call: what the type says of the words is needed for that.
 fn take(ws: &mut [u64; 79], slots: &[u64], bytes: &[u8], out: &mut [u8], time: i64) -> MessageAnswer
     requires { Popping ws.old slots.now bytes.now time }
-    ensures { popIn result ws.new out.new ≡ messageTaken ws.old slots.now bytes.now out.old time }
+    ensures { pop_in result ws.new out.new ≡ message_taken ws.old slots.now bytes.now out.old time }
 {
     sound::typed(ws);
     if is_usual(ws, slots, out.len(), time) {
@@ -191,7 +191,7 @@ fn take(ws: &mut [u64; 79], slots: &[u64], bytes: &[u8], out: &mut [u8], time: i
 }
 
 fn refusal(ws: &[u64; 79], slots: usize, bytes: usize, time: i64) -> u32
-    ensures { result ≡ popRefusal ws.now slots bytes time }
+    ensures { result ≡ pop_refusal ws.now slots bytes time }
 {
     let ok = sound::sound(ws);
     let capacity = words::size(ws[1]);
@@ -209,7 +209,7 @@ pub fn pop_next_message(
     out: &mut [u8],
     time: i64,
 ) -> MessageAnswer
-    ensures { popIn result ws.new out.new ≡ messageIn ws.old slots.now bytes.now out.old time }
+    ensures { pop_in result ws.new out.new ≡ message_in ws.old slots.now bytes.now out.old time }
 {
     let n = refusal(ws, slots.len(), bytes.len(), time);
     if n == 0 {

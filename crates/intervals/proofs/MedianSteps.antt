@@ -12,7 +12,7 @@ use lib.Seq.{take-suc, take_all}
 use mir.Syntax.{w64}
 use mir.Val.{Fits}
 use Rattle.numbers.proofs.Flags.{by_bool}
-use Rattle.intervals.specs.Median.{medianOf}
+use Rattle.intervals.specs.Median.{median_of}
 use Rattle.intervals.specs.Inner.{below, has_index, pick}
 use Rattle.intervals.proofs.Sorted.{picked}
 
@@ -50,7 +50,7 @@ pub index-test : (l : List ℕ) (k v : ℕ) {m n : ℕ} → m ≡ below l v → 
 index-test l k v e f = rw (e, f)
 
 -- the loop of median: its start, a turn, its way out in the middle, its end
-pub pick-start : (l : List ℕ) (k : ℕ) → k < 16 → length l ≡ 16 → medianOf l k ≡ pick l k 0 15
+pub pick-start : (l : List ℕ) (k : ℕ) → k < 16 → length l ≡ 16 → median_of l k ≡ pick l k 0 15
 pick-start l k h e = picked l k 15 (omega arith) (omega arith)
 
 module _ (l : List ℕ) (k i : ℕ) {r : ℕ} (e : r ≡ pick l k i (15 - i)) where

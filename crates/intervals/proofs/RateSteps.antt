@@ -14,13 +14,13 @@ use lib.IntN.{ℤ}
 use lib.ListN.{get_or, set, replicate}
 use mir.Syntax.{w32}
 use mir.Val.{Fits}
-use Rattle.numbers.specs.Instants.{isReading, sinceTime}
+use Rattle.numbers.specs.Instants.{is_reading, since_time}
 use Rattle.numbers.specs.declared.instant.Moment.{Moment}
 use Rattle.numbers.specs.declared.instant.Moment.TheVariants.{Unset, At}
 use Rattle.numbers.proofs.Flags.{by-test}
-use Rattle.intervals.specs.Median.{medianOf}
-use Rattle.intervals.specs.Rates.{nextPlace, countAfter, freshArrivals, freshLinks, arrivedFirst, arrivalOf, keeps, takeIn, keptOf, rateOf, noSpeed, someSpeed, speedKept, speedOf, withProbe, pair_of, link_of, linkRate, capacityOf, placeBefore, windowOf, arrivalSizes, allUnder, timeOk, intervalsOk, arrivalsOk, linksOk}
-use Rattle.intervals.specs.Inner.{firstUnder}
+use Rattle.intervals.specs.Median.{median_of}
+use Rattle.intervals.specs.Rates.{next_place, count_after, fresh_arrivals, fresh_links, arrived_first, arrival_of, keeps, take_in, kept_of, rate_of, no_speed, some_speed, speed_kept, speed_of, with_probe, pair_of, link_of, link_rate, capacity_of, place_before, window_of, arrival_sizes, all_under, time_ok, intervals_ok, arrivals_ok, links_ok}
+use Rattle.intervals.specs.Inner.{first_under}
 use Rattle.intervals.specs.declared.rates.Arrivals.{Arrivals}
 use Rattle.intervals.specs.declared.rates.Links.{Links}
 use Rattle.intervals.specs.declared.rates.Kept.{Kept}
@@ -28,40 +28,40 @@ use Rattle.intervals.specs.declared.rates.Rate.TheVariants.{Unknown, PerSecond}
 use Rattle.intervals.proofs.Windows.{under-place, under-sixteen, interval-ranges, arrival-ranges, kept-count, kept-sum, kept-bytes}
 
 -- the constructors
-pub fresh-arrivals : ◌≡◌ {A = Arrivals} (record { gaps = replicate 16 0; sizes = replicate 16 0; at = 0; count = 0; last = Unset }) freshArrivals
-unfolding freshArrivals
+pub fresh-arrivals : ◌≡◌ {A = Arrivals} (record { gaps = replicate 16 0; sizes = replicate 16 0; at = 0; count = 0; last = Unset }) fresh_arrivals
+unfolding fresh_arrivals
 fresh-arrivals = refl
 
-pub fresh-links : ◌≡◌ {A = Links} (record { gaps = replicate 16 0; at = 0; count = 0; probe = Unset }) freshLinks
-unfolding freshLinks
+pub fresh-links : ◌≡◌ {A = Links} (record { gaps = replicate 16 0; at = 0; count = 0; probe = Unset }) fresh_links
+unfolding fresh_links
 fresh-links = refl
 
 -- record of Arrivals
 module _ (a : Arrivals) (now : ℤ) (size : ℕ) where
-  pub arrives-first : {m : Moment} {n : ℤ} → m ≡ a.last → m ≡ Unset → n ≡ now → arrivedFirst a n ≡ arrivalOf a now size
-  unfolding arrivalOf
+  pub arrives-first : {m : Moment} {n : ℤ} → m ≡ a.last → m ≡ Unset → n ≡ now → arrived_first a n ≡ arrival_of a now size
+  unfolding arrival_of
   arrives-first e f p = rw (← e, f, p)
 
   pub arrives : {m : Moment} {t t₁ n n₁ : ℤ} {g count : ℕ}
-      → m ≡ a.last → m ≡ At t → g ≡ sinceTime n t₁ → n ≡ now → t₁ ≡ t → n₁ ≡ now → count ≡ countAfter a.count
-      → ◌≡◌ {A = Arrivals} (record { gaps = set a.gaps a.at g; sizes = set a.sizes a.at size; at = nextPlace a.at; count = count; last = At n₁ }) (arrivalOf a now size)
-  unfolding arrivalOf
+      → m ≡ a.last → m ≡ At t → g ≡ since_time n t₁ → n ≡ now → t₁ ≡ t → n₁ ≡ now → count ≡ count_after a.count
+      → ◌≡◌ {A = Arrivals} (record { gaps = set a.gaps a.at g; sizes = set a.sizes a.at size; at = next_place a.at; count = count; last = At n₁ }) (arrival_of a now size)
+  unfolding arrival_of
   arrives e f g p q p₁ c = rw (← e, f, g, p, q, p₁, c)
 
 -- pair and record of Links
 module _ (l : Links) (now : ℤ) where
-  pub pairs-none : {m : Moment} → m ≡ l.probe → m ≡ Unset → withProbe l Unset ≡ pair_of l now
+  pub pairs-none : {m : Moment} → m ≡ l.probe → m ≡ Unset → with_probe l Unset ≡ pair_of l now
   unfolding pair_of
   pairs-none e f = rw (← e, f)
 
   pub pairs : {m : Moment} {t t₁ n : ℤ} {g count : ℕ}
-      → m ≡ l.probe → m ≡ At t → g ≡ sinceTime n t₁ → n ≡ now → t₁ ≡ t → count ≡ countAfter l.count
-      → ◌≡◌ {A = Links} (record { gaps = set l.gaps l.at g; at = nextPlace l.at; count = count; probe = Unset }) (pair_of l now)
+      → m ≡ l.probe → m ≡ At t → g ≡ since_time n t₁ → n ≡ now → t₁ ≡ t → count ≡ count_after l.count
+      → ◌≡◌ {A = Links} (record { gaps = set l.gaps l.at g; at = next_place l.at; count = count; probe = Unset }) (pair_of l now)
   unfolding pair_of
   pairs e f g p q c = rw (← e, f, g, p, q, c)
 
   module _ (number : ℕ) where
-    pub probes : {n : ℤ} → number % 16 ≡ 0 → n ≡ now → withProbe l (At n) ≡ link_of l now number
+    pub probes : {n : ℤ} → number % 16 ≡ 0 → n ≡ now → with_probe l (At n) ≡ link_of l now number
     unfolding link_of
     probes h p = rw (eq-eqb _ _ h, p)
 
@@ -75,28 +75,28 @@ module _ (l : Links) (now : ℤ) where
 
 -- take_in, and the loop of keep: its start, a turn with its bounds, its end
 module _ (ai i size : ℕ) (k : Kept) {b : Bool} (e : b ≡ keeps ai i) where
-  pub takes : b ≡ true → ◌≡◌ {A = Kept} (record { count = k.count + 1; sum = k.sum + i; bytes = k.bytes + size }) (takeIn ai i size k)
-  unfolding takeIn
+  pub takes : b ≡ true → ◌≡◌ {A = Kept} (record { count = k.count + 1; sum = k.sum + i; bytes = k.bytes + size }) (take_in ai i size k)
+  unfolding take_in
   takes t = rw (← e, t)
 
-  pub leaves : b ≡ false → k ≡ takeIn ai i size k
-  unfolding takeIn
+  pub leaves : b ≡ false → k ≡ take_in ai i size k
+  unfolding take_in
   leaves t = rw (← e, t)
 
-pub keep-start : (gaps sizes : List ℕ) (ai : ℕ) → ◌≡◌ {A = Kept} (record { count = 0; sum = 0; bytes = 0 }) (keptOf gaps sizes ai 0)
-unfolding keptOf
+pub keep-start : (gaps sizes : List ℕ) (ai : ℕ) → ◌≡◌ {A = Kept} (record { count = 0; sum = 0; bytes = 0 }) (kept_of gaps sizes ai 0)
+unfolding kept_of
 keep-start gaps sizes ai = refl
 
-pub keep-again : (gaps sizes : List ℕ) (ai n : ℕ) {k r : Kept} → k ≡ keptOf gaps sizes ai n → r ≡ takeIn ai (get_or gaps n 0) (get_or sizes n 0) k → r ≡ keptOf gaps sizes ai (n + 1)
-unfolding keptOf
+pub keep-again : (gaps sizes : List ℕ) (ai n : ℕ) {k r : Kept} → k ≡ kept_of gaps sizes ai n → r ≡ take_in ai (get_or gaps n 0) (get_or sizes n 0) k → r ≡ kept_of gaps sizes ai (n + 1)
+unfolding kept_of
 keep-again gaps sizes ai n e f = rw (add-one n, ← e) f
 
-pub keep-done : (gaps sizes : List ℕ) (ai n : ℕ) {k : Kept} → k ≡ keptOf gaps sizes ai n → n ≤ 16 → 16 ≤ n → k ≡ keptOf gaps sizes ai 16
+pub keep-done : (gaps sizes : List ℕ) (ai n : ℕ) {k : Kept} → k ≡ kept_of gaps sizes ai n → n ≤ 16 → 16 ≤ n → k ≡ kept_of gaps sizes ai 16
 keep-done gaps sizes ai n e h l = let z : n ≡ 16 = omega arith in rw z at e
 
-module _ (ai i size n : ℕ) (k r : Kept) (e : r ≡ takeIn ai i size k) where
+module _ (ai i size n : ℕ) (k r : Kept) (e : r ≡ take_in ai i size k) where
   taken : (P : Kept → Type 0) → P (record { count = k.count + 1; sum = k.sum + i; bytes = k.bytes + size }) → P k → P r
-  unfolding takeIn
+  unfolding take_in
   taken P x y = rw e (by-test P (keeps ai i) _ _ (λ t. x) (λ t. y))
 
   pub take_count : k.count ≤ n → r.count ≤ n + 1
@@ -114,52 +114,52 @@ rate-fits n sum h k =
     let d : n * 1000000 / sum ≤ 1456000000 = div-le_of_le-mul sum (omega arith) in
     record { fits = omega arith }
 
-pub rate-is : (n sum : ℕ) → n * 1000000 / sum ≡ rateOf n sum
-unfolding rateOf
+pub rate-is : (n sum : ℕ) → n * 1000000 / sum ≡ rate_of n sum
+unfolding rate_of
 rate-is n sum = refl
 
-pub link-none : (m : ℕ) → m ≡ 0 → 4294967295 ≡ linkRate m
-unfolding linkRate
+pub link-none : (m : ℕ) → m ≡ 0 → 4294967295 ≡ link_rate m
+unfolding link_rate
 link-none m e = rw (eq-eqb _ _ e)
 
-pub link-some : (m : ℕ) → (m ≡ 0 → ⊥) → 1000000 / m ≡ linkRate m
-unfolding linkRate
+pub link-some : (m : ℕ) → (m ≡ 0 → ⊥) → 1000000 / m ≡ link_rate m
+unfolding link_rate
 link-some m e = rw (ne_eqb _ _ e)
 
 -- the loop of every: its start, a turn, its end
-pub every-start : (b : ℕ) (l : List ℕ) → true ≡ firstUnder b l 0
-unfolding firstUnder
+pub every-start : (b : ℕ) (l : List ℕ) → true ≡ first_under b l 0
+unfolding first_under
 every-start b l = refl
 
-pub every-again : (b : ℕ) (l : List ℕ) (n : ℕ) {ok : Bool} → ok ≡ firstUnder b l n → (ltb (get_or l n 0) b && ok) ≡ firstUnder b l (n + 1)
-unfolding firstUnder
+pub every-again : (b : ℕ) (l : List ℕ) (n : ℕ) {ok : Bool} → ok ≡ first_under b l n → (ltb (get_or l n 0) b && ok) ≡ first_under b l (n + 1)
+unfolding first_under
 every-again b l n e = rw (add-one n, e)
 
-pub every-done : (b : ℕ) (l : List ℕ) (n : ℕ) {ok : Bool} → ok ≡ firstUnder b l n → n ≤ 16 → 16 ≤ n → ok ≡ firstUnder b l 16
+pub every-done : (b : ℕ) (l : List ℕ) (n : ℕ) {ok : Bool} → ok ≡ first_under b l n → n ≤ 16 → 16 ≤ n → ok ≡ first_under b l 16
 every-done b l n e h k = let z : n ≡ 16 = omega arith in rw z at e
 
 -- all_under
-pub under_all : (b : ℕ) (l : List ℕ) (at count : ℕ) {ok : Bool} → ok ≡ firstUnder b l 16 → ok ≡ true → true ≡ allUnder b (windowOf l at count)
+pub under_all : (b : ℕ) (l : List ℕ) (at count : ℕ) {ok : Bool} → ok ≡ first_under b l 16 → ok ≡ true → true ≡ all_under b (window_of l at count)
 under_all b l at count e t = sym (under-sixteen b l at count (sym e ∙ t))
 
 -- the loop of window_under: its start, a turn, its end
-pub under-start : (b : ℕ) (l : List ℕ) (at : ℕ) → true ≡ allUnder b (windowOf l at 0)
-unfolding allUnder windowOf
+pub under-start : (b : ℕ) (l : List ℕ) (at : ℕ) → true ≡ all_under b (window_of l at 0)
+unfolding all_under window_of
 under-start b l at = refl
 
-pub under-again : (b : ℕ) (l : List ℕ) (at n : ℕ) {ok : Bool} → ok ≡ allUnder b (windowOf l at n) → (ltb (get_or l (placeBefore at (n + 1)) 0) b && ok) ≡ allUnder b (windowOf l at (n + 1))
-unfolding allUnder windowOf
+pub under-again : (b : ℕ) (l : List ℕ) (at n : ℕ) {ok : Bool} → ok ≡ all_under b (window_of l at n) → (ltb (get_or l (place_before at (n + 1)) 0) b && ok) ≡ all_under b (window_of l at (n + 1))
+unfolding all_under window_of
 under-again b l at n e = rw (add-one n, e)
 
-pub under-done : (b : ℕ) (l : List ℕ) (at n count : ℕ) {ok : Bool} → ok ≡ allUnder b (windowOf l at n) → n ≤ count → count ≤ n → ok ≡ allUnder b (windowOf l at count)
+pub under-done : (b : ℕ) (l : List ℕ) (at n count : ℕ) {ok : Bool} → ok ≡ all_under b (window_of l at n) → n ≤ count → count ≤ n → ok ≡ all_under b (window_of l at count)
 under-done b l at n count e h k = let z : n ≡ count = omega arith in rw z at e
 
 -- time_ok
-pub time-test : {m : Moment} {t t₁ : ℤ} {b : Bool} → m ≡ At t → b ≡ isReading t₁ → t₁ ≡ t → b ≡ timeOk m
+pub time-test : {m : Moment} {t t₁ : ℤ} {b : Bool} → m ≡ At t → b ≡ is_reading t₁ → t₁ ≡ t → b ≡ time_ok m
 time-test e f p = rw (e, ← p) f
 
 -- speed
-module _ (gaps sizes : List ℕ) (ai : ℕ) (k : Kept) (e : k ≡ keptOf gaps sizes ai 16) where
+module _ (gaps sizes : List ℕ) (ai : ℕ) (k : Kept) (e : k ≡ kept_of gaps sizes ai 16) where
   pub sum-some : 8 < k.count → 0 < k.sum
   sum-some h = let l : k.count ≤ k.sum = rw e (kept-sum gaps sizes ai 16) in omega arith
 
@@ -169,7 +169,7 @@ module _ (gaps sizes : List ℕ) (ai : ℕ) (k : Kept) (e : k ≡ keptOf gaps si
   pub count_small : k.count < 2 ^ 40
   count_small = let l : k.count ≤ 16 = rw e (kept-count gaps sizes ai 16) in omega arith
 
-module _ (a : Arrivals) (ai : ℕ) (k : Kept) (o : arrivalsOk a ≡ true) (h : 16 ≤ a.count) (e : k ≡ keptOf a.gaps a.sizes ai 16) where
+module _ (a : Arrivals) (ai : ℕ) (k : Kept) (o : arrivals_ok a ≡ true) (h : 16 ≤ a.count) (e : k ≡ kept_of a.gaps a.sizes ai 16) where
   sizes-under : (i : ℕ) → i < 16 → get_or a.sizes i 0 < 1457
   sizes-under i l =
       let r = arrival-ranges a o in
@@ -186,58 +186,58 @@ module _ (a : Arrivals) (ai : ℕ) (k : Kept) (o : arrivalsOk a ≡ true) (h : 1
   bytes_small = let l : k.count ≤ 16 = rw e (kept-count a.gaps a.sizes ai 16) in omega (arith, bytes_most)
 
 module _ (a : Arrivals) where
-  pub speed-few : a.count < 16 → noSpeed ≡ speedOf a
-  unfolding speedOf
+  pub speed-few : a.count < 16 → no_speed ≡ speed_of a
+  unfolding speed_of
   speed-few h = rw (lt-ltb _ _ h)
 
-  module _ {ai : ℕ} {k : Kept} (h : 16 ≤ a.count) (e : ai ≡ medianOf a.gaps 8) (f : k ≡ keptOf a.gaps a.sizes ai 16) where
-    pub speed-none : k.count ≤ 8 → noSpeed ≡ speedOf a
-    unfolding speedOf speedKept
+  module _ {ai : ℕ} {k : Kept} (h : 16 ≤ a.count) (e : ai ≡ median_of a.gaps 8) (f : k ≡ kept_of a.gaps a.sizes ai 16) where
+    pub speed-none : k.count ≤ 8 → no_speed ≡ speed_of a
+    unfolding speed_of speed_kept
     speed-none l = rw (le-ltb _ _ h, ← e, ← f, le-leb _ _ l)
 
-    pub speed-some : {packets bytes : ℕ} → 8 < k.count → packets ≡ rateOf k.count k.sum → bytes ≡ rateOf k.bytes k.sum → someSpeed packets bytes ≡ speedOf a
-    unfolding speedOf speedKept
+    pub speed-some : {packets bytes : ℕ} → 8 < k.count → packets ≡ rate_of k.count k.sum → bytes ≡ rate_of k.bytes k.sum → some_speed packets bytes ≡ speed_of a
+    unfolding speed_of speed_kept
     speed-some l p q = rw (le-ltb _ _ h, ← e, ← f, lt-leb _ _ l, p, q)
 
 -- capacity
 module _ (l : Links) where
-  pub capacity-few : l.count < 16 → Unknown ≡ capacityOf l
-  unfolding capacityOf
+  pub capacity-few : l.count < 16 → Unknown ≡ capacity_of l
+  unfolding capacity_of
   capacity-few h = rw (lt-ltb _ _ h)
 
-  pub capacity-some : {m r : ℕ} → 16 ≤ l.count → m ≡ medianOf l.gaps 7 → r ≡ linkRate m → PerSecond r ≡ capacityOf l
-  unfolding capacityOf
+  pub capacity-some : {m r : ℕ} → 16 ≤ l.count → m ≡ median_of l.gaps 7 → r ≡ link_rate m → PerSecond r ≡ capacity_of l
+  unfolding capacity_of
   capacity-some h e f = rw (le-ltb _ _ h, ← e, f)
 
 -- intervals_ok, and in_range
 module _ (gaps : List ℕ) (at count : ℕ) where
-  pub intervals-count : 16 < count → false ≡ intervalsOk gaps at count
+  pub intervals-count : 16 < count → false ≡ intervals_ok gaps at count
   intervals-count h = rw (lt-leb _ _ h)
 
-  pub intervals-place : count ≤ 16 → 16 ≤ at → false ≡ intervalsOk gaps at count
+  pub intervals-place : count ≤ 16 → 16 ≤ at → false ≡ intervals_ok gaps at count
   intervals-place h k = rw (le-leb _ _ h, le-ltb _ _ k)
 
-  pub intervals-test : {g : Bool} → count ≤ 16 → at < 16 → g ≡ allUnder (2 ^ 31) (windowOf gaps at count) → g ≡ intervalsOk gaps at count
+  pub intervals-test : {g : Bool} → count ≤ 16 → at < 16 → g ≡ all_under (2 ^ 31) (window_of gaps at count) → g ≡ intervals_ok gaps at count
   intervals-test h k e = rw (le-leb _ _ h, lt-ltb _ _ k) e
 
-  module _ {b : Bool} (e : b ≡ intervalsOk gaps at count) (t : b ≡ true) where
+  module _ {b : Bool} (e : b ≡ intervals_ok gaps at count) (t : b ≡ true) where
     pub intervals-place-by : at < 16
     intervals-place-by = (interval-ranges gaps at count (sym e ∙ t)).place
 
     pub intervals-count-by : count ≤ 16
     intervals-count-by = (interval-ranges gaps at count (sym e ∙ t)).holds
 
-module _ (a : Arrivals) {b : Bool} (e : b ≡ intervalsOk a.gaps a.at a.count) where
-  pub arrivals-out : b ≡ false → false ≡ arrivalsOk a
-  unfolding arrivalsOk
+module _ (a : Arrivals) {b : Bool} (e : b ≡ intervals_ok a.gaps a.at a.count) where
+  pub arrivals-out : b ≡ false → false ≡ arrivals_ok a
+  unfolding arrivals_ok
   arrivals-out t = rw (← e, t)
 
-  pub arrivals-test : {s t : Bool} → b ≡ true → s ≡ allUnder 1457 (arrivalSizes a) → t ≡ timeOk a.last → (s && t) ≡ arrivalsOk a
-  unfolding arrivalsOk
+  pub arrivals-test : {s t : Bool} → b ≡ true → s ≡ all_under 1457 (arrival_sizes a) → t ≡ time_ok a.last → (s && t) ≡ arrivals_ok a
+  unfolding arrivals_ok
   arrivals-test u f i = rw (← e, u, f, i)
 
-pub links-test : (l : Links) {g t : Bool} → g ≡ intervalsOk l.gaps l.at l.count → t ≡ timeOk l.probe → (g && t) ≡ linksOk l
-unfolding linksOk
+pub links-test : (l : Links) {g t : Bool} → g ≡ intervals_ok l.gaps l.at l.count → t ≡ time_ok l.probe → (g && t) ≡ links_ok l
+unfolding links_ok
 links-test l e f = rw (e, f)
 
 pub ruleset rateSteps = (

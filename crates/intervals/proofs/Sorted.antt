@@ -8,7 +8,7 @@ use borrow.Author.Tests.{ltb-true, leb-true, leb-false, lt-ltb, le-ltb, le-leb}
 use lib.Dec.{ltb, leb}
 use lib.ListN.{length, get_or}
 use Rattle.numbers.proofs.Flags.{impossible, and_left, and_right, by_bool, by-test, by-order}
-use Rattle.intervals.specs.Median.{insert, sort, medianOf}
+use Rattle.intervals.specs.Median.{insert, sort, median_of}
 use Rattle.intervals.specs.Inner.{below, has_index, pick}
 
 -- every element is x or more; each element is at most those after it
@@ -100,8 +100,8 @@ module _ (l : List ℕ) (k : ℕ) (h : k < length l) where
   within : k < length (sort l)
   within = rw (length-sort l) h
 
-  pub index_is : (v : ℕ) → has_index l k v ≡ true → v ≡ medianOf l k
-  unfolding medianOf
+  pub index_is : (v : ℕ) → has_index l k v ≡ true → v ≡ median_of l k
+  unfolding median_of
   index_is v e =
       let p = leb-true (below l v) k (and_left (leb (below l v) k) _ e) in
       let q = ltb-true k (below l (v + 1)) (and_right (leb (below l v) k) _ e) in
@@ -112,8 +112,8 @@ module _ (l : List ℕ) (k : ℕ) (h : k < length l) where
       (λ u. omega arith)
       (λ u. absurd (omega (arith, at_least (sort l) k (v + 1) (sorted_sort l) within u, below-sort l (v + 1)))))
 
-  pub median-has : has_index l k (medianOf l k) ≡ true
-  unfolding medianOf
+  pub median-has : has_index l k (median_of l k) ≡ true
+  unfolding median_of
   median-has =
       let v = get_or (sort l) k 0 in
       let p : below l v ≤ k = rw (below-sort l v) at (at_least (sort l) k v (sorted_sort l) within (omega arith)) in
@@ -156,10 +156,10 @@ pick-has l k j (suc n) i a b e =
     (λ u. pick-has l k j n (i + 1) (omega arith) (omega arith) e)
     (λ u. let q : j ≡ i = omega arith in impossible (sym (rw q at e) ∙ t)))
 
-pub picked : (l : List ℕ) (k n : ℕ) → k < length l → length l ≡ n + 1 → medianOf l k ≡ pick l k 0 n
+pub picked : (l : List ℕ) (k n : ℕ) → k < length l → length l ≡ n + 1 → median_of l k ≡ pick l k 0 n
 picked l k n h e =
     let m = median-has l k h in
-    let p = leb-true (below l (medianOf l k)) k (and_left (leb (below l (medianOf l k)) k) _ m) in
-    let q = ltb-true k (below l (medianOf l k + 1)) (and_right (leb (below l (medianOf l k)) k) _ m) in
-    let s = stands l (medianOf l k) (omega arith) in
+    let p = leb-true (below l (median_of l k)) k (and_left (leb (below l (median_of l k)) k) _ m) in
+    let q = ltb-true k (below l (median_of l k + 1)) (and_right (leb (below l (median_of l k)) k) _ m) in
+    let s = stands l (median_of l k) (omega arith) in
     sym (index_is l k h (pick l k 0 n) (pick-has l k s.place n 0 (omega arith) (omega (arith, s.inside)) (rw s.is m)))

@@ -9,9 +9,9 @@ use lib.ListN.{length, get_or, take, drop, length-append, length-drop, take-appe
 use lib.Seq.{drop-cons, get_or-take, get_or-drop, get_or-append-add, length-take-le}
 use Rattle.numbers.specs.Ring.{place_in}
 use Rattle.numbers.proofs.Flags.{by_bool, by-order}
-use Rattle.intervals.specs.Median.{medianOf}
+use Rattle.intervals.specs.Median.{median_of}
 use Rattle.intervals.specs.Inner.{below}
-use Rattle.intervals.specs.Rates.{placeBefore, windowOf, arrivalGaps, arrivalSizes, linkGaps, keeps, takeIn, keptOf, speedKept, speedOf, linkRate, capacityOf}
+use Rattle.intervals.specs.Rates.{place_before, window_of, arrival_gaps, arrival_sizes, link_gaps, keeps, take_in, kept_of, speed_kept, speed_of, link_rate, capacity_of}
 use Rattle.intervals.specs.declared.rates.Arrivals.{Arrivals}
 use Rattle.intervals.specs.declared.rates.Links.{Links}
 use Rattle.intervals.specs.declared.rates.Kept.{Kept}
@@ -21,42 +21,42 @@ use Rattle.intervals.proofs.MedianSteps.{below-append}
 
 -- a whole window is the ring, cut at the next place to be written
 module _ (l : List ℕ) (at : ℕ) (e : length l ≡ 16) (h : at < 16) where
-  before_at : (n : ℕ) → n ≤ at → windowOf l at n ≡ take n (drop (at - n) l)
-  unfolding windowOf
+  before_at : (n : ℕ) → n ≤ at → window_of l at n ≡ take n (drop (at - n) l)
+  unfolding window_of
   before_at zero k = refl
   before_at (suc n) k =
-      let p : placeBefore at (suc n) ≡ at - suc n = omega arith in
+      let p : place_before at (suc n) ≡ at - suc n = omega arith in
       let q : suc (at - suc n) ≡ at - n = omega arith in
       rw (p, before_at n (omega arith), drop-cons l (at - suc n) 0 (omega arith), q)
 
-  one-before : (n : ℕ) → windowOf l at (suc n) ≡ get_or l (placeBefore at (suc n)) 0 ∷ windowOf l at n
-  unfolding windowOf
+  one-before : (n : ℕ) → window_of l at (suc n) ≡ get_or l (place_before at (suc n)) 0 ∷ window_of l at n
+  unfolding window_of
   one-before n = refl
 
-  past-at : (n : ℕ) → at + n ≤ 16 → windowOf l at (at + n) ≡ drop (16 - n) l ++ take at l
+  past-at : (n : ℕ) → at + n ≤ 16 → window_of l at (at + n) ≡ drop (16 - n) l ++ take at l
   past-at zero k =
       let p : at + 0 ≡ at = omega arith in
       let q : at - at ≡ 0 = omega arith in
       rw (p, before_at at (omega arith), q, drop_of_length-le l {i = 16} (omega arith))
   past-at (suc n) k =
       let p : at + suc n ≡ suc (at + n) = omega arith in
-      let q : placeBefore at (suc (at + n)) ≡ 16 - suc n = omega arith in
+      let q : place_before at (suc (at + n)) ≡ 16 - suc n = omega arith in
       let r : suc (16 - suc n) ≡ 16 - n = omega arith in
       let s : drop (16 - suc n) l ≡ get_or l (16 - suc n) 0 ∷ drop (suc (16 - suc n)) l = drop-cons l (16 - suc n) 0 (omega arith) in
-      ap (windowOf l at) p
+      ap (window_of l at) p
       ∙ one-before (at + n)
-      ∙ ap (λ (i : ℕ). get_or l i 0 ∷ windowOf l at (at + n)) q
+      ∙ ap (λ (i : ℕ). get_or l i 0 ∷ window_of l at (at + n)) q
       ∙ ap (λ (m : List ℕ). get_or l (16 - suc n) 0 ∷ m) (past-at n (omega arith))
       ∙ ap (λ (i : ℕ). get_or l (16 - suc n) 0 ∷ (drop i l ++ take at l)) (sym r)
       ∙ ap (λ (m : List ℕ). m ++ take at l) (sym s)
 
-  pub turned : windowOf l at 16 ≡ drop at l ++ take at l
+  pub turned : window_of l at 16 ≡ drop at l ++ take at l
   turned =
       let p : 16 ≡ at + (16 - at) = omega arith in
       let q : 16 - (16 - at) ≡ at = omega arith in
       rw p (rw q at (past-at (16 - at) (omega arith)))
 
-  pub turned-at : (i : ℕ) → i < 16 → get_or (windowOf l at 16) i 0 ≡ get_or l (place_in 16 at i) 0
+  pub turned-at : (i : ℕ) → i < 16 → get_or (window_of l at 16) i 0 ≡ get_or l (place_in 16 at i) 0
   turned-at i k =
       let d : length (drop at l) ≡ 16 - at = rw (length-drop at l, e) in
       rw turned
@@ -71,20 +71,20 @@ module _ (l : List ℕ) (at : ℕ) (e : length l ≡ 16) (h : at < 16) where
       ∙ get_or-append-add (drop at l) (take at l) (i - (16 - at)) 0
       ∙ rw (get_or-take at l (i - (16 - at)) 0 (omega arith), p)))
 
-  turned-below : (b : ℕ) → below (windowOf l at 16) b ≡ below l b
+  turned-below : (b : ℕ) → below (window_of l at 16) b ≡ below l b
   turned-below b =
       rw (turned, below-append (drop at l) (take at l) b)
       (let s : below (take at l ++ drop at l) b ≡ below l b = rw (take-append-drop at l) in
       let t = below-append (take at l) (drop at l) b in
       omega arith)
 
-  turned-length : length (windowOf l at 16) ≡ 16
+  turned-length : length (window_of l at 16) ≡ 16
   turned-length = rw (turned, length-append (drop at l) (take at l), length-drop at l, length-take-le at l (omega arith)) (omega arith)
 
-  pub turned-median : (k : ℕ) → k < 16 → medianOf l k ≡ medianOf (windowOf l at 16) k
+  pub turned-median : (k : ℕ) → k < 16 → median_of l k ≡ median_of (window_of l at 16) k
   turned-median k u =
-      let v = medianOf l k in
-      index_is (windowOf l at 16) k (rw turned-length u) v
+      let v = median_of l k in
+      index_is (window_of l at 16) k (rw turned-length u) v
       (rw (turned-below v, turned-below (v + 1)) (median-has l k (omega arith)))
 
 -- the sums of what is kept, as sums over places
@@ -124,8 +124,8 @@ same_kept : {a b c x y z : ℕ} → a ≡ x → b ≡ y → c ≡ z → ◌≡�
 same_kept p q r = rw (p, q, r)
 
 kept-sums : (gaps sizes : List ℕ) (ai n : ℕ)
-    → keptOf gaps sizes ai n ≡ record { count = sum_to (adds gaps ai (λ (i : ℕ). 1)) n; sum = sum_to (adds gaps ai (λ (i : ℕ). get_or gaps i 0)) n; bytes = sum_to (adds gaps ai (λ (i : ℕ). get_or sizes i 0)) n }
-unfolding keptOf takeIn sum_to
+    → kept_of gaps sizes ai n ≡ record { count = sum_to (adds gaps ai (λ (i : ℕ). 1)) n; sum = sum_to (adds gaps ai (λ (i : ℕ). get_or gaps i 0)) n; bytes = sum_to (adds gaps ai (λ (i : ℕ). get_or sizes i 0)) n }
+unfolding kept_of take_in sum_to
 kept-sums gaps sizes ai zero = refl
 kept-sums gaps sizes ai (suc n) =
     rw (kept-sums gaps sizes ai n)
@@ -134,34 +134,34 @@ kept-sums gaps sizes ai (suc n) =
 -- so what is kept of a whole window is what is kept of its places
 module _ (a : Arrivals) (full : a.count ≡ 16) (h : a.at < 16) (e : length a.gaps ≡ 16) (f : length a.sizes ≡ 16) where
   module _ (ai : ℕ) where
-    adds-turned : (v w : ℕ → ℕ) → ((i : ℕ) → i < 16 → v i ≡ w (place_in 16 a.at i)) → sum_to (adds (arrivalGaps a) ai v) 16 ≡ sum_to (adds a.gaps ai w) 16
+    adds-turned : (v w : ℕ → ℕ) → ((i : ℕ) → i < 16 → v i ≡ w (place_in 16 a.at i)) → sum_to (adds (arrival_gaps a) ai v) 16 ≡ sum_to (adds a.gaps ai w) 16
     adds-turned v w s =
-        sum_same (adds (arrivalGaps a) ai v) (λ (i : ℕ). adds a.gaps ai w (place_in 16 a.at i)) 16
+        sum_same (adds (arrival_gaps a) ai v) (λ (i : ℕ). adds a.gaps ai w (place_in 16 a.at i)) 16
         (λ i k.
-        let p : get_or (arrivalGaps a) i 0 ≡ get_or a.gaps (place_in 16 a.at i) 0 = rw full (turned-at a.gaps a.at e h i k) in
+        let p : get_or (arrival_gaps a) i 0 ≡ get_or a.gaps (place_in 16 a.at i) 0 = rw full (turned-at a.gaps a.at e h i k) in
         rw (p, s i k))
         ∙ sum-turned (adds a.gaps ai w) a.at h
 
-    kept-turned : keptOf (arrivalGaps a) (arrivalSizes a) ai 16 ≡ keptOf a.gaps a.sizes ai 16
+    kept-turned : kept_of (arrival_gaps a) (arrival_sizes a) ai 16 ≡ kept_of a.gaps a.sizes ai 16
     kept-turned =
-        kept-sums (arrivalGaps a) (arrivalSizes a) ai 16
+        kept-sums (arrival_gaps a) (arrival_sizes a) ai 16
         ∙ same_kept (adds-turned (λ (i : ℕ). 1) (λ (i : ℕ). 1) (λ i k. refl))
-        (adds-turned (λ (i : ℕ). get_or (arrivalGaps a) i 0) (λ (i : ℕ). get_or a.gaps i 0) (λ i k. rw full (turned-at a.gaps a.at e h i k)))
-        (adds-turned (λ (i : ℕ). get_or (arrivalSizes a) i 0) (λ (i : ℕ). get_or a.sizes i 0) (λ i k. rw full (turned-at a.sizes a.at f h i k)))
+        (adds-turned (λ (i : ℕ). get_or (arrival_gaps a) i 0) (λ (i : ℕ). get_or a.gaps i 0) (λ i k. rw full (turned-at a.gaps a.at e h i k)))
+        (adds-turned (λ (i : ℕ). get_or (arrival_sizes a) i 0) (λ (i : ℕ). get_or a.sizes i 0) (λ i k. rw full (turned-at a.sizes a.at f h i k)))
         ∙ sym (kept-sums a.gaps a.sizes ai 16)
 
   -- the speed is that of the newest 16, oldest first
-  pub speed-window : speedOf a ≡ speedKept (keptOf (arrivalGaps a) (arrivalSizes a) (medianOf (arrivalGaps a) 8) 16)
-  unfolding speedOf
+  pub speed-window : speed_of a ≡ speed_kept (kept_of (arrival_gaps a) (arrival_sizes a) (median_of (arrival_gaps a) 8) 16)
+  unfolding speed_of
   speed-window =
       let l : 16 ≤ a.count = omega arith in
-      let m : medianOf (arrivalGaps a) 8 ≡ medianOf a.gaps 8 = rw full (sym (turned-median a.gaps a.at e h 8 (omega arith))) in
-      rw (le-ltb _ _ l, m, kept-turned (medianOf a.gaps 8))
+      let m : median_of (arrival_gaps a) 8 ≡ median_of a.gaps 8 = rw full (sym (turned-median a.gaps a.at e h 8 (omega arith))) in
+      rw (le-ltb _ _ l, m, kept-turned (median_of a.gaps 8))
 
 -- and so is the capacity
-pub capacity-window : (l : Links) → l.count ≡ 16 → l.at < 16 → length l.gaps ≡ 16 → capacityOf l ≡ PerSecond (linkRate (medianOf (linkGaps l) 7))
-unfolding capacityOf
+pub capacity-window : (l : Links) → l.count ≡ 16 → l.at < 16 → length l.gaps ≡ 16 → capacity_of l ≡ PerSecond (link_rate (median_of (link_gaps l) 7))
+unfolding capacity_of
 capacity-window l full h e =
     let k : 16 ≤ l.count = omega arith in
-    let m : medianOf (linkGaps l) 7 ≡ medianOf l.gaps 7 = rw full (sym (turned-median l.gaps l.at e h 7 (omega arith))) in
+    let m : median_of (link_gaps l) 7 ≡ median_of l.gaps 7 = rw full (sym (turned-median l.gaps l.at e h 7 (omega arith))) in
     rw (le-ltb _ _ k, m)

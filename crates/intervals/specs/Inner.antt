@@ -15,7 +15,7 @@ unfoldable pub pick : List ℕ → ℕ → ℕ → ℕ → ℕ
 pick l k i zero = get_or l i 0
 pick l k i (suc n) = cond (has_index l k (get_or l i 0)) (get_or l i 0) (pick l k (i + 1) n)
 
--- each of the first n places under a bound, in the window or not: a quick test that suffices for allUnder
-unfoldable pub firstUnder : ℕ → List ℕ → ℕ → Bool
-firstUnder b l zero = true
-firstUnder b l (suc n) = ltb (get_or l n 0) b && firstUnder b l n
+-- each of the first n places under a bound, in the window or not: a quick test that suffices for all_under
+unfoldable pub first_under : ℕ → List ℕ → ℕ → Bool
+first_under b l zero = true
+first_under b l (suc n) = ltb (get_or l n 0) b && first_under b l n

@@ -10,5 +10,5 @@ sort [] = []
 sort (x ∷ l) = insert x (sort l)
 
 -- median index k
-unfoldable pub medianOf : List ℕ → ℕ → ℕ
-medianOf l k = get_or (sort l) k 0
+unfoldable pub median_of : List ℕ → ℕ → ℕ
+median_of l k = get_or (sort l) k 0

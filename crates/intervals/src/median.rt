@@ -1,6 +1,6 @@
 // The median of a window of 16 intervals: 01, "ACKs, RTT, rates". By counting, so that nothing is moved.
 ghost use Rattle.std.specs.Prelude.{◌≡◌, cond, ◌<◌};
-ghost use Rattle.intervals.specs.Median.{medianOf};
+ghost use Rattle.intervals.specs.Median.{median_of};
 ghost use Rattle.intervals.specs.Inner.{below, has_index};
 
 fn one_if(b: bool) -> usize
@@ -34,7 +34,7 @@ fn has_index(values: [u32; 16], k: usize, v: u32) -> bool
 // The value at index k of the sorted values. One of them has it, so the last needs no test.
 pub fn median(values: [u32; 16], k: usize) -> u32
     requires { k < 16 }
-    ensures { result ≡ medianOf values k }
+    ensures { result ≡ median_of values k }
 {
     let mut i = 0;
     while i < 15 {

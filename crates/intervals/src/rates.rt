@@ -1,7 +1,7 @@
 // The two windows of intervals and their rates, arq.rs: 01, "ACKs, RTT, rates". The caller records appends without gap.
 ghost use Rattle.std.specs.Prelude.{◌≡◌, true, ◌*◌, ◌<◌, ◌≤◌, ◌^◌};
-ghost use Rattle.intervals.specs.Rates.{countAfter, windowOf, freshArrivals, freshLinks, arrivalOf, keeps, takeIn, keptOf, rateOf, speedOf, pair_of, link_of, linkRate, capacityOf, allUnder, timeOk, intervalsOk, arrivalsOk, linksOk};
-ghost use Rattle.intervals.specs.Inner.{firstUnder};
+ghost use Rattle.intervals.specs.Rates.{count_after, window_of, fresh_arrivals, fresh_links, arrival_of, keeps, take_in, kept_of, rate_of, speed_of, pair_of, link_of, link_rate, capacity_of, all_under, time_ok, intervals_ok, arrivals_ok, links_ok};
+ghost use Rattle.intervals.specs.Inner.{first_under};
 
 use numbers::instant::{Moment, since};
 
@@ -48,7 +48,7 @@ pub struct Speed {
 
 pub fn one_more(count: usize) -> usize
     requires { count ≤ 16 }
-    ensures { result ≡ countAfter count }
+    ensures { result ≡ count_after count }
 {
     if count < 16 { count + 1 } else { 16 }
 }
@@ -62,7 +62,7 @@ fn keeps(ai: u32, i: u32) -> bool
 // One interval more of a window, with its size.
 fn take_in(k: Kept, ai: u32, i: u32, size: u32) -> Kept
     requires { (k.count < 2 ^ 40) × (k.sum < 2 ^ 40) × (k.bytes < 2 ^ 40) }
-    ensures { result ≡ takeIn ai i size k }
+    ensures { result ≡ take_in ai i size k }
 {
     if keeps(ai, i) {
         return Kept {
@@ -76,7 +76,7 @@ fn take_in(k: Kept, ai: u32, i: u32, size: u32) -> Kept
 
 // What a whole window keeps.
 fn keep(gaps: [u32; 16], sizes: [u32; 16], ai: u32) -> Kept
-    ensures { result ≡ keptOf gaps sizes ai 16 }
+    ensures { result ≡ kept_of gaps sizes ai 16 }
 {
     let mut k = Kept {
         count: 0,
@@ -94,13 +94,13 @@ fn keep(gaps: [u32; 16], sizes: [u32; 16], ai: u32) -> Kept
 // n in `sum` µs, as so many a second. No packet is larger than 1,456 bytes, and none comes in less than 1 µs.
 fn rate_of(n: u64, sum: u64) -> u32
     requires { (0 < sum) × (n ≤ 1456 * sum) × (n < 2 ^ 40) }
-    ensures { result ≡ rateOf n sum }
+    ensures { result ≡ rate_of n sum }
 {
     (n * 1_000_000 / sum) as u32
 }
 
 fn link_rate(median: u32) -> u32
-    ensures { result ≡ linkRate median }
+    ensures { result ≡ link_rate median }
 {
     if median == 0 {
         return 0xffff_ffff;
@@ -110,7 +110,7 @@ fn link_rate(median: u32) -> u32
 
 // Whether all sixteen values are under a bound. No place is reckoned, so that a few vector instructions do it.
 fn every(values: &[u32; 16], bound: u32) -> bool
-    ensures { result ≡ firstUnder bound values.now 16 }
+    ensures { result ≡ first_under bound values.now 16 }
 {
     let mut ok = true;
     let mut i = 0;
@@ -124,7 +124,7 @@ fn every(values: &[u32; 16], bound: u32) -> bool
 // Whether every value of a window is under a bound, place by place.
 fn window_under(values: &[u32; 16], at: usize, count: usize, bound: u32) -> bool
     requires { (at < 16) × (count ≤ 16) }
-    ensures { result ≡ allUnder bound (windowOf values.now at count) }
+    ensures { result ≡ all_under bound (window_of values.now at count) }
 {
     let mut ok = true;
     let mut n = 0;
@@ -138,7 +138,7 @@ fn window_under(values: &[u32; 16], at: usize, count: usize, bound: u32) -> bool
 // Whether every interval, or size, of a window is under a bound. Most often all sixteen are; if not, the window is asked alone.
 fn all_under(values: [u32; 16], at: usize, count: usize, bound: u32) -> bool
     requires { (at < 16) × (count ≤ 16) }
-    ensures { result ≡ allUnder bound (windowOf values at count) }
+    ensures { result ≡ all_under bound (window_of values at count) }
 {
     if every(&values, bound) {
         return true;
@@ -148,7 +148,7 @@ fn all_under(values: [u32; 16], at: usize, count: usize, bound: u32) -> bool
 
 // Whether the intervals of a window are in range: at most 16, and their place one of the sixteen.
 fn intervals_ok(gaps: [u32; 16], at: usize, count: usize) -> bool
-    ensures { result ≡ intervalsOk gaps at count }
+    ensures { result ≡ intervals_ok gaps at count }
 {
     if 16 < count {
         return false;
@@ -160,7 +160,7 @@ fn intervals_ok(gaps: [u32; 16], at: usize, count: usize) -> bool
 }
 
 pub fn time_ok(time: Moment) -> bool
-    ensures { result ≡ timeOk time }
+    ensures { result ≡ time_ok time }
 {
     let Moment::At(t) = time else {
         return true;
@@ -170,7 +170,7 @@ pub fn time_ok(time: Moment) -> bool
 
 impl Arrivals {
     pub fn new() -> Self
-        ensures { result ≡ freshArrivals }
+        ensures { result ≡ fresh_arrivals }
     {
         Arrivals {
             gaps: [0; 16],
@@ -184,7 +184,7 @@ impl Arrivals {
     // An arrival: the interval since the last one enters, if there was one.
     pub fn record(self, now: i64, size: u32) -> Self
         requires { (self.at < 16) × (self.count ≤ 16) }
-        ensures { result ≡ arrivalOf self now size }
+        ensures { result ≡ arrival_of self now size }
     {
         let last = self.last;
         let mut gaps = self.gaps;
@@ -212,8 +212,8 @@ impl Arrivals {
 
     // Packets and bytes a second, by the intervals that are near the median.
     pub fn speed(self) -> Speed
-        requires { arrivalsOk self ≡ true }
-        ensures { result ≡ speedOf self }
+        requires { arrivals_ok self ≡ true }
+        ensures { result ≡ speed_of self }
     {
         if self.count < 16 {
             return Speed {
@@ -240,7 +240,7 @@ impl Arrivals {
     }
 
     pub fn in_range(self) -> bool
-        ensures { result ≡ arrivalsOk self }
+        ensures { result ≡ arrivals_ok self }
     {
         let at = self.at;
         let count = self.count;
@@ -257,7 +257,7 @@ impl Arrivals {
 
 impl Links {
     pub fn new() -> Self
-        ensures { result ≡ freshLinks }
+        ensures { result ≡ fresh_links }
     {
         Links {
             gaps: [0; 16],
@@ -315,7 +315,7 @@ impl Links {
 
     // Packets a second, by the median interval of the pairs.
     pub fn capacity(self) -> Rate
-        ensures { result ≡ capacityOf self }
+        ensures { result ≡ capacity_of self }
     {
         if self.count < 16 {
             return Rate::Unknown;
@@ -326,7 +326,7 @@ impl Links {
     }
 
     pub fn in_range(self) -> bool
-        ensures { result ≡ linksOk self }
+        ensures { result ≡ links_ok self }
     {
         let at = self.at;
         let count = self.count;

@@ -1,13 +1,13 @@
 -- Every head that calls reach from new is in range, whatever the arguments and the lent contents: no run from new is ever refused 1. Assumes nothing.
 use mathlib.Core.Path.{◌≡◌}
 use mathlib.Core.Bool.{true}
-use Rattle.head.specs.Head.{headOk}
+use Rattle.head.specs.Head.{head_ok}
 use Rattle.head.specs.declared.state.Head.{Head}
 use Rattle.kept.specs.Runs.{Reached, made, pushed, popped, reported, acked, ack2ed, clocked, cleared}
 use Rattle.kept.proofs.DataKept.{made_kept, data-kept, loss-kept, cleared-kept}
 use Rattle.kept.proofs.TimedKept.{ack2-kept, full-ack-kept, clock-kept, message-kept}
 
-pub reached-kept : (h : Head) → Reached h → headOk h ≡ true
+pub reached-kept : (h : Head) → Reached h → head_ok h ≡ true
 reached-kept _ (made start latency dropping first capacity e) = made_kept start latency dropping first capacity e
 reached-kept _ (pushed h ws bs now p payload r) = data-kept h ws bs now p payload (reached-kept h r)
 reached-kept _ (popped h ws bs out now r) = message-kept h ws bs out now (reached-kept h r)

@@ -9,9 +9,9 @@ use Rattle.numbers.specs.Order.{order}
 use Rattle.numbers.specs.declared.seq.Order.{Order}
 use Rattle.numbers.specs.declared.seq.Order.TheVariants.{Before, Equal, After}
 use Rattle.numbers.proofs.Flags.{by-test}
-use Rattle.slots.specs.Words.{isLost}
-use Rattle.window.specs.Window.{entryIn, next_of, roomOf}
-use Rattle.window.specs.Push.{PushOutcome, appendNextOf, appendWithLossOf, recoveredOf, recoverOf, by_order, pushOf}
+use Rattle.slots.specs.Words.{is_lost}
+use Rattle.window.specs.Window.{entry_in, next_of, room_of}
+use Rattle.window.specs.Push.{PushOutcome, append_next_of, append_with_loss_of, recovered_of, recover_of, by_order, push_of}
 use Rattle.window.specs.declared.Window.{Window}
 use Rattle.window.specs.declared.push.Packet.{Packet}
 use Rattle.window.specs.declared.push.PushAnswer.{PushAnswer}
@@ -30,23 +30,23 @@ module _ (w : Window) (ws bs : List ℕ) (time : ℤ) (p : Packet) (payload : Li
   abbrev Said : PushOutcome → Type 0
   Said o = Says o.pushed.window.lrsn o.pushed.answer
 
-  next-says : Said (appendNextOf w ws bs time p payload)
-  unfolding appendNextOf
+  next-says : Said (append_next_of w ws bs time p payload)
+  unfolding append_next_of
   next-says = by-test Said (eqb w.held w.capacity) _ _ (λ t. tt) (λ t. refl)
 
-  loss-says : (gap : ℕ) → Said (appendWithLossOf w ws bs time p payload gap)
-  unfolding appendWithLossOf
-  loss-says gap = by-test Said (ltb (roomOf w) (gap + 1)) _ _ (λ t. tt) (λ t. tt)
+  loss-says : (gap : ℕ) → Said (append_with_loss_of w ws bs time p payload gap)
+  unfolding append_with_loss_of
+  loss-says gap = by-test Said (ltb (room_of w) (gap + 1)) _ _ (λ t. tt) (λ t. tt)
 
-  recover-says : Said (recoverOf w ws bs time p payload)
-  unfolding recoverOf recoveredOf
+  recover-says : Said (recover_of w ws bs time p payload)
+  unfolding recover_of recovered_of
   recover-says =
       by-test Said (before 31 p.number w.seqno0) _ _
       (λ t. tt)
-      (λ t. by-test Said (isLost (entryIn w ws (distance 31 p.number w.seqno0))) _ _ (λ u. refl) (λ u. tt))
+      (λ t. by-test Said (is_lost (entry_in w ws (distance 31 p.number w.seqno0))) _ _ (λ u. refl) (λ u. tt))
 
-  pub push-says : Said (pushOf w ws bs time p payload)
-  unfolding pushOf
+  pub push-says : Said (push_of w ws bs time p payload)
+  unfolding push_of
   push-says = go (order 31 p.number (next_of w))
     where
       go : (o : Order) → Said (by_order w ws bs time p payload o)

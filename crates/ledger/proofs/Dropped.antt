@@ -15,34 +15,34 @@ use Rattle.slots.specs.declared.entry.Entry.TheVariants.{Lost, Received, GivenUp
 use Rattle.window.specs.Ready.{Good}
 use Rattle.window.specs.declared.Window.{Window}
 use Rattle.window_report.specs.Drop as dropping
-use Rattle.window_report.specs.Drop.{dropFrom, dropTo, dropOf}
-use Rattle.window_report.specs.Drop.{lostAmong}
+use Rattle.window_report.specs.Drop.{drop_from, drop_to, drop_of}
+use Rattle.window_report.specs.Drop.{lost_among}
 use Rattle.window_report.proofs.DropLaws.{drop-counts}
-use Rattle.views.specs.Lists.{changedIn}
-use Rattle.views.specs.View.{seenOf, entriesFrom, entries}
-use Rattle.ledger.specs.Ledger.{Place, gaveUp, givenIn, lostCount}
+use Rattle.views.specs.Lists.{changed_in}
+use Rattle.views.specs.View.{seen_of, entries_from, entries}
+use Rattle.ledger.specs.Ledger.{Place, gave_up, given_in, lost_count}
 use Rattle.ledger.specs.Runs.{place_of}
 
 abbrev one : Bool → ℕ
 one t = cond t 1 0
 
 -- the lost entries from entry i on that are in the range
-unfoldable lostWithin : ℕ → ℕ → List ℕ → ℕ → ℕ → ℕ → ℕ → ℕ
-lostWithin capacity start ws from to i zero = 0
-lostWithin capacity start ws from to i (suc n) =
-    cond (leb from i && ltb i to) (one (words.isLost (entry_at ws (slot_of capacity start i)))) 0 + lostWithin capacity start ws from to (suc i) n
+unfoldable lost_within : ℕ → ℕ → List ℕ → ℕ → ℕ → ℕ → ℕ → ℕ
+lost_within capacity start ws from to i zero = 0
+lost_within capacity start ws from to i (suc n) =
+    cond (leb from i && ltb i to) (one (words.is_lost (entry_at ws (slot_of capacity start i)))) 0 + lost_within capacity start ws from to (suc i) n
 
 module _ (capacity start : ℕ) (ws bs : List ℕ) (from to : ℕ) where
   abbrev mark : ℕ → Bool
-  mark i = words.isLost (entry_at ws (slot_of capacity start i))
+  mark i = words.is_lost (entry_at ws (slot_of capacity start i))
 
   abbrev within : ℕ → ℕ → ℕ
-  within i n = lostWithin capacity start ws from to i n
+  within i n = lost_within capacity start ws from to i n
 
   -- one place, in the range or not
-  one-given : (t : Bool) (s : ℕ) (e : Entry) (xs ys : List Place) (m : ℕ) → lostCount xs ≡ lostCount ys + m
-      → lostCount (place_of (seenOf bs s e) ∷ xs) ≡ lostCount (cond t (gaveUp (place_of (seenOf bs s e))) (place_of (seenOf bs s e)) ∷ ys) + (cond t (one (words.isLost e)) 0 + m)
-  unfolding lostCount
+  one-given : (t : Bool) (s : ℕ) (e : Entry) (xs ys : List Place) (m : ℕ) → lost_count xs ≡ lost_count ys + m
+      → lost_count (place_of (seen_of bs s e) ∷ xs) ≡ lost_count (cond t (gave_up (place_of (seen_of bs s e))) (place_of (seen_of bs s e)) ∷ ys) + (cond t (one (words.is_lost e)) 0 + m)
+  unfolding lost_count
   one-given true s (Lost k f) xs ys m h = omega arith
   one-given true s (Received n l u v) xs ys m h = omega arith
   one-given true s GivenUp xs ys m h = omega arith
@@ -50,15 +50,15 @@ module _ (capacity start : ℕ) (ws bs : List ℕ) (from to : ℕ) where
   one-given false s (Received n l u v) xs ys m h = omega arith
   one-given false s GivenUp xs ys m h = omega arith
 
-  given-counts : (n i : ℕ) → lostCount (map place_of (entriesFrom capacity start ws bs i n)) ≡ lostCount (givenIn from to i (map place_of (entriesFrom capacity start ws bs i n))) + within i n
-  unfolding entriesFrom changedIn lostWithin
+  given-counts : (n i : ℕ) → lost_count (map place_of (entries_from capacity start ws bs i n)) ≡ lost_count (given_in from to i (map place_of (entries_from capacity start ws bs i n))) + within i n
+  unfolding entries_from changed_in lost_within
   given-counts zero i = omega arith
   given-counts (suc n) i =
-      one-given (leb from i && ltb i to) (slot_of capacity start i) (entry_at ws (slot_of capacity start i)) (map place_of (entriesFrom capacity start ws bs (suc i) n)) (givenIn from to (suc i) (map place_of (entriesFrom capacity start ws bs (suc i) n))) (within (suc i) n) (given-counts n (suc i))
+      one-given (leb from i && ltb i to) (slot_of capacity start i) (entry_at ws (slot_of capacity start i)) (map place_of (entries_from capacity start ws bs (suc i) n)) (given_in from to (suc i) (map place_of (entries_from capacity start ws bs (suc i) n))) (within (suc i) n) (given-counts n (suc i))
 
   -- out of the range, and in it
   none_below : (n i : ℕ) → i + n ≤ from → within i n ≡ 0
-  unfolding lostWithin
+  unfolding lost_within
   none_below zero i h = refl
   none_below (suc n) i h =
       let a : leb from i ≡ false = lt-leb from i (omega arith) in
@@ -66,29 +66,29 @@ module _ (capacity start : ℕ) (ws bs : List ℕ) (from to : ℕ) where
       rw a (omega (arith, r))
 
   none_above : (n i : ℕ) → to ≤ i → within i n ≡ 0
-  unfolding lostWithin
+  unfolding lost_within
   none_above zero i h = refl
   none_above (suc n) i h =
       let a : ltb i to ≡ false = le-ltb i to h in
       let r = none_above n (suc i) (omega arith) in
       by_bool (leb from i) (λ t. rw (t, a) (omega (arith, r))) (λ t. rw t (omega (arith, r)))
 
-  among-front : (n i : ℕ) → lostAmong capacity start ws i (suc n) ≡ one (mark i) + lostAmong capacity start ws (suc i) n
-  unfolding lostAmong
+  among-front : (n i : ℕ) → lost_among capacity start ws i (suc n) ≡ one (mark i) + lost_among capacity start ws (suc i) n
+  unfolding lost_among
   among-front zero i = let z : i + 0 ≡ i = omega arith in rw z (omega arith)
   among-front (suc n) i =
       let z : i + suc n ≡ suc i + n = omega arith in
       let r = among-front n i in
       rw z (omega (arith, r))
 
-  all-within : (n i : ℕ) → from ≤ i → i + n ≤ to → within i n ≡ lostAmong capacity start ws i n
-  unfolding lostWithin lostAmong
+  all-within : (n i : ℕ) → from ≤ i → i + n ≤ to → within i n ≡ lost_among capacity start ws i n
+  unfolding lost_within lost_among
   all-within zero i a b = refl
   all-within (suc n) i a b =
       rw (le-leb from i a, lt-ltb i to (omega arith)) (ap (λ (x : ℕ). one (mark i) + x) (all-within n (suc i) (omega arith) (omega arith)) ∙ sym (among-front n i))
 
   within-split : (n m i : ℕ) → within i (n + m) ≡ within i n + within (i + n) m
-  unfolding lostWithin
+  unfolding lost_within
   within-split zero m i = let a : 0 + m ≡ m = omega arith in let b : i + 0 ≡ i = omega arith in rw (a, b) (omega arith)
   within-split (suc n) m i =
       let a : suc n + m ≡ suc (n + m) = omega arith in
@@ -97,8 +97,8 @@ module _ (capacity start : ℕ) (ws bs : List ℕ) (from to : ℕ) where
       rw (a, b) (omega (arith, r))
 
   -- all that are held
-  in-range : (held : ℕ) → to ≤ held → from ≤ held → within 0 held ≡ lostAmong capacity start ws from (to - from)
-  unfolding lostAmong
+  in-range : (held : ℕ) → to ≤ held → from ≤ held → within 0 held ≡ lost_among capacity start ws from (to - from)
+  unfolding lost_among
   in-range held h k =
       by-order to from
       (λ o.
@@ -116,14 +116,14 @@ module _ (capacity start : ℕ) (ws bs : List ℕ) (from to : ℕ) where
       let y = within-split from (to - from) 0 in
       let u = none_below from 0 (omega arith) in
       let v : within (0 + (from + (to - from))) (held - to) ≡ 0 = none_above (held - to) (0 + (from + (to - from))) (omega arith) in
-      let m : within (0 + from) (to - from) ≡ lostAmong capacity start ws from (to - from) = rw b (all-within (to - from) from (omega arith) (omega arith)) in
+      let m : within (0 + from) (to - from) ≡ lost_among capacity start ws from (to - from) = rw b (all-within (to - from) from (omega arith) (omega arith)) in
       ap (within 0) (sym a) ∙ omega (arith, x, y, u, v, m))
 
 module _ (w : Window) (ws bs : List ℕ) (g : Good w ws) (first last : ℕ) where
   -- the count of a drop request, by the places
-  pub counts : lostCount (map place_of (entries w ws bs)) ≡ lostCount (givenIn (dropFrom w first) (dropTo w last) 0 (map place_of (entries w ws bs))) + (dropOf w ws first last).count
+  pub counts : lost_count (map place_of (entries w ws bs)) ≡ lost_count (given_in (drop_from w first) (drop_to w last) 0 (map place_of (entries w ws bs))) + (drop_of w ws first last).count
   unfolding dropping.end_in
   counts =
-      given-counts w.capacity w.start ws bs (dropFrom w first) (dropTo w last) w.held 0
-      ∙ ap (λ (x : ℕ). lostCount (givenIn (dropFrom w first) (dropTo w last) 0 (map place_of (entries w ws bs))) + x)
-      (in-range w.capacity w.start ws bs (dropFrom w first) (dropTo w last) w.held (omega arith) (omega arith) ∙ sym (drop-counts w ws first last g))
+      given-counts w.capacity w.start ws bs (drop_from w first) (drop_to w last) w.held 0
+      ∙ ap (λ (x : ℕ). lost_count (given_in (drop_from w first) (drop_to w last) 0 (map place_of (entries w ws bs))) + x)
+      (in-range w.capacity w.start ws bs (drop_from w first) (drop_to w last) w.held (omega arith) (omega arith) ∙ sym (drop-counts w ws first last g))

@@ -11,8 +11,8 @@ use Rattle.upkeep.specs.declared.request.DropAnswer.TheVariants as drops
 use Rattle.step.specs.declared.Call.{Call}
 use Rattle.step.specs.declared.Call.TheVariants as calls
 use Rattle.step.specs.declared.Answer.TheVariants as answers
-use Rattle.views.specs.Lists.{changedIn}
-use Rattle.ledger.specs.Ledger.{Place, lost, received, givenUp, released, discarded, Ledger, opened, number_of, frontOf, next_of, marked, enter}
+use Rattle.views.specs.Lists.{changed_in}
+use Rattle.ledger.specs.Ledger.{Place, lost, received, given_up, released, discarded, Ledger, opened, number_of, front_of, next_of, marked, enter}
 
 abbrev sent : ℕ → Call
 sent number = calls.Data (pos 0) number 0 3 0
@@ -34,7 +34,7 @@ unfolding sum distance marked
 worked-example = refl
 
 -- 01's end line has lrsn 1, seqno0 2147483647 and 2 held
-pub worked-numbers : (number_of worked (frontOf worked) ≡ 2147483647) × (number_of worked (next_of worked) ≡ 1)
+pub worked-numbers : (number_of worked (front_of worked) ≡ 2147483647) × (number_of worked (next_of worked) ≡ 1)
 unfolding sum distance marked
 worked-numbers = (refl, refl)
 
@@ -52,33 +52,33 @@ abbrev dropped : ℕ → ℕ → Ledger
 dropped first last = enter (over (lost ∷ received (5 ∷ []) ∷ lost ∷ [])) (calls.Drop first last) [] (answers.Drop (drops.Gone 0))
 
 abbrev front : Ledger
-front = over (givenUp ∷ received (5 ∷ []) ∷ lost ∷ [])
+front = over (given_up ∷ received (5 ∷ []) ∷ lost ∷ [])
 
 abbrev rear : Ledger
-rear = over (lost ∷ received (5 ∷ []) ∷ givenUp ∷ [])
+rear = over (lost ∷ received (5 ∷ []) ∷ given_up ∷ [])
 
 abbrev both : Ledger
-both = over (givenUp ∷ received (5 ∷ []) ∷ givenUp ∷ [])
+both = over (given_up ∷ received (5 ∷ []) ∷ given_up ∷ [])
 
 abbrev neither : Ledger
 neither = over (lost ∷ received (5 ∷ []) ∷ lost ∷ [])
 
 -- what is lost in the range is given up, and nothing after it
 pub drop-example : dropped 2147483647 0 ≡ front
-unfolding sum distance saturating before equal after changedIn
+unfolding sum distance saturating before equal after changed_in
 drop-example = refl
 
 -- at the front: a request that ends just before it, and one that ends at it
 pub drop-front : (dropped 2147483640 2147483646 ≡ neither) × (dropped 2147483640 2147483647 ≡ front)
-unfolding sum distance saturating before equal after changedIn
+unfolding sum distance saturating before equal after changed_in
 drop-front = (refl, refl)
 
 -- at the end: a request that begins at the last held place, one that begins just after it, one that ends far after it, and one that ends before it begins
 pub drop-end : (dropped 1 1 ≡ rear) × (dropped 2 9 ≡ neither) × (dropped 1 9999 ≡ rear) × (dropped 1 2147483647 ≡ neither)
-unfolding sum distance saturating before equal after changedIn
+unfolding sum distance saturating before equal after changed_in
 drop-end = (refl, refl, refl, refl)
 
 -- at the tie, 2^30 from the front: a number there is before the front, so a request to it gives up nothing and one from it all; one nearer it is after all that is held
 pub drop-tie : (dropped 2147483647 1073741822 ≡ neither) × (dropped 2147483647 1073741821 ≡ both) × (dropped 1073741823 1 ≡ both) × (dropped 1073741822 1 ≡ neither)
-unfolding sum distance saturating before equal after changedIn
+unfolding sum distance saturating before equal after changed_in
 drop-tie = (refl, refl, refl, refl)

@@ -11,7 +11,7 @@ use lib.IntN.{ℤ}
 use lib.ListN.{length}
 use Rattle.numbers.proofs.Flags.{by_bool, by-test}
 use Rattle.numbers.specs.Circular.{distance}
-use Rattle.acks.specs.History.{ack2Of, fullAckOf, lightAckOf}
+use Rattle.acks.specs.History.{ack2_of, full_ack_of, light_ack_of}
 use Rattle.acks.specs.declared.history.History.{History}
 use Rattle.acks.specs.declared.history.AckAnswer.{AckAnswer}
 use Rattle.acks.specs.declared.history.AckAnswer.TheVariants as acks
@@ -23,41 +23,41 @@ use Rattle.clock.specs.declared.time.SynchronizedRemoteClock.{SynchronizedRemote
 use Rattle.clock.specs.declared.time.Synchronized.{Synchronized}
 use Rattle.clock.specs.declared.time.Synchronized.TheVariants as clocks
 use Rattle.slots.proofs.Laws.{length-write, length-payload, slot_lt}
-use Rattle.slots.specs.Ring.{withPayload}
-use Rattle.window.specs.Window.{slotIn, next_of, roomOf}
-use Rattle.window.specs.Push.{PushOutcome, recoveredOf, pushOf}
+use Rattle.slots.specs.Ring.{with_payload}
+use Rattle.window.specs.Window.{slot_in, next_of, room_of}
+use Rattle.window.specs.Push.{PushOutcome, recovered_of, push_of}
 use Rattle.window.specs.declared.Window.{Window}
 use Rattle.window.specs.declared.push.Packet.{Packet}
 use Rattle.window.specs.declared.push.PushAnswer.{PushAnswer}
 use Rattle.window.specs.declared.push.PushAnswer.TheVariants as pushes
 use Rattle.window.proofs.Pushes.{length-lost}
-use Rattle.window_pop.specs.Pop.{PopOutcome, discardFront, pop_of}
+use Rattle.window_pop.specs.Pop.{PopOutcome, discard_front, pop_of}
 use Rattle.window_pop.specs.declared.pop.PopAnswer.{PopAnswer}
 use Rattle.window_pop.specs.declared.pop.PopAnswer.TheVariants as pops
 use Rattle.window_pop.proofs.PopLaws.{pop-cases, pop-length}
-use Rattle.window_report.specs.Drop.{dropFrom, dropTo, dropOf}
-use Rattle.window_report.specs.Report.{ReportOutcome, needed, reportOf}
+use Rattle.window_report.specs.Drop.{drop_from, drop_to, drop_of}
+use Rattle.window_report.specs.Report.{ReportOutcome, needed, report_of}
 use Rattle.window_report.specs.declared.report.ReportAnswer.{ReportAnswer}
 use Rattle.window_report.specs.declared.report.ReportAnswer.TheVariants as reports
 use Rattle.window_report.proofs.ReportLaws.{by-outcome, length-slots, list-keeps, needed-held}
 use Rattle.window_report.proofs.DropLaws.{sweep-long}
-use Rattle.head.specs.Rules.{firstRefusal, pushRules, popRules, timedRules, dropRules, clockRules}
-use Rattle.head.specs.Head.{headOk}
+use Rattle.head.specs.Rules.{first_refusal, push_rules, pop_rules, timed_rules, drop_rules, clock_rules}
+use Rattle.head.specs.Head.{head_ok}
 use Rattle.head.specs.declared.state.Head.{Head}
-use Rattle.head.specs.Parts.{withLatest}
+use Rattle.head.specs.Parts.{with_latest}
 use Rattle.feedback.specs.declared.acking.FullAckAnswer.TheVariants as answered
 use Rattle.head.proofs.Ready.{push-ready, pop-ready}
 use Rattle.receiver.specs.Data as receiving
-use Rattle.receiver.specs.Data.{DataOutcome, packet, gotAnswer, ackedOf, gotOf, taken_of, dataCallOf}
-use Rattle.receiver.specs.Paper.{dataLine, messageLine}
+use Rattle.receiver.specs.Data.{DataOutcome, packet, got_answer, acked_of, got_of, taken_of, data_call_of}
+use Rattle.receiver.specs.Paper.{data_line, message_line}
 use Rattle.receiver.specs.Message as message
-use Rattle.receiver.specs.Message.{MessageOutcome, popCallOf}
-use Rattle.feedback.specs.Acking.{FullAckOutcome, fullAckEnded, Ack2Outcome, afterAck, afterAck2, roomyAck, dueAck, fullAckCallOf, heldAck2, ack2CallOf}
-use Rattle.feedback.specs.Loss.{LossOutcome, headAfter, answer_of, reportedOf, reportCallOf}
-use Rattle.feedback.specs.Paper.{lossLine, clockLine, fullAckLine, rttLine}
-use Rattle.feedback.specs.Sync.{ClockOutcome, afterSync, syncOf, clockCallOf}
-use Rattle.upkeep.specs.Request.{DropOutcome, dropCallOf}
-use Rattle.upkeep.specs.Paper.{dropLine}
+use Rattle.receiver.specs.Message.{MessageOutcome, pop_call_of}
+use Rattle.feedback.specs.Acking.{FullAckOutcome, full_ack_ended, Ack2Outcome, after_ack, after_ack2, roomy_ack, due_ack, full_ack_call_of, held_ack2, ack2_call_of}
+use Rattle.feedback.specs.Loss.{LossOutcome, head_after, answer_of, reported_of, report_call_of}
+use Rattle.feedback.specs.Paper.{loss_line, clock_line, full_ack_line, rtt_line}
+use Rattle.feedback.specs.Sync.{ClockOutcome, after_sync, sync_of, clock_call_of}
+use Rattle.upkeep.specs.Request.{DropOutcome, drop_call_of}
+use Rattle.upkeep.specs.Paper.{drop_line}
 use Rattle.paper.proofs.Reach.{refusal-under}
 use Rattle.kept.proofs.Says.{Says, push-says}
 use Rattle.step.specs.Step.{State, Lent, line_of, step_of}
@@ -65,7 +65,7 @@ use Rattle.step.specs.declared.Call.{Call}
 use Rattle.step.specs.declared.Call.TheVariants as calls
 use Rattle.step.specs.declared.Answer.{Answer}
 use Rattle.views.specs.View.{entries, LrsnRight}
-use Rattle.ledger.specs.Seen.{NotClear, readingIn, refusalIn}
+use Rattle.ledger.specs.Seen.{NotClear, reading_in, refusal_in}
 use Rattle.ledger.specs.Runs.{Desk, noted, Known}
 use Rattle.ledger.specs.Claims.{Reports, DataAcks, FullAcks, Acks}
 use Rattle.ledger.proofs.Moves.{by-refusal, push-cases, data-moves}
@@ -81,13 +81,13 @@ pub record Same (s s₁ : State) (c : Call) (a : Answer) : Type 0 where
   pub slots : length s₁.slots ≡ length s.slots
   pub payloads : length s₁.payloads ≡ length s.payloads
   pub history : length s₁.history ≡ length s.history
-  pub latest : s₁.head.latest ≡ cond (eqb (refusalIn a) 0) (readingIn c s.head.latest) s.head.latest
+  pub latest : s₁.head.latest ≡ cond (eqb (refusal_in a) 0) (reading_in c s.head.latest) s.head.latest
 
 -- the latest reading by the number of a refusal
-abbrev byNumber : ℕ → ℤ → ℤ → ℤ
-byNumber n now latest = cond (eqb n 0) now latest
+abbrev by_number : ℕ → ℤ → ℤ → ℤ
+by_number n now latest = cond (eqb n 0) now latest
 
-refused-latest : (n : ℕ) (now latest : ℤ) → (n ≡ 0 → ⊥) → latest ≡ byNumber n now latest
+refused-latest : (n : ℕ) (now latest : ℤ) → (n ≡ 0 → ⊥) → latest ≡ by_number n now latest
 refused-latest n now latest h = rw (ne_eqb n 0 h)
 
 module _ (h : Head) (ws bs : List ℕ) where
@@ -97,9 +97,9 @@ module _ (h : Head) (ws bs : List ℕ) where
   -- a data packet
   module _ (now : ℤ) (p : Packet) (payload : List ℕ) where
     abbrev tests : ℕ
-    tests = firstRefusal (pushRules (headOk h) w.capacity (length ws) (length bs) now h.latest p (length payload))
+    tests = first_refusal (push_rules (head_ok h) w.capacity (length ws) (length bs) now h.latest p (length payload))
 
-    pub data-capacity : p.stamp < 2 ^ 32 → LrsnRight w (entries w ws bs) → (dataCallOf h ws bs now p payload).handled.head.window.capacity ≡ w.capacity
+    pub data-capacity : p.stamp < 2 ^ 32 → LrsnRight w (entries w ws bs) → (data_call_of h ws bs now p payload).handled.head.window.capacity ≡ w.capacity
     data-capacity hs r =
         data-moves h ws bs now p payload hs r (λ v fs x. v.capacity ≡ w.capacity)
         (λ n t a b. refl) (λ d q c. refl) (λ d a b c. refl) (λ d q b. refl) (λ d i n. refl) (λ d light lrsn q z. refl) (λ d a b z. refl) (λ d light lrsn i n z. refl)
@@ -107,14 +107,14 @@ module _ (h : Head) (ws bs : List ℕ) where
     abbrev Long : DataOutcome → Type 0
     Long o = (length o.slots ≡ length ws) × (length o.payloads ≡ length bs)
 
-    pub data-long : Long (dataCallOf h ws bs now p payload)
-    unfolding dataCallOf taken_of recoveredOf
+    pub data-long : Long (data_call_of h ws bs now p payload)
+    unfolding data_call_of taken_of recovered_of
     data-long =
         by-refusal Long tests _ _
         (λ z.
         let r = push-ready h ws bs now p payload z in
-        let bytes : (i : ℕ) → length (withPayload bs (slotIn w i) payload) ≡ length bs =
-        λ i. length-payload bs (slotIn w i) payload r.right.bytes (omega (arith, slot_lt w.capacity w.start i r.good.ranges.some, r.payloads)) in
+        let bytes : (i : ℕ) → length (with_payload bs (slot_in w i) payload) ≡ length bs =
+        λ i. length-payload bs (slot_in w i) payload r.right.bytes (omega (arith, slot_lt w.capacity w.start i r.good.ranges.some, r.payloads)) in
         push-cases w ws bs now p payload (λ (o : PushOutcome). (length o.slots ≡ length ws) × (length o.payloads ≡ length bs))
         (λ q c. (refl, refl))
         (λ q. (length-write _ _ _, bytes w.held))
@@ -126,15 +126,15 @@ module _ (h : Head) (ws bs : List ℕ) where
         (λ z. (refl, refl))
 
     abbrev lit : Bool → Window → ℕ → ℕ → Bool
-    lit recovered v lrsn size = (lightAckOf (receiving.placed_of (cond recovered h (receiving.ratedOf h now p.number size)) v now).history lrsn).light
+    lit recovered v lrsn size = (light_ack_of (receiving.placed_of (cond recovered h (receiving.rated_of h now p.number size)) v now).history lrsn).light
 
-    got-latest : (light : Bool) (lrsn : ℕ) (recovered : Bool) → now ≡ byNumber (dataLine (gotAnswer light lrsn recovered)).refusal now h.latest
+    got-latest : (light : Bool) (lrsn : ℕ) (recovered : Bool) → now ≡ by_number (data_line (got_answer light lrsn recovered)).refusal now h.latest
     got-latest true lrsn recovered = refl
     got-latest false lrsn recovered = refl
 
     after-latest : (v : Window) (a : PushAnswer) (size : ℕ)
-        → (receiving.afterPush h v a now p.number size).head.latest ≡ byNumber (dataLine (receiving.afterPush h v a now p.number size).answer).refusal now h.latest
-    unfolding gotOf ackedOf
+        → (receiving.after_push h v a now p.number size).head.latest ≡ by_number (data_line (receiving.after_push h v a now p.number size).answer).refusal now h.latest
+    unfolding got_of acked_of
     after-latest v (pushes.Got lrsn recovered) size = got-latest (lit recovered v lrsn size) lrsn recovered
     after-latest v (pushes.Loss first last) size = refl
     after-latest v pushes.BufferFull size = refl
@@ -142,8 +142,8 @@ module _ (h : Head) (ws bs : List ℕ) where
     after-latest v pushes.PacketTooLate size = refl
     after-latest v pushes.DiscardedDuplicate size = refl
 
-    after-settings : (v : Window) (a : PushAnswer) (size : ℕ) → Settings h (receiving.afterPush h v a now p.number size).head
-    unfolding gotOf ackedOf receiving.ratedOf
+    after-settings : (v : Window) (a : PushAnswer) (size : ℕ) → Settings h (receiving.after_push h v a now p.number size).head
+    unfolding got_of acked_of receiving.rated_of
     after-settings v (pushes.Got lrsn true) size = (refl, refl)
     after-settings v (pushes.Got lrsn false) size = (refl, refl)
     after-settings v (pushes.Loss first last) size = (refl, refl)
@@ -152,28 +152,28 @@ module _ (h : Head) (ws bs : List ℕ) where
     after-settings v pushes.PacketTooLate size = (refl, refl)
     after-settings v pushes.DiscardedDuplicate size = (refl, refl)
 
-    pub data-settings : Settings h (dataCallOf h ws bs now p payload).handled.head
-    unfolding dataCallOf taken_of
+    pub data-settings : Settings h (data_call_of h ws bs now p payload).handled.head
+    unfolding data_call_of taken_of
     data-settings =
         by-refusal (λ (o : DataOutcome). Settings h o.handled.head) tests _ _
-        (λ z. let o = pushOf w ws bs now p payload in after-settings o.pushed.window o.pushed.answer (length payload))
+        (λ z. let o = push_of w ws bs now p payload in after-settings o.pushed.window o.pushed.answer (length payload))
         (λ z. (refl, refl))
 
-    pub data-latest : (dataCallOf h ws bs now p payload).handled.head.latest ≡ byNumber (dataLine (dataCallOf h ws bs now p payload).handled.answer).refusal now h.latest
-    unfolding dataCallOf taken_of
+    pub data-latest : (data_call_of h ws bs now p payload).handled.head.latest ≡ by_number (data_line (data_call_of h ws bs now p payload).handled.answer).refusal now h.latest
+    unfolding data_call_of taken_of
     data-latest =
-        by-refusal (λ (o : DataOutcome). o.handled.head.latest ≡ byNumber (dataLine o.handled.answer).refusal now h.latest) tests _ _
-        (λ z. let o = pushOf w ws bs now p payload in after-latest o.pushed.window o.pushed.answer (length payload))
+        by-refusal (λ (o : DataOutcome). o.handled.head.latest ≡ by_number (data_line o.handled.answer).refusal now h.latest) tests _ _
+        (λ z. let o = push_of w ws bs now p payload in after-latest o.pushed.window o.pushed.answer (length payload))
         (λ z. refused-latest tests now h.latest z)
 
     -- its acknowledgement number
-    got-acks : (v : ℕ) (light : Bool) (lrsn : ℕ) (recovered : Bool) → lrsn ≡ v → DataAcks v (gotAnswer light lrsn recovered)
+    got-acks : (v : ℕ) (light : Bool) (lrsn : ℕ) (recovered : Bool) → lrsn ≡ v → DataAcks v (got_answer light lrsn recovered)
     got-acks v true lrsn recovered e = e
     got-acks v false lrsn recovered e = e
 
     after-acks : (v : Window) (a : PushAnswer) (size : ℕ) → Says v.lrsn a
-        → DataAcks (receiving.afterPush h v a now p.number size).head.window.lrsn (receiving.afterPush h v a now p.number size).answer
-    unfolding gotOf ackedOf
+        → DataAcks (receiving.after_push h v a now p.number size).head.window.lrsn (receiving.after_push h v a now p.number size).answer
+    unfolding got_of acked_of
     after-acks v (pushes.Got lrsn recovered) size e = got-acks v.lrsn (lit recovered v lrsn size) lrsn recovered e
     after-acks v (pushes.Loss first last) size e = tt
     after-acks v pushes.BufferFull size e = tt
@@ -181,79 +181,79 @@ module _ (h : Head) (ws bs : List ℕ) where
     after-acks v pushes.PacketTooLate size e = tt
     after-acks v pushes.DiscardedDuplicate size e = tt
 
-    pub data-acks : DataAcks (dataCallOf h ws bs now p payload).handled.head.window.lrsn (dataCallOf h ws bs now p payload).handled.answer
-    unfolding dataCallOf taken_of
+    pub data-acks : DataAcks (data_call_of h ws bs now p payload).handled.head.window.lrsn (data_call_of h ws bs now p payload).handled.answer
+    unfolding data_call_of taken_of
     data-acks =
         by-refusal (λ (o : DataOutcome). DataAcks o.handled.head.window.lrsn o.handled.answer) tests _ _
         (λ z.
-        let o = pushOf w ws bs now p payload in
+        let o = push_of w ws bs now p payload in
         after-acks o.pushed.window o.pushed.answer (length payload) (push-says w ws bs now p payload))
         (λ z. tt)
 
   -- a pop
   module _ (out : List ℕ) (now : ℤ) where
-    abbrev popTests : ℕ
-    popTests = firstRefusal (popRules (headOk h) w.capacity (length ws) (length bs) now h.latest)
+    abbrev pop_tests : ℕ
+    pop_tests = first_refusal (pop_rules (head_ok h) w.capacity (length ws) (length bs) now h.latest)
 
-    pub pop-capacity : (popCallOf h ws bs out now).given.head.window.capacity ≡ w.capacity
-    unfolding popCallOf message.taken_of discardFront
+    pub pop-capacity : (pop_call_of h ws bs out now).given.head.window.capacity ≡ w.capacity
+    unfolding pop_call_of message.taken_of discard_front
     pop-capacity =
-        by-refusal (λ (o : MessageOutcome). o.given.head.window.capacity ≡ w.capacity) popTests _ _
+        by-refusal (λ (o : MessageOutcome). o.given.head.window.capacity ≡ w.capacity) pop_tests _ _
         (λ z.
         pop-cases h.clock h.latency h.dropping w ws now bs out
-        (λ (x : PopOutcome). (message.headAfter h x.popped.window x.popped.clock x.popped.answer now).window.capacity ≡ w.capacity)
+        (λ (x : PopOutcome). (message.head_after h x.popped.window x.popped.clock x.popped.answer now).window.capacity ≡ w.capacity)
         refl refl (λ some held fits. refl) (λ n stamp some held. refl))
         (λ z. refl)
 
-    answer-settings : (v : Window) (k : SynchronizedRemoteClock) (a : PopAnswer) → Settings h (message.headAfter h v k a now)
+    answer-settings : (v : Window) (k : SynchronizedRemoteClock) (a : PopAnswer) → Settings h (message.head_after h v k a now)
     answer-settings v k pops.Nothing = (refl, refl)
     answer-settings v k (pops.Message time bytes packets) = (refl, refl)
     answer-settings v k (pops.Late first end delay) = (refl, refl)
     answer-settings v k pops.OutShort = (refl, refl)
 
-    pub pop-settings : Settings h (popCallOf h ws bs out now).given.head
-    unfolding popCallOf message.taken_of
+    pub pop-settings : Settings h (pop_call_of h ws bs out now).given.head
+    unfolding pop_call_of message.taken_of
     pop-settings =
-        by-refusal (λ (o : MessageOutcome). Settings h o.given.head) popTests _ _
+        by-refusal (λ (o : MessageOutcome). Settings h o.given.head) pop_tests _ _
         (λ z. let o = pop_of h.clock h.latency h.dropping w ws now bs out in answer-settings o.popped.window o.popped.clock o.popped.answer)
         (λ z. (refl, refl))
 
-    pub pop-long : length (popCallOf h ws bs out now).output ≡ length out
-    unfolding popCallOf message.taken_of
+    pub pop-long : length (pop_call_of h ws bs out now).output ≡ length out
+    unfolding pop_call_of message.taken_of
     pop-long =
-        by-refusal (λ (o : MessageOutcome). length o.output ≡ length out) popTests _ _
+        by-refusal (λ (o : MessageOutcome). length o.output ≡ length out) pop_tests _ _
         (λ z. let r = pop-ready h now ws bs z in pop-length h.clock h.latency h.dropping w ws now bs out r.good.ranges.starts r.payloads)
         (λ z. refl)
 
-    answer-latest : (v : Window) (k : SynchronizedRemoteClock) (a : PopAnswer) → (message.headAfter h v k a now).latest ≡ byNumber (messageLine (message.answer_of a)).refusal now h.latest
+    answer-latest : (v : Window) (k : SynchronizedRemoteClock) (a : PopAnswer) → (message.head_after h v k a now).latest ≡ by_number (message_line (message.answer_of a)).refusal now h.latest
     answer-latest v k pops.Nothing = refl
     answer-latest v k (pops.Message time bytes packets) = refl
     answer-latest v k (pops.Late first end delay) = refl
     answer-latest v k pops.OutShort = refl
 
-    pub pop-latest : (popCallOf h ws bs out now).given.head.latest ≡ byNumber (messageLine (popCallOf h ws bs out now).given.answer).refusal now h.latest
-    unfolding popCallOf message.taken_of
+    pub pop-latest : (pop_call_of h ws bs out now).given.head.latest ≡ by_number (message_line (pop_call_of h ws bs out now).given.answer).refusal now h.latest
+    unfolding pop_call_of message.taken_of
     pop-latest =
-        by-refusal (λ (o : MessageOutcome). o.given.head.latest ≡ byNumber (messageLine o.given.answer).refusal now h.latest) popTests _ _
+        by-refusal (λ (o : MessageOutcome). o.given.head.latest ≡ by_number (message_line o.given.answer).refusal now h.latest) pop_tests _ _
         (λ z. let o = pop_of h.clock h.latency h.dropping w ws now bs out in answer-latest o.popped.window o.popped.clock o.popped.answer)
-        (λ z. refused-latest popTests now h.latest z)
+        (λ z. refused-latest pop_tests now h.latest z)
 
   -- a loss report
   module _ (list : List ℕ) (now : ℤ) where
-    abbrev reportTests : ℕ
-    reportTests = firstRefusal (timedRules (headOk h) (length ws) (3 * w.capacity) now h.latest)
+    abbrev report_tests : ℕ
+    report_tests = first_refusal (timed_rules (head_ok h) (length ws) (3 * w.capacity) now h.latest)
 
-    report-window : (a : ReportAnswer) → (headAfter h a now).window.capacity ≡ w.capacity
+    report-window : (a : ReportAnswer) → (head_after h a now).window.capacity ≡ w.capacity
     report-window reports.Nothing = refl
     report-window (reports.Report words) = refl
     report-window reports.ListShort = refl
 
-    report-settings : (a : ReportAnswer) → Settings h (headAfter h a now)
+    report-settings : (a : ReportAnswer) → Settings h (head_after h a now)
     report-settings reports.Nothing = (refl, refl)
     report-settings (reports.Report words) = (refl, refl)
     report-settings reports.ListShort = (refl, refl)
 
-    report-read : (a : ReportAnswer) → (headAfter h a now).latest ≡ byNumber (lossLine (answer_of a) []).refusal now h.latest
+    report-read : (a : ReportAnswer) → (head_after h a now).latest ≡ by_number (loss_line (answer_of a) []).refusal now h.latest
     report-read reports.Nothing = refl
     report-read (reports.Report words) = refl
     report-read reports.ListShort = refl
@@ -263,25 +263,25 @@ module _ (h : Head) (ws bs : List ℕ) where
         (o.reported.head.window.capacity ≡ w.capacity)
         × Settings h o.reported.head
         × (length o.slots ≡ length ws)
-        × (o.reported.head.latest ≡ byNumber (lossLine o.reported.answer []).refusal now h.latest)
+        × (o.reported.head.latest ≡ by_number (loss_line o.reported.answer []).refusal now h.latest)
 
-    pub report-same : Reported (reportCallOf h ws list now)
-    unfolding reportCallOf reportedOf
+    pub report-same : Reported (report_call_of h ws list now)
+    unfolding report_call_of reported_of
     report-same =
-        by-refusal Reported reportTests _ _
+        by-refusal Reported report_tests _ _
         (λ z.
-        let o = reportOf w ws now h.rtt.mean list in (
+        let o = report_of w ws now h.rtt.mean list in (
           report-window o.answer,
           report-settings o.answer,
           by-outcome w ws now h.rtt.mean list (λ (x : ReportOutcome). length x.slots ≡ length ws) refl refl (length-slots w ws now h.rtt.mean w.held),
           report-read o.answer,
         ))
-        (λ z. (refl, (refl, refl), refl, refused-latest reportTests now h.latest z))
+        (λ z. (refl, (refl, refl), refl, refused-latest report_tests now h.latest z))
 
-    pub list-long : length (reportCallOf h ws list now).list ≡ length list
-    unfolding reportCallOf reportedOf
+    pub list-long : length (report_call_of h ws list now).list ≡ length list
+    unfolding report_call_of reported_of
     list-long =
-        by-refusal (λ (o : LossOutcome). length o.list ≡ length list) reportTests _ _
+        by-refusal (λ (o : LossOutcome). length o.list ≡ length list) report_tests _ _
         (λ z. list-keeps w ws now h.rtt.mean list)
         (λ z. refl)
 
@@ -289,8 +289,8 @@ module _ (h : Head) (ws bs : List ℕ) where
     abbrev Told : ReportOutcome → Type 0
     Told x = length x.list ≡ length list → Reports w.held (answer_of x.answer) x.list
 
-    report-told : Told (reportOf w ws now h.rtt.mean list)
-    unfolding reportOf
+    report-told : Told (report_of w ws now h.rtt.mean list)
+    unfolding report_of
     report-told =
         let n = needed w ws now h.rtt.mean in
         by-test Told (eqb n 0) _ _
@@ -300,52 +300,52 @@ module _ (h : Head) (ws bs : List ℕ) where
         (λ u e z. omega (arith, ltb-true (length list) n u, needed-held w ws now h.rtt.mean))
         (λ u e. (omega (arith, eqb-false n 0 t), omega (arith, ltb-false (length list) n u, e))))
 
-    pub report-says : Reports w.held (reportCallOf h ws list now).reported.answer (reportCallOf h ws list now).list
-    unfolding reportCallOf reportedOf
+    pub report-says : Reports w.held (report_call_of h ws list now).reported.answer (report_call_of h ws list now).list
+    unfolding report_call_of reported_of
     report-says =
-        by-refusal (λ (o : LossOutcome). Reports w.held o.reported.answer o.list) reportTests _ _
+        by-refusal (λ (o : LossOutcome). Reports w.held o.reported.answer o.list) report_tests _ _
         (λ z. report-told (list-keeps w ws now h.rtt.mean list))
-        (λ z e. absurd (omega (arith, e, refusal-under 4 0 (timedRules (headOk h) (length ws) (3 * w.capacity) now h.latest) (omega arith) (lit≤ tt, (lit≤ tt, (lit≤ tt, (lit≤ tt, tt)))))))
+        (λ z e. absurd (omega (arith, e, refusal-under 4 0 (timed_rules (head_ok h) (length ws) (3 * w.capacity) now h.latest) (omega arith) (lit≤ tt, (lit≤ tt, (lit≤ tt, (lit≤ tt, tt)))))))
 
   -- a drop request
-  pub drop-long : (first last : ℕ) → length (dropCallOf h ws first last).slots ≡ length ws
-  unfolding dropCallOf dropOf
+  pub drop-long : (first last : ℕ) → length (drop_call_of h ws first last).slots ≡ length ws
+  unfolding drop_call_of drop_of
   drop-long first last =
-      by-refusal (λ (o : DropOutcome). length o.slots ≡ length ws) (firstRefusal (dropRules (headOk h) w.capacity (length ws) first last)) _ _
-      (λ z. sweep-long w.capacity w.start ws (dropFrom w first) (dropTo w last - dropFrom w first))
+      by-refusal (λ (o : DropOutcome). length o.slots ≡ length ws) (first_refusal (drop_rules (head_ok h) w.capacity (length ws) first last)) _ _
+      (λ z. sweep-long w.capacity w.start ws (drop_from w first) (drop_to w last - drop_from w first))
       (λ z. refl)
 
 -- ACKs and the clock
 module _ (h : Head) (b : List ℕ) (now : ℤ) where
-  abbrev ackTests : ℕ
-  ackTests = firstRefusal (timedRules (headOk h) (length b) 2048 now h.latest)
+  abbrev ack_tests : ℕ
+  ack_tests = first_refusal (timed_rules (head_ok h) (length b) 2048 now h.latest)
 
   abbrev Acked : FullAckOutcome → Type 0
   Acked o =
       (o.acked.head.window.capacity ≡ h.window.capacity)
       × Settings h o.acked.head
       × (length o.area ≡ length b)
-      × (o.acked.head.latest ≡ byNumber (fullAckLine o.acked.answer).refusal now h.latest)
-      × FullAcks o.acked.head.window.lrsn (roomOf o.acked.head.window) o.acked.answer
+      × (o.acked.head.latest ≡ by_number (full_ack_line o.acked.answer).refusal now h.latest)
+      × FullAcks o.acked.head.window.lrsn (room_of o.acked.head.window) o.acked.answer
 
-  pub full-ack-same : Acked (fullAckCallOf h b now)
-  unfolding fullAckCallOf dueAck roomyAck
+  pub full-ack-same : Acked (full_ack_call_of h b now)
+  unfolding full_ack_call_of due_ack roomy_ack
   full-ack-same =
-      by-refusal Acked ackTests _ _
+      by-refusal Acked ack_tests _ _
       (λ z.
-      by-test Acked (eqb (roomOf h.window) 0) (fullAckEnded (record { head = withLatest h now; answer = answered.Nothing }) b) (roomyAck h b now)
+      by-test Acked (eqb (room_of h.window) 0) (full_ack_ended (record { head = with_latest h now; answer = answered.Nothing }) b) (roomy_ack h b now)
       (λ t. (refl, (refl, refl), refl, refl, tt))
       (λ t.
-      let k = fullAckOf h.history b now h.rtt.mean h.latency h.window.lrsn in
+      let k = full_ack_of h.history b now h.rtt.mean h.latency h.window.lrsn in
       go k.acked.history k.acked.answer k.area (full-ack-length h.history b now h.rtt.mean h.latency h.window.lrsn)))
-      (λ z. (refl, (refl, refl), refl, refused-latest ackTests now h.latest z, tt))
+      (λ z. (refl, (refl, refl), refl, refused-latest ack_tests now h.latest z, tt))
     where
       go : (y : History) (x : AckAnswer) (area : List ℕ) → length area ≡ length b
-          → ((afterAck h y x now).head.window.capacity ≡ h.window.capacity)
-          × Settings h (afterAck h y x now).head
+          → ((after_ack h y x now).head.window.capacity ≡ h.window.capacity)
+          × Settings h (after_ack h y x now).head
           × (length area ≡ length b)
-          × ((afterAck h y x now).head.latest ≡ byNumber (fullAckLine (afterAck h y x now).answer).refusal now h.latest)
-          × FullAcks (afterAck h y x now).head.window.lrsn (roomOf (afterAck h y x now).head.window) (afterAck h y x now).answer
+          × ((after_ack h y x now).head.latest ≡ by_number (full_ack_line (after_ack h y x now).answer).refusal now h.latest)
+          × FullAcks (after_ack h y x now).head.window.lrsn (room_of (after_ack h y x now).head.window) (after_ack h y x now).answer
       go y acks.Nothing area e = (refl, (refl, refl), e, refl, tt)
       go y acks.Worn area e = (refl, (refl, refl), e, refl, tt)
       go y (acks.Ack n) area e = (refl, (refl, refl), e, refl, (refl, refl))
@@ -354,19 +354,19 @@ module _ (h : Head) (b : List ℕ) (now : ℤ) where
   Acked2 o =
       (o.acked2.head.window.capacity ≡ h.window.capacity)
       × Settings h o.acked2.head
-      × (o.acked2.head.latest ≡ byNumber (rttLine o.acked2.answer).refusal now h.latest)
+      × (o.acked2.head.latest ≡ by_number (rtt_line o.acked2.answer).refusal now h.latest)
 
-  pub ack2-same : (number : ℕ) → Acked2 (ack2CallOf h b now number)
-  unfolding ack2CallOf heldAck2
+  pub ack2-same : (number : ℕ) → Acked2 (ack2_call_of h b now number)
+  unfolding ack2_call_of held_ack2
   ack2-same number =
-      by-refusal Acked2 ackTests _ _
-      (λ z. let k = ack2Of h.history b now number in go k.history k.answer)
-      (λ z. (refl, (refl, refl), refused-latest ackTests now h.latest z))
+      by-refusal Acked2 ack_tests _ _
+      (λ z. let k = ack2_of h.history b now number in go k.history k.answer)
+      (λ z. (refl, (refl, refl), refused-latest ack_tests now h.latest z))
     where
       go : (y : History) (x : Ack2Answer)
-          → ((afterAck2 h y x now).head.window.capacity ≡ h.window.capacity)
-          × Settings h (afterAck2 h y x now).head
-          × ((afterAck2 h y x now).head.latest ≡ byNumber (rttLine (afterAck2 h y x now).answer).refusal now h.latest)
+          → ((after_ack2 h y x now).head.window.capacity ≡ h.window.capacity)
+          × Settings h (after_ack2 h y x now).head
+          × ((after_ack2 h y x now).head.latest ≡ by_number (rtt_line (after_ack2 h y x now).answer).refusal now h.latest)
       go y acks2.NotHeld = (refl, (refl, refl), refl)
       go y (acks2.Held r) = (refl, (refl, refl), refl)
 
@@ -375,26 +375,26 @@ module _ (h : Head) (now : ℤ) (stamp : ℕ) where
   Clocked o =
       (o.clocked.head.window.capacity ≡ h.window.capacity)
       × Settings h o.clocked.head
-      × (o.clocked.head.latest ≡ byNumber (clockLine o.clocked.answer).refusal now h.latest)
+      × (o.clocked.head.latest ≡ by_number (clock_line o.clocked.answer).refusal now h.latest)
 
-  pub clock-same : Clocked (clockCallOf h now stamp)
-  unfolding clockCallOf syncOf
+  pub clock-same : Clocked (clock_call_of h now stamp)
+  unfolding clock_call_of sync_of
   clock-same =
-      by-refusal Clocked (firstRefusal (clockRules (headOk h) now h.latest)) _ _
+      by-refusal Clocked (first_refusal (clock_rules (head_ok h) now h.latest)) _ _
       (λ z. let k = synchronized h.clock now stamp in go k.clock k.answer)
-      (λ z. (refl, (refl, refl), refused-latest (firstRefusal (clockRules (headOk h) now h.latest)) now h.latest z))
+      (λ z. (refl, (refl, refl), refused-latest (first_refusal (clock_rules (head_ok h) now h.latest)) now h.latest z))
     where
       go : (k : SynchronizedRemoteClock) (x : Synchronized)
-          → ((afterSync h k x now).head.window.capacity ≡ h.window.capacity)
-          × Settings h (afterSync h k x now).head
-          × ((afterSync h k x now).head.latest ≡ byNumber (clockLine (afterSync h k x now).answer).refusal now h.latest)
+          → ((after_sync h k x now).head.window.capacity ≡ h.window.capacity)
+          × Settings h (after_sync h k x now).head
+          × ((after_sync h k x now).head.latest ≡ by_number (clock_line (after_sync h k x now).answer).refusal now h.latest)
       go k clocks.Nothing = (refl, (refl, refl), refl)
       go k (clocks.Adjusted mean deviation) = (refl, (refl, refl), refl)
       go k (clocks.Unsteady deviation v) = (refl, (refl, refl), refl)
       go k clocks.DriftRange = (refl, (refl, refl), refl)
 
 -- any call
-either : (n : ℕ) (z : ℤ) → z ≡ byNumber n z z
+either : (n : ℕ) (z : ℤ) → z ≡ by_number n z z
 either n z = by_bool (eqb n 0) (λ t. rw t) (λ t. rw t)
 
 pub step_same : (s : State) (t : Lent) (c : Call) → NotClear c → LrsnRight s.head.window (entries s.head.window s.slots s.payloads) → Same s (step_of s t c).state c (step_of s t c).answer
@@ -434,7 +434,7 @@ step_same s t (calls.Drop first last) k r =
       slots = drop-long s.head s.slots s.payloads first last;
       payloads = refl;
       history = refl;
-      latest = either (dropLine (dropCallOf s.head s.slots first last).answer).refusal s.head.latest;
+      latest = either (drop_line (drop_call_of s.head s.slots first last).answer).refusal s.head.latest;
     }
 step_same s t (calls.Clock time stamp) k r =
     let x = clock-same s.head time stamp in
@@ -450,10 +450,10 @@ known-after {c = c} {a = a} k q =
       slots = q.slots ∙ k.slots;
       payloads = q.payloads ∙ k.payloads;
       history = q.history ∙ k.history;
-      latest = q.latest ∙ ap (λ (z : ℤ). cond (eqb (refusalIn a) 0) (readingIn c z) z) k.latest;
+      latest = q.latest ∙ ap (λ (z : ℤ). cond (eqb (refusal_in a) 0) (reading_in c z) z) k.latest;
     }
 
-pub step-acks : (s : State) (t : Lent) (c : Call) → NotClear c → Acks (step_of s t c).state.head.window.lrsn (roomOf (step_of s t c).state.head.window) (step_of s t c).answer
+pub step-acks : (s : State) (t : Lent) (c : Call) → NotClear c → Acks (step_of s t c).state.head.window.lrsn (room_of (step_of s t c).state.head.window) (step_of s t c).answer
 step-acks s t (calls.Data time number message location stamp) k = data-acks s.head s.slots s.payloads time (packet number message location stamp) t.payload
 step-acks s t (calls.Pop time) k = tt
 step-acks s t (calls.Report time) k = tt

@@ -12,31 +12,31 @@ use Rattle.clock.specs.Sync.{synchronized}
 use Rattle.clock.specs.declared.time.SynchronizedRemoteClock.{SynchronizedRemoteClock}
 use Rattle.clock.specs.declared.time.Synchronized.{Synchronized}
 use Rattle.clock.specs.declared.time.Synchronized.TheVariants as clocks
-use Rattle.acks.specs.History.{ack2Of, fullAckOf}
+use Rattle.acks.specs.History.{ack2_of, full_ack_of}
 use Rattle.acks.specs.declared.history.History.{History}
 use Rattle.acks.specs.declared.history.AckAnswer.{AckAnswer}
 use Rattle.acks.specs.declared.history.AckAnswer.TheVariants as acks
 use Rattle.acks.specs.declared.history.Ack2Answer.{Ack2Answer}
 use Rattle.acks.specs.declared.history.Ack2Answer.TheVariants as acks2
-use Rattle.window.specs.Window.{roomOf}
+use Rattle.window.specs.Window.{room_of}
 use Rattle.window.specs.declared.Window.{Window}
-use Rattle.window_report.specs.Report.{reportOf}
+use Rattle.window_report.specs.Report.{report_of}
 use Rattle.window_report.specs.Drop as dropping
-use Rattle.window_report.specs.Drop.{dropFrom, dropTo, dropOf}
+use Rattle.window_report.specs.Drop.{drop_from, drop_to, drop_of}
 use Rattle.window_report.specs.declared.report.ReportAnswer.{ReportAnswer}
 use Rattle.window_report.specs.declared.report.ReportAnswer.TheVariants as reports
-use Rattle.head.specs.Rules.{firstRefusal, timedRules, dropRules, clockRules}
-use Rattle.head.specs.Head.{headOk}
+use Rattle.head.specs.Rules.{first_refusal, timed_rules, drop_rules, clock_rules}
+use Rattle.head.specs.Head.{head_ok}
 use Rattle.head.specs.declared.state.Head.{Head}
 use Rattle.head.proofs.Ready.{good, timed-ready, drop-ready}
-use Rattle.feedback.specs.Acking.{FullAckOutcome, Ack2Outcome, afterAck, afterAck2, roomyAck, dueAck, fullAckCallOf, heldAck2, ack2CallOf}
-use Rattle.feedback.specs.Loss.{LossOutcome, headAfter, reportedOf, reportCallOf}
-use Rattle.upkeep.specs.Request.{DropOutcome, dropCallOf}
-use Rattle.feedback.specs.Sync.{ClockOutcome, afterSync, syncOf, clockCallOf}
+use Rattle.feedback.specs.Acking.{FullAckOutcome, Ack2Outcome, after_ack, after_ack2, roomy_ack, due_ack, full_ack_call_of, held_ack2, ack2_call_of}
+use Rattle.feedback.specs.Loss.{LossOutcome, head_after, reported_of, report_call_of}
+use Rattle.upkeep.specs.Request.{DropOutcome, drop_call_of}
+use Rattle.feedback.specs.Sync.{ClockOutcome, after_sync, sync_of, clock_call_of}
 use Rattle.views.specs.View as views
 use Rattle.views.specs.View.{Seen, entries}
 use Rattle.views.proofs.Marks.{report-seen, report-right, drop-seen, drop-right}
-use Rattle.ledger.specs.Ledger.{Place, Ledger, frontOf, givenIn, end_in, enterDrop, lostCount, releasedBytes}
+use Rattle.ledger.specs.Ledger.{Place, Ledger, front_of, given_in, end_in, enter_drop, lost_count, released_bytes}
 use Rattle.ledger.specs.Runs.{place_of}
 use Rattle.ledger.specs.Claims.{Counts}
 use Rattle.ledger.proofs.Places.{given-places, given-long, reported-places}
@@ -56,57 +56,57 @@ module _ (S : ℕ → List ℕ → Type 0) (l : Ledger) (h : Head) (ws bs : List
   abbrev pub Reported : LossOutcome → Type 0
   Reported o = Moved S l l o.reported.head.window (entries o.reported.head.window o.slots bs) []
 
-  report-places : (time : ℤ) (mean : ℕ) (x : ReportAnswer) → map place_of (views.afterReport time mean es x) ≡ map place_of es
+  report-places : (time : ℤ) (mean : ℕ) (x : ReportAnswer) → map place_of (views.after_report time mean es x) ≡ map place_of es
   report-places time mean reports.Nothing = refl
   report-places time mean (reports.Report words) = reported-places time mean es
   report-places time mean reports.ListShort = refl
 
-  report-window : (now : ℤ) (x : ReportAnswer) → (headAfter h x now).window ≡ w
+  report-window : (now : ℤ) (x : ReportAnswer) → (head_after h x now).window ≡ w
   report-window now reports.Nothing = refl
   report-window now (reports.Report words) = refl
   report-window now reports.ListShort = refl
 
-  pub report-stands : (list : List ℕ) (now : ℤ) → Reported (reportCallOf h ws list now)
-  unfolding reportCallOf reportedOf
+  pub report-stands : (list : List ℕ) (now : ℤ) → Reported (report_call_of h ws list now)
+  unfolding report_call_of reported_of
   report-stands list now =
-      by-refusal Reported (firstRefusal (timedRules (headOk h) (length ws) (3 * w.capacity) now h.latest)) _ _
+      by-refusal Reported (first_refusal (timed_rules (head_ok h) (length ws) (3 * w.capacity) now h.latest)) _ _
       (λ z.
       let t = timed-ready h now (length ws) (3 * w.capacity) z in
       let g = good w ws t.0.head.window t.1 in
       let u = (reading-size now t.0.reading).1 in
-      let o = reportOf w ws now h.rtt.mean list in
+      let o = report_of w ws now h.rtt.mean list in
       subst (λ (v : Window). Moved S l l v (entries v o.slots bs) []) (sym (report-window now o.answer))
       (still
       (record {
         front = a.front;
         held = ap (map place_of) (report-seen w ws bs g now h.rtt.mean list u) ∙ report-places now h.rtt.mean o.answer ∙ a.held;
         right = report-right w ws bs g now h.rtt.mean list u a.right;
-        ownGone = a.ownGone;
-        ownHeld = a.ownHeld;
+        own_gone = a.own_gone;
+        own_held = a.own_held;
       })))
       (λ z. still a)
 
   -- a drop request gives up lost places
   abbrev pub Requested : ℕ → ℕ → DropOutcome → Type 0
-  Requested first last o = Moved S l (enterDrop l first last o.answer) w (entries w o.slots bs) []
+  Requested first last o = Moved S l (enter_drop l first last o.answer) w (entries w o.slots bs) []
 
   end_is : (number : ℕ) → dropping.end_in w number ≡ end_in l number
   unfolding dropping.end_in
   end_is number = rw (a.front, window-count ws bs a)
 
-  pub drop-stands : (first last : ℕ) → Requested first last (dropCallOf h ws first last)
-  unfolding dropCallOf
+  pub drop-stands : (first last : ℕ) → Requested first last (drop_call_of h ws first last)
+  unfolding drop_call_of
   drop-stands first last =
-      by-refusal (Requested first last) (firstRefusal (dropRules (headOk h) w.capacity (length ws) first last)) _ _
+      by-refusal (Requested first last) (first_refusal (drop_rules (head_ok h) w.capacity (length ws) first last)) _ _
       (λ z.
       let g = drop-ready h ws first last refl z in
-      let given = givenIn (end_in l first) (end_in l (sum 31 last 1)) 0 l.held in
-      let held : map place_of (entries w (dropOf w ws first last).slots bs) ≡ given =
+      let given = given_in (end_in l first) (end_in l (sum 31 last 1)) 0 l.held in
+      let held : map place_of (entries w (drop_of w ws first last).slots bs) ≡ given =
       ap (map place_of) (drop-seen w ws bs g first last)
-      ∙ given-places (dropFrom w first) (dropTo w last) 0 es
-      ∙ ap (givenIn (dropFrom w first) (dropTo w last) 0) a.held
-      ∙ ap (λ (x : ℕ). givenIn x (dropTo w last) 0 l.held) (end_is first)
-      ∙ ap (λ (x : ℕ). givenIn (end_in l first) x 0 l.held) (end_is (sum 31 last 1)) in
+      ∙ given-places (drop_from w first) (drop_to w last) 0 es
+      ∙ ap (given_in (drop_from w first) (drop_to w last) 0) a.held
+      ∙ ap (λ (x : ℕ). given_in x (drop_to w last) 0 l.held) (end_is first)
+      ∙ ap (λ (x : ℕ). given_in (end_in l first) x 0 l.held) (end_is (sum 31 last 1)) in
       let long : length given ≡ length l.held = given-long (end_in l first) (end_in l (sum 31 last 1)) 0 l.held in
       record {
         stands =
@@ -114,23 +114,23 @@ module _ (S : ℕ → List ℕ → Type 0) (l : Ledger) (h : Head) (ws bs : List
               front = a.front;
               held = held;
               right = drop-right w ws bs g first last a.right;
-              ownGone = a.ownGone;
-              ownHeld = held-given S l.first (end_in l first) (end_in l (sum 31 last 1)) 0 l.held (frontOf l) a.ownHeld;
+              own_gone = a.own_gone;
+              own_held = held-given S l.first (end_in l first) (end_in l (sum 31 last 1)) 0 l.held (front_of l) a.own_held;
             };
-        handed = sym (append-nil (releasedBytes l.gone));
+        handed = sym (append-nil (released_bytes l.gone));
       })
       (λ z. still a)
 
-  pub drop-counted : (first last : ℕ) → Counts l first last (dropCallOf h ws first last).answer
-  unfolding dropCallOf
+  pub drop-counted : (first last : ℕ) → Counts l first last (drop_call_of h ws first last).answer
+  unfolding drop_call_of
   drop-counted first last =
-      by-refusal (λ (o : DropOutcome). Counts l first last o.answer) (firstRefusal (dropRules (headOk h) w.capacity (length ws) first last)) _ _
+      by-refusal (λ (o : DropOutcome). Counts l first last o.answer) (first_refusal (drop_rules (head_ok h) w.capacity (length ws) first last)) _ _
       (λ z.
       let g = drop-ready h ws first last refl z in
-      let n = (dropOf w ws first last).count in
-      subst (λ (x : List Place). lostCount x ≡ lostCount (givenIn (end_in l first) (end_in l (sum 31 last 1)) 0 x) + n) a.held
-      (subst (λ (x : ℕ). lostCount (map place_of es) ≡ lostCount (givenIn x (end_in l (sum 31 last 1)) 0 (map place_of es)) + n) (end_is first)
-      (subst (λ (x : ℕ). lostCount (map place_of es) ≡ lostCount (givenIn (dropFrom w first) x 0 (map place_of es)) + n) (end_is (sum 31 last 1)) (counts w ws bs g first last))))
+      let n = (drop_of w ws first last).count in
+      subst (λ (x : List Place). lost_count x ≡ lost_count (given_in (end_in l first) (end_in l (sum 31 last 1)) 0 x) + n) a.held
+      (subst (λ (x : ℕ). lost_count (map place_of es) ≡ lost_count (given_in x (end_in l (sum 31 last 1)) 0 (map place_of es)) + n) (end_is first)
+      (subst (λ (x : ℕ). lost_count (map place_of es) ≡ lost_count (given_in (drop_from w first) x 0 (map place_of es)) + n) (end_is (sum 31 last 1)) (counts w ws bs g first last))))
       (λ z. tt)
 
   -- ACKs and the clock leave the window
@@ -140,46 +140,46 @@ module _ (S : ℕ → List ℕ → Type 0) (l : Ledger) (h : Head) (ws bs : List
   alike : (v : Window) → v ≡ w → Alike v
   alike v e = subst Alike (sym e) (still a)
 
-  pub full-ack-stands : (b : List ℕ) (now : ℤ) → Alike (fullAckCallOf h b now).acked.head.window
-  unfolding fullAckCallOf dueAck roomyAck
+  pub full-ack-stands : (b : List ℕ) (now : ℤ) → Alike (full_ack_call_of h b now).acked.head.window
+  unfolding full_ack_call_of due_ack roomy_ack
   full-ack-stands b now =
-      by-refusal (λ (o : FullAckOutcome). Alike o.acked.head.window) (firstRefusal (timedRules (headOk h) (length b) 2048 now h.latest)) _ _
+      by-refusal (λ (o : FullAckOutcome). Alike o.acked.head.window) (first_refusal (timed_rules (head_ok h) (length b) 2048 now h.latest)) _ _
       (λ z.
-      by-test (λ (o : FullAckOutcome). Alike o.acked.head.window) (eqb (roomOf w) 0) _ _
+      by-test (λ (o : FullAckOutcome). Alike o.acked.head.window) (eqb (room_of w) 0) _ _
       (λ t. still a)
       (λ t.
-      let k = fullAckOf h.history b now h.rtt.mean h.latency w.lrsn in
-      alike (afterAck h k.acked.history k.acked.answer now).head.window (go k.acked.history k.acked.answer)))
+      let k = full_ack_of h.history b now h.rtt.mean h.latency w.lrsn in
+      alike (after_ack h k.acked.history k.acked.answer now).head.window (go k.acked.history k.acked.answer)))
       (λ z. still a)
     where
-      go : (y : History) (x : AckAnswer) → (afterAck h y x now).head.window ≡ w
+      go : (y : History) (x : AckAnswer) → (after_ack h y x now).head.window ≡ w
       go y acks.Nothing = refl
       go y acks.Worn = refl
       go y (acks.Ack n) = refl
 
-  pub ack2-stands : (b : List ℕ) (now : ℤ) (number : ℕ) → Alike (ack2CallOf h b now number).acked2.head.window
-  unfolding ack2CallOf heldAck2
+  pub ack2-stands : (b : List ℕ) (now : ℤ) (number : ℕ) → Alike (ack2_call_of h b now number).acked2.head.window
+  unfolding ack2_call_of held_ack2
   ack2-stands b now number =
-      by-refusal (λ (o : Ack2Outcome). Alike o.acked2.head.window) (firstRefusal (timedRules (headOk h) (length b) 2048 now h.latest)) _ _
+      by-refusal (λ (o : Ack2Outcome). Alike o.acked2.head.window) (first_refusal (timed_rules (head_ok h) (length b) 2048 now h.latest)) _ _
       (λ z.
-      let k = ack2Of h.history b now number in
-      alike (afterAck2 h k.history k.answer now).head.window (go k.history k.answer))
+      let k = ack2_of h.history b now number in
+      alike (after_ack2 h k.history k.answer now).head.window (go k.history k.answer))
       (λ z. still a)
     where
-      go : (y : History) (x : Ack2Answer) → (afterAck2 h y x now).head.window ≡ w
+      go : (y : History) (x : Ack2Answer) → (after_ack2 h y x now).head.window ≡ w
       go y acks2.NotHeld = refl
       go y (acks2.Held r) = refl
 
-  pub clock-stands : (now : ℤ) (stamp : ℕ) → Alike (clockCallOf h now stamp).clocked.head.window
-  unfolding clockCallOf syncOf
+  pub clock-stands : (now : ℤ) (stamp : ℕ) → Alike (clock_call_of h now stamp).clocked.head.window
+  unfolding clock_call_of sync_of
   clock-stands now stamp =
-      by-refusal (λ (o : ClockOutcome). Alike o.clocked.head.window) (firstRefusal (clockRules (headOk h) now h.latest)) _ _
+      by-refusal (λ (o : ClockOutcome). Alike o.clocked.head.window) (first_refusal (clock_rules (head_ok h) now h.latest)) _ _
       (λ z.
       let k = synchronized h.clock now stamp in
-      alike (afterSync h k.clock k.answer now).head.window (go k.clock k.answer))
+      alike (after_sync h k.clock k.answer now).head.window (go k.clock k.answer))
       (λ z. still a)
     where
-      go : (k : SynchronizedRemoteClock) (x : Synchronized) → (afterSync h k x now).head.window ≡ w
+      go : (k : SynchronizedRemoteClock) (x : Synchronized) → (after_sync h k x now).head.window ≡ w
       go k clocks.Nothing = refl
       go k (clocks.Adjusted mean deviation) = refl
       go k (clocks.Unsteady deviation v) = refl

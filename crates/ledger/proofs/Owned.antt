@@ -9,8 +9,8 @@ use lib.Dec.{eqb, ltb, leb}
 use lib.ListN.{length, take, drop, replicate, get_or}
 use Rattle.numbers.specs.Circular.{sum}
 use Rattle.numbers.proofs.Flags.{by_bool}
-use Rattle.views.specs.Lists.{run_of, changedIn}
-use Rattle.ledger.specs.Ledger.{Place, lost, received, givenUp, Fate, released, discarded, bytes_of, gaveUp, givenIn, marked, receivedRun}
+use Rattle.views.specs.Lists.{run_of, changed_in}
+use Rattle.ledger.specs.Ledger.{Place, lost, received, given_up, Fate, released, discarded, bytes_of, gave_up, given_in, marked, received_run}
 
 module _ (S : ℕ → List ℕ → Type 0) (first : ℕ) where
   -- the places of a list, the first of which is place p
@@ -30,7 +30,7 @@ module _ (S : ℕ → List ℕ → Type 0) (first : ℕ) where
   clash₁ : {bytes : List ℕ} {P : Type 0} → discarded ≡ released bytes → P
   clash₁ e = absurd (let z : ◌≡◌ {A = ℕ} 0 1 = cc in omega arith)
 
-  clash₂ : {bytes : List ℕ} {P : Type 0} → givenUp ≡ received bytes → P
+  clash₂ : {bytes : List ℕ} {P : Type 0} → given_up ≡ received bytes → P
   clash₂ e = absurd (let z : ◌≡◌ {A = ℕ} 0 1 = cc in omega arith)
 
   pub nothing : (i : ℕ) (bytes : List ℕ) {P : Type 0} → get_or [] i lost ≡ received bytes → P
@@ -90,17 +90,17 @@ module _ (S : ℕ → List ℕ → Type 0) (first : ℕ) where
       i b e
 
   -- a drop request changes no packet
-  given-head : (t : Bool) (x : Place) (bytes : List ℕ) → cond t (gaveUp x) x ≡ received bytes → x ≡ received bytes
+  given-head : (t : Bool) (x : Place) (bytes : List ℕ) → cond t (gave_up x) x ≡ received bytes → x ≡ received bytes
   given-head false x bytes e = e
   given-head true lost bytes e = clash₂ e
   given-head true (received b) bytes e = e
-  given-head true givenUp bytes e = clash₂ e
+  given-head true given_up bytes e = clash₂ e
 
-  pub held-given : (from to j : ℕ) (xs : List Place) (p : ℕ) → OwnHeld p xs → OwnHeld p (givenIn from to j xs)
-  unfolding changedIn
+  pub held-given : (from to j : ℕ) (xs : List Place) (p : ℕ) → OwnHeld p xs → OwnHeld p (given_in from to j xs)
+  unfolding changed_in
   held-given from to j [] p o i b e = nothing i b e
   held-given from to j (x ∷ xs) p o i b e =
-      held_cons p (cond (leb from j && ltb j to) (gaveUp x) x) (givenIn from to (suc j) xs)
+      held_cons p (cond (leb from j && ltb j to) (gave_up x) x) (given_in from to (suc j) xs)
       (λ c d. held-head p x xs o c (given-head (leb from j && ltb j to) x c d))
       (held-given from to (suc j) xs (suc p) (held-tail p x xs o))
       i b e
@@ -111,12 +111,12 @@ module _ (S : ℕ → List ℕ → Type 0) (first : ℕ) where
   gone-discarded p (x ∷ xs) zero bytes e = clash₁ e
   gone-discarded p (x ∷ xs) (suc i) bytes e = at (suc p + i) (p + suc i) bytes (omega arith) (gone-discarded (suc p) xs i bytes e)
 
-  pub gone-released : (n p : ℕ) (xs : List Place) → n ≤ receivedRun xs → OwnHeld p xs → OwnGone p (map (λ x. released (bytes_of x)) (take n xs))
+  pub gone-released : (n p : ℕ) (xs : List Place) → n ≤ received_run xs → OwnHeld p xs → OwnGone p (map (λ x. released (bytes_of x)) (take n xs))
   unfolding run_of
   gone-released zero p xs h o i bytes e = empty i bytes e
   gone-released (suc n) p [] h o i bytes e = absurd (omega arith)
   gone-released (suc n) p (lost ∷ xs) h o i bytes e = absurd (omega arith)
-  gone-released (suc n) p (givenUp ∷ xs) h o i bytes e = absurd (omega arith)
+  gone-released (suc n) p (given_up ∷ xs) h o i bytes e = absurd (omega arith)
   gone-released (suc n) p (received b ∷ xs) h o zero bytes e =
       let z : b ≡ bytes = cc in
       o zero bytes (ap received z)

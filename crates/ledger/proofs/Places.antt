@@ -12,11 +12,11 @@ use Rattle.numbers.specs.Circular.{sum}
 use Rattle.numbers.proofs.Flags.{by_bool}
 use Rattle.numbers.proofs.Places.{place-one}
 use Rattle.slots.specs.declared.entry.Entry.TheVariants.{Lost}
-use Rattle.window_report.specs.Report.{isDue}
-use Rattle.views.specs.Lists.{run_of, changedIn}
+use Rattle.window_report.specs.Report.{is_due}
+use Rattle.views.specs.Lists.{run_of, changed_in}
 use Rattle.views.specs.View as views
-use Rattle.views.specs.View.{Seen, gapIn}
-use Rattle.ledger.specs.Ledger.{Place, received, Fate, released, discarded, bytes_of, gaveUp, givenIn, marked, receivedRun, releasedBytes}
+use Rattle.views.specs.View.{Seen, gap_in}
+use Rattle.ledger.specs.Ledger.{Place, received, Fate, released, discarded, bytes_of, gave_up, given_in, marked, received_run, released_bytes}
 use Rattle.ledger.specs.Runs.{place_of}
 
 module _ {A B : Type 0} (f : A → B) where
@@ -44,12 +44,12 @@ module _ {A B : Type 0} (f : A → B) where
   map-drop (suc n) (x ∷ xs) = map-drop n xs
 
 -- the run of received places is the run of received entries
-pub run-gap : (es : List Seen) → receivedRun (map place_of es) ≡ gapIn es
+pub run-gap : (es : List Seen) → received_run (map place_of es) ≡ gap_in es
 unfolding run_of
 run-gap [] = refl
 run-gap (views.lost k f ∷ es) = refl
 run-gap (views.received l m t b ∷ es) = let r = run-gap es in omega arith
-run-gap (views.givenUp ∷ es) = refl
+run-gap (views.given_up ∷ es) = refl
 
 -- no place of the list has the number, so none is marked; one has it, so that one is marked
 module _ (first number : ℕ) (bytes : List ℕ) where
@@ -86,51 +86,51 @@ module _ (first number : ℕ) (bytes : List ℕ) where
       rw (here, rest)
 
 -- a drop request's places
-given-place : (t : Bool) (e : Seen) → place_of (cond t (views.gaveUp e) e) ≡ cond t (gaveUp (place_of e)) (place_of e)
+given-place : (t : Bool) (e : Seen) → place_of (cond t (views.gave_up e) e) ≡ cond t (gave_up (place_of e)) (place_of e)
 given-place false e = refl
 given-place true (views.lost k f) = refl
 given-place true (views.received l m t b) = refl
-given-place true views.givenUp = refl
+given-place true views.given_up = refl
 
-pub given-places : (from to i : ℕ) (es : List Seen) → map place_of (views.givenIn from to i es) ≡ givenIn from to i (map place_of es)
-unfolding changedIn
+pub given-places : (from to i : ℕ) (es : List Seen) → map place_of (views.given_in from to i es) ≡ given_in from to i (map place_of es)
+unfolding changed_in
 given-places from to i [] = refl
 given-places from to i (e ∷ es) = rw (given-place (leb from i && ltb i to) e, given-places from to (suc i) es)
 
-pub given-long : (from to i : ℕ) (xs : List Place) → length (givenIn from to i xs) ≡ length xs
-unfolding changedIn
+pub given-long : (from to i : ℕ) (xs : List Place) → length (given_in from to i xs) ≡ length xs
+unfolding changed_in
 given-long from to i [] = refl
 given-long from to i (x ∷ xs) = ap suc (given-long from to (suc i) xs)
 
 -- a loss report moves no place
-reported-place : (time : ℤ) (mean : ℕ) (e : Seen) → place_of (views.reportedSeen time mean e) ≡ place_of e
-reported-place time mean (views.lost k f) = by_bool (isDue time mean (Lost k f)) (λ t. rw t) (λ t. rw t)
+reported-place : (time : ℤ) (mean : ℕ) (e : Seen) → place_of (views.reported_seen time mean e) ≡ place_of e
+reported-place time mean (views.lost k f) = by_bool (is_due time mean (Lost k f)) (λ t. rw t) (λ t. rw t)
 reported-place time mean (views.received l m t b) = refl
-reported-place time mean views.givenUp = refl
+reported-place time mean views.given_up = refl
 
-pub reported-places : (time : ℤ) (mean : ℕ) (es : List Seen) → map place_of (map (views.reportedSeen time mean) es) ≡ map place_of es
+pub reported-places : (time : ℤ) (mean : ℕ) (es : List Seen) → map place_of (map (views.reported_seen time mean) es) ≡ map place_of es
 reported-places time mean [] = refl
 reported-places time mean (e ∷ es) = rw (reported-place time mean e, reported-places time mean es)
 
 -- the bytes of released places, one list after another
-pub released-append : (fs gs : List Fate) → releasedBytes (fs ++ gs) ≡ releasedBytes fs ++ releasedBytes gs
-unfolding releasedBytes
+pub released-append : (fs gs : List Fate) → released_bytes (fs ++ gs) ≡ released_bytes fs ++ released_bytes gs
+unfolding released_bytes
 released-append [] gs = refl
-released-append (released b ∷ fs) gs = rw (released-append fs gs) (sym (append_assoc b (releasedBytes fs) (releasedBytes gs)))
+released-append (released b ∷ fs) gs = rw (released-append fs gs) (sym (append_assoc b (released_bytes fs) (released_bytes gs)))
 released-append (discarded ∷ fs) gs = released-append fs gs
 
 -- those of a message are the bytes of its entries
-place-bytes : (e : Seen) → bytes_of (place_of e) ≡ views.bytesIn e
+place-bytes : (e : Seen) → bytes_of (place_of e) ≡ views.bytes_in e
 place-bytes (views.lost k f) = refl
 place-bytes (views.received l m t b) = refl
-place-bytes views.givenUp = refl
+place-bytes views.given_up = refl
 
-pub released-joined : (es : List Seen) → releasedBytes (map (λ x. released (bytes_of x)) (map place_of es)) ≡ views.joined es
-unfolding releasedBytes views.joined
+pub released-joined : (es : List Seen) → released_bytes (map (λ x. released (bytes_of x)) (map place_of es)) ≡ views.joined es
+unfolding released_bytes views.joined
 released-joined [] = refl
 released-joined (e ∷ es) = rw (place-bytes e, released-joined es)
 
-pub discarded-none : (xs : List Place) → releasedBytes (map (λ x. discarded) xs) ≡ []
-unfolding releasedBytes
+pub discarded-none : (xs : List Place) → released_bytes (map (λ x. discarded) xs) ≡ []
+unfolding released_bytes
 discarded-none [] = refl
 discarded-none (x ∷ xs) = discarded-none xs

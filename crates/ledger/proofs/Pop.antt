@@ -13,26 +13,26 @@ use Rattle.numbers.specs.Circular.{distance}
 use Rattle.numbers.proofs.Circle.{sum-zero, distance-sum}
 use Rattle.numbers.proofs.Flags.{by_bool, by-test}
 use Rattle.slots.specs.Words as words
-use Rattle.window.specs.Window.{number_in, entryIn}
+use Rattle.window.specs.Window.{number_in, entry_in}
 use Rattle.window.specs.Ready.{Good}
 use Rattle.window.specs.declared.Window.{Window}
 use Rattle.window_pop.specs.Pop as popping
-use Rattle.window_pop.specs.Pop.{PopOutcome, discardFront, pop_of}
+use Rattle.window_pop.specs.Pop.{PopOutcome, discard_front, pop_of}
 use Rattle.window_pop.specs.Ready.{PopReady}
 use Rattle.window_pop.specs.declared.pop.PopAnswer.{PopAnswer}
 use Rattle.window_pop.specs.declared.pop.PopAnswer.TheVariants as pops
 use Rattle.window_pop.proofs.PopLaws.{pop-cases}
-use Rattle.head.specs.Rules.{firstRefusal, popRules}
-use Rattle.head.specs.Head.{headOk}
+use Rattle.head.specs.Rules.{first_refusal, pop_rules}
+use Rattle.head.specs.Head.{head_ok}
 use Rattle.head.specs.declared.state.Head.{Head}
 use Rattle.head.proofs.Ready.{pop-ready}
-use Rattle.receiver.specs.Message.{MessageOutcome, popped, taken_of, popCallOf}
+use Rattle.receiver.specs.Message.{MessageOutcome, popped, taken_of, pop_call_of}
 use Rattle.views.specs.View as views
 use Rattle.views.specs.View.{Seen, entries, LrsnRight, joined}
 use Rattle.views.proofs.Pops.{pop-seen, pop-right, pop-handed, pop-short}
 use Rattle.paper.proofs.Reach.{refusal-under}
-use Rattle.ledger.specs.Ledger.{Place, Fate, released, discarded, bytes_of, Ledger, frontOf, leave, enterPop, receivedRun, releasedBytes}
-use Rattle.ledger.specs.Seen.{popBytes}
+use Rattle.ledger.specs.Ledger.{Place, Fate, released, discarded, bytes_of, Ledger, front_of, leave, enter_pop, received_run, released_bytes}
+use Rattle.ledger.specs.Seen.{pop_bytes}
 use Rattle.ledger.specs.Runs.{Desk, place_of}
 use Rattle.ledger.specs.Claims.{Tells}
 use Rattle.ledger.proofs.Places.{map-take, run-gap, released-append, released-joined, discarded-none}
@@ -60,7 +60,7 @@ module _ (S : ℕ → List ℕ → Type 0) (l : Ledger) (h : Head) (ws bs out : 
   -- what the call leaves
   abbrev pub Kept : MessageOutcome → Type 0
   Kept g =
-      Moved S l (enterPop l g.given.answer) g.given.head.window (entries g.given.head.window ws bs) (popBytes g.given.answer g.output)
+      Moved S l (enter_pop l g.given.answer) g.given.head.window (entries g.given.head.window ws bs) (pop_bytes g.given.answer g.output)
 
   abbrev pub Told : Desk → MessageOutcome → Type 0
   Told k g = Tells l k g.given.answer g.output
@@ -76,15 +76,15 @@ module _ (S : ℕ → List ℕ → Type 0) (l : Ledger) (h : Head) (ws bs out : 
   CalmIn x = Calm x.popped.answer
 
   calm : CalmIn (pop_of h.clock h.latency false w ws now bs out)
-  unfolding pop_of popping.frontOf popping.releasedOf popping.lateOf
+  unfolding pop_of popping.front_of popping.released_of popping.late_of
   calm =
-      by-test CalmIn (ltb 0 w.held && words.isReceived (entryIn w ws 0)) _ _
+      by-test CalmIn (ltb 0 w.held && words.is_received (entry_in w ws 0)) _ _
       (λ t.
-      by-test CalmIn (lt_z now (popping.dueOf h.clock.base h.latency (words.stampIn (entryIn w ws 0)))) _ _
+      by-test CalmIn (lt_z now (popping.due_of h.clock.base h.latency (words.stamp_in (entry_in w ws 0)))) _ _
       (λ u. tt)
       (λ u.
-      by-test CalmIn (ltb 0 (popping.messageOf w ws).packets) _ _
-      (λ x. by-test CalmIn (ltb (length out) (popping.messageOf w ws).bytes) _ _ (λ y. tt) (λ y. tt))
+      by-test CalmIn (ltb 0 (popping.message_of w ws).packets) _ _
+      (λ x. by-test CalmIn (ltb (length out) (popping.message_of w ws).bytes) _ _ (λ y. tt) (λ y. tt))
       (λ x. tt)))
       (λ t. tt)
 
@@ -107,7 +107,7 @@ module _ (S : ℕ → List ℕ → Type 0) (l : Ledger) (h : Head) (ws bs out : 
   Front x = (x.popped.window.seqno0 ≡ number_in w (takes x.popped.answer)) × (takes x.popped.answer ≤ w.held)
 
   front : Good w ws → Front o
-  unfolding discardFront
+  unfolding discard_front
   front g =
       pop-cases h.clock h.latency h.dropping w ws now bs out Front
       (sym (sum-zero 31 g.ranges.seqno0), omega arith)
@@ -118,7 +118,7 @@ module _ (S : ℕ → List ℕ → Type 0) (l : Ledger) (h : Head) (ws bs out : 
       (ap (number_in w) (sym d), omega arith))
 
   module _ (d : PopReady h.clock h.latency w ws bs now) where
-    seen : entries o.popped.window ws bs ≡ views.afterPop es o.popped.answer
+    seen : entries o.popped.window ws bs ≡ views.after_pop es o.popped.answer
     seen = pop-seen h.clock h.latency h.dropping w ws now bs out d.good
 
     right : LrsnRight o.popped.window (entries o.popped.window ws bs)
@@ -130,10 +130,10 @@ module _ (S : ℕ → List ℕ → Type 0) (l : Ledger) (h : Head) (ws bs out : 
         still
         (record {
           front = (front d.good).0 ∙ ap (λ (x : PopAnswer). number_in w (takes x)) e ∙ sum-zero 31 d.good.ranges.seqno0 ∙ a.front;
-          held = ap (map place_of) (seen ∙ ap (views.afterPop es) e) ∙ a.held;
+          held = ap (map place_of) (seen ∙ ap (views.after_pop es) e) ∙ a.held;
           right = right;
-          ownGone = a.ownGone;
-          ownHeld = a.ownHeld;
+          own_gone = a.own_gone;
+          own_held = a.own_held;
         })
 
     -- a message: its places are all received, and the output has their bytes
@@ -143,21 +143,21 @@ module _ (S : ℕ → List ℕ → Type 0) (l : Ledger) (h : Head) (ws bs out : 
         let f : Place → Fate = λ x. released (bytes_of x) in
         let m = pop-handed h.clock h.latency h.dropping w ws now bs out d.good d.payloads time bytes packets e in
         let some : packets ≤ length l.held = omega (arith, m.held, window-count ws bs a) in
-        let run : packets ≤ receivedRun l.held = subst (λ (x : List Place). packets ≤ receivedRun x) a.held (subst (λ (x : ℕ). packets ≤ x) (sym (run-gap es)) m.whole) in
-        let own = gone-released S l.first packets (frontOf l) l.held run a.ownHeld in
+        let run : packets ≤ received_run l.held = subst (λ (x : List Place). packets ≤ received_run x) a.held (subst (λ (x : ℕ). packets ≤ x) (sym (run-gap es)) m.whole) in
+        let own = gone-released S l.first packets (front_of l) l.held run a.own_held in
         let laid : take bytes o.output ≡ joined (take packets es) =
         ap (take bytes) m.output ∙ take_at (joined (take packets es)) (drop bytes out) bytes (sym m.long) in
         let places : take packets l.held ≡ map place_of (take packets es) = ap (take packets) (sym a.held) ∙ sym (map-take place_of packets es) in
-        let bytes-of : releasedBytes (map f (take packets l.held)) ≡ take bytes o.output =
-        ap (λ (x : List Place). releasedBytes (map f x)) places ∙ released-joined (take packets es) ∙ sym laid in
+        let bytes-of : released_bytes (map f (take packets l.held)) ≡ take bytes o.output =
+        ap (λ (x : List Place). released_bytes (map f x)) places ∙ released-joined (take packets es) ∙ sym laid in
         record {
           stands =
               left-stands S l w es a packets f some o.popped.window (entries o.popped.window ws bs)
               ((front d.good).0 ∙ ap (λ (x : PopAnswer). number_in w (takes x)) e)
-              (seen ∙ ap (views.afterPop es) e)
+              (seen ∙ ap (views.after_pop es) e)
               right
               own;
-          handed = released-append l.gone (map f (take packets l.held)) ∙ ap (λ (x : List ℕ). releasedBytes l.gone ++ x) bytes-of;
+          handed = released-append l.gone (map f (take packets l.held)) ∙ ap (λ (x : List ℕ). released_bytes l.gone ++ x) bytes-of;
         }
 
     -- a late drop
@@ -171,10 +171,10 @@ module _ (S : ℕ → List ℕ → Type 0) (l : Ledger) (h : Head) (ws bs out : 
           stands =
               left-stands S l w es a n f some o.popped.window (entries o.popped.window ws bs)
               ((front d.good).0 ∙ ap (λ (x : PopAnswer). number_in w (takes x)) e)
-              (seen ∙ ap (views.afterPop es) e)
+              (seen ∙ ap (views.after_pop es) e)
               right
-              (gone-discarded S l.first (frontOf l) (take n l.held));
-          handed = released-append l.gone (map f (take n l.held)) ∙ ap (λ (x : List ℕ). releasedBytes l.gone ++ x) (discarded-none (take n l.held));
+              (gone-discarded S l.first (front_of l) (take n l.held));
+          handed = released-append l.gone (map f (take n l.held)) ∙ ap (λ (x : List ℕ). released_bytes l.gone ++ x) (discarded-none (take n l.held));
         }
 
     by_answer : (x : PopAnswer) → o.popped.answer ≡ x → Kept (popped h now o)
@@ -191,7 +191,7 @@ module _ (S : ℕ → List ℕ → Type 0) (l : Ledger) (h : Head) (ws bs out : 
     Named pops.OutShort = Unit
 
     named : Named o.popped.answer
-    unfolding discardFront
+    unfolding discard_front
     named =
         pop-cases h.clock h.latency h.dropping w ws now bs out (λ (x : PopOutcome). Named x.popped.answer)
         tt
@@ -206,38 +206,38 @@ module _ (S : ℕ → List ℕ → Type 0) (l : Ledger) (h : Head) (ws bs out : 
     tells k y (pops.Message time bytes packets) e =
         let m = pop-handed h.clock h.latency h.dropping w ws now bs out d.good d.payloads time bytes packets e in
         let f : Place → Fate = λ x. released (bytes_of x) in
-        let run : packets ≤ receivedRun l.held = subst (λ (x : List Place). packets ≤ receivedRun x) a.held (subst (λ (x : ℕ). packets ≤ x) (sym (run-gap es)) m.whole) in
+        let run : packets ≤ received_run l.held = subst (λ (x : List Place). packets ≤ received_run x) a.held (subst (λ (x : ℕ). packets ≤ x) (sym (run-gap es)) m.whole) in
         let places : take packets l.held ≡ map place_of (take packets es) = ap (take packets) (sym a.held) ∙ sym (map-take place_of packets es) in
         let laid : take bytes o.output ≡ joined (take packets es) =
         ap (take bytes) m.output ∙ take_at (joined (take packets es)) (drop bytes out) bytes (sym m.long) in
-        let same : releasedBytes (map f (take packets l.held)) ≡ joined (take packets es) = ap (λ (x : List Place). releasedBytes (map f x)) places ∙ released-joined (take packets es) in
+        let same : released_bytes (map f (take packets l.held)) ≡ joined (take packets es) = ap (λ (x : List Place). released_bytes (map f x)) places ∙ released-joined (take packets es) in
         rw e (m.some, run, laid ∙ sym same, m.long ∙ ap length (sym same))
     tells k y (pops.Late first end delay) e =
         let n = subst Named e named in
         let some : distance 31 end first ≤ length l.held = subst (λ (x : ℕ). distance 31 end first ≤ x) (window-count ws bs a) (subst (λ (x : PopAnswer). takes x ≤ w.held) e (front d.good).1) in
         rw e (sym y ∙ dropping first end delay e, n.0, some, n.1 ∙ a.front, n.2 ∙ place-number a (distance 31 end first))
     tells k y pops.OutShort e =
-        let m = (popping.messageOf w ws).packets in
+        let m = (popping.message_of w ws).packets in
         let q = pop-short h.clock h.latency h.dropping w ws now bs out d.good d.payloads e in
         let f : Place → Fate = λ x. released (bytes_of x) in
-        let run : m ≤ receivedRun l.held = subst (λ (x : List Place). m ≤ receivedRun x) a.held (subst (λ (x : ℕ). m ≤ x) (sym (run-gap es)) q.1) in
+        let run : m ≤ received_run l.held = subst (λ (x : List Place). m ≤ received_run x) a.held (subst (λ (x : ℕ). m ≤ x) (sym (run-gap es)) q.1) in
         let places : take m l.held ≡ map place_of (take m es) = ap (take m) (sym a.held) ∙ sym (map-take place_of m es) in
-        let same : releasedBytes (map f (take m l.held)) ≡ joined (take m es) = ap (λ (x : List Place). releasedBytes (map f x)) places ∙ released-joined (take m es) in
-        let long : length out < length (releasedBytes (map f (take m l.held))) = omega (arith, q.2, ap length same) in
+        let same : released_bytes (map f (take m l.held)) ≡ joined (take m es) = ap (λ (x : List Place). released_bytes (map f x)) places ∙ released-joined (take m es) in
+        let long : length out < length (released_bytes (map f (take m l.held))) = omega (arith, q.2, ap length same) in
         let stays : o.output ≡ out = output-stays e in
-        rw e (λ z. (m, q.0, run, subst (λ (x : List ℕ). length x < length (releasedBytes (map f (take m l.held)))) (sym stays) long))
+        rw e (λ z. (m, q.0, run, subst (λ (x : List ℕ). length x < length (released_bytes (map f (take m l.held)))) (sym stays) long))
 
   -- the call
-  pub pop-stands : Kept (popCallOf h ws bs out now)
-  unfolding popCallOf taken_of
+  pub pop-stands : Kept (pop_call_of h ws bs out now)
+  unfolding pop_call_of taken_of
   pop-stands =
-      by-refusal Kept (firstRefusal (popRules (headOk h) w.capacity (length ws) (length bs) now h.latest)) _ _
+      by-refusal Kept (first_refusal (pop_rules (head_ok h) w.capacity (length ws) (length bs) now h.latest)) _ _
       (λ z. by_answer (pop-ready h now ws bs z) o.popped.answer refl)
       (λ z. still a)
 
-  pub pop-tells : (k : Desk) → h.dropping ≡ k.dropping → Told k (popCallOf h ws bs out now)
-  unfolding popCallOf taken_of
+  pub pop-tells : (k : Desk) → h.dropping ≡ k.dropping → Told k (pop_call_of h ws bs out now)
+  unfolding pop_call_of taken_of
   pop-tells k y =
-      by-refusal (Told k) (firstRefusal (popRules (headOk h) w.capacity (length ws) (length bs) now h.latest)) _ _
+      by-refusal (Told k) (first_refusal (pop_rules (head_ok h) w.capacity (length ws) (length bs) now h.latest)) _ _
       (λ z. tells (pop-ready h now ws bs z) k y o.popped.answer refl)
-      (λ z e. absurd (omega (arith, e, refusal-under 4 0 (popRules (headOk h) w.capacity (length ws) (length bs) now h.latest) (omega arith) (lit≤ tt, (lit≤ tt, (lit≤ tt, (lit≤ tt, (lit≤ tt, tt))))))))
+      (λ z e. absurd (omega (arith, e, refusal-under 4 0 (pop_rules (head_ok h) w.capacity (length ws) (length bs) now h.latest) (omega arith) (lit≤ tt, (lit≤ tt, (lit≤ tt, (lit≤ tt, (lit≤ tt, tt))))))))

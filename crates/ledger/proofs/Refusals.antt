@@ -9,7 +9,7 @@ use lib.Dec.{eqb}
 use lib.IntN.{ℤ}
 use lib.ListN.{length}
 use Rattle.numbers.proofs.Flags.{by-test}
-use Rattle.acks.specs.History.{ack2Of, fullAckOf, lightAckOf}
+use Rattle.acks.specs.History.{ack2_of, full_ack_of, light_ack_of}
 use Rattle.acks.specs.declared.history.History.{History}
 use Rattle.acks.specs.declared.history.AckAnswer.{AckAnswer}
 use Rattle.acks.specs.declared.history.AckAnswer.TheVariants as acks
@@ -19,8 +19,8 @@ use Rattle.clock.specs.Sync.{synchronized}
 use Rattle.clock.specs.declared.time.SynchronizedRemoteClock.{SynchronizedRemoteClock}
 use Rattle.clock.specs.declared.time.Synchronized.{Synchronized}
 use Rattle.clock.specs.declared.time.Synchronized.TheVariants as clocks
-use Rattle.window.specs.Window.{roomOf}
-use Rattle.window.specs.Push.{pushOf}
+use Rattle.window.specs.Window.{room_of}
+use Rattle.window.specs.Push.{push_of}
 use Rattle.window.specs.declared.Window.{Window}
 use Rattle.window.specs.declared.push.Packet.{Packet}
 use Rattle.window.specs.declared.push.PushAnswer.{PushAnswer}
@@ -28,42 +28,42 @@ use Rattle.window.specs.declared.push.PushAnswer.TheVariants as pushes
 use Rattle.window_pop.specs.Pop.{pop_of}
 use Rattle.window_pop.specs.declared.pop.PopAnswer.{PopAnswer}
 use Rattle.window_pop.specs.declared.pop.PopAnswer.TheVariants as pops
-use Rattle.window_report.specs.Report.{reportOf}
+use Rattle.window_report.specs.Report.{report_of}
 use Rattle.window_report.specs.declared.report.ReportAnswer.{ReportAnswer}
 use Rattle.window_report.specs.declared.report.ReportAnswer.TheVariants as reports
 use Rattle.head.specs.Paper as paper
-use Rattle.head.specs.Parts.{withLatest}
-use Rattle.head.specs.Rules.{firstRefusal, pushRules, popRules, timedRules, dropRules, clockRules}
-use Rattle.head.specs.Head.{headOk}
+use Rattle.head.specs.Parts.{with_latest}
+use Rattle.head.specs.Rules.{first_refusal, push_rules, pop_rules, timed_rules, drop_rules, clock_rules}
+use Rattle.head.specs.Head.{head_ok}
 use Rattle.head.specs.declared.state.Head.{Head}
 use Rattle.receiver.specs.Data as receiving
-use Rattle.receiver.specs.Data.{DataOutcome, packet, gotAnswer, ackedOf, gotOf, taken_of, dataCallOf}
+use Rattle.receiver.specs.Data.{DataOutcome, packet, got_answer, acked_of, got_of, taken_of, data_call_of}
 use Rattle.receiver.specs.Message as message
-use Rattle.receiver.specs.Message.{MessageOutcome, popCallOf}
-use Rattle.feedback.specs.Acking.{FullAckOutcome, fullAckEnded, Ack2Outcome, afterAck, afterAck2, roomyAck, dueAck, fullAckCallOf, heldAck2, ack2CallOf}
+use Rattle.receiver.specs.Message.{MessageOutcome, pop_call_of}
+use Rattle.feedback.specs.Acking.{FullAckOutcome, full_ack_ended, Ack2Outcome, after_ack, after_ack2, roomy_ack, due_ack, full_ack_call_of, held_ack2, ack2_call_of}
 use Rattle.feedback.specs.declared.acking.FullAckAnswer.TheVariants as answered
-use Rattle.feedback.specs.Loss.{LossOutcome, answer_of, reportedOf, reportCallOf}
-use Rattle.feedback.specs.Sync.{ClockOutcome, afterSync, syncOf, clockCallOf}
-use Rattle.upkeep.specs.Request.{DropOutcome, dropCallOf}
+use Rattle.feedback.specs.Loss.{LossOutcome, answer_of, reported_of, report_call_of}
+use Rattle.feedback.specs.Sync.{ClockOutcome, after_sync, sync_of, clock_call_of}
+use Rattle.upkeep.specs.Request.{DropOutcome, drop_call_of}
 use Rattle.step.specs.Step.{State, Lent, line_of, step_of}
 use Rattle.step.specs.declared.Call.{Call}
 use Rattle.step.specs.declared.Call.TheVariants as calls
 use Rattle.step.specs.declared.Answer.{Answer}
 use Rattle.step.specs.declared.Answer.TheVariants as answers
-use Rattle.ledger.specs.Seen.{NotClear, refusalIn}
+use Rattle.ledger.specs.Seen.{NotClear, refusal_in}
 use Rattle.ledger.specs.Runs.{Desk, Known}
-use Rattle.ledger.specs.Claims.{Later, Refuses, earlyBy, earlyRefusal}
+use Rattle.ledger.specs.Claims.{Later, Refuses, early_by, early_refusal}
 use Rattle.ledger.proofs.Moves.{by-refusal}
 
 -- an answer that is no refusal, a later refusal, and one of 1 to 6
 module _ {n : ℕ} {c : Call} {a : Answer} where
-  unrefused : n ≡ 0 → refusalIn a ≡ 0 → ((line_of a []).word ≡ paper.refused → ⊥) → Refuses n c a
+  unrefused : n ≡ 0 → refusal_in a ≡ 0 → ((line_of a []).word ≡ paper.refused → ⊥) → Refuses n c a
   unrefused z e w = record { tested = inl (e ∙ sym z); numbered = λ q. absurd (w q) }
 
-  later : n ≡ 0 → Later c (refusalIn a) → 0 < refusalIn a → Refuses n c a
+  later : n ≡ 0 → Later c (refusal_in a) → 0 < refusal_in a → Refuses n c a
   later z e m = record { tested = inr (z, e); numbered = λ q. m }
 
-  earlier : (n ≡ 0 → ⊥) → refusalIn a ≡ n → Refuses n c a
+  earlier : (n ≡ 0 → ⊥) → refusal_in a ≡ n → Refuses n c a
   earlier z e = record { tested = inl e; numbered = λ q. omega (arith, z, e) }
 
 module _ (h : Head) (ws bs : List ℕ) (now : ℤ) where
@@ -75,27 +75,27 @@ module _ (h : Head) (ws bs : List ℕ) (now : ℤ) where
     p = packet number message location stamp
 
     abbrev tests : ℕ
-    tests = firstRefusal (pushRules (headOk h) h.window.capacity (length ws) (length bs) now h.latest p (length payload))
+    tests = first_refusal (push_rules (head_ok h) h.window.capacity (length ws) (length bs) now h.latest p (length payload))
 
-    got : (n : ℕ) → n ≡ 0 → (light : Bool) (lrsn : ℕ) (recovered : Bool) → Refuses n c (answers.Data (gotAnswer light lrsn recovered))
+    got : (n : ℕ) → n ≡ 0 → (light : Bool) (lrsn : ℕ) (recovered : Bool) → Refuses n c (answers.Data (got_answer light lrsn recovered))
     got n z true lrsn recovered = unrefused z refl (λ q. let x : ◌≡◌ {A = ℕ} 0 1 = cc in omega arith)
     got n z false lrsn recovered = unrefused z refl (λ q. let x : ◌≡◌ {A = ℕ} 0 1 = cc in omega arith)
 
-    pushed : (n : ℕ) → n ≡ 0 → (v : Window) (a : PushAnswer) (size : ℕ) → Refuses n c (answers.Data (receiving.afterPush h v a now number size).answer)
-    unfolding gotOf ackedOf
+    pushed : (n : ℕ) → n ≡ 0 → (v : Window) (a : PushAnswer) (size : ℕ) → Refuses n c (answers.Data (receiving.after_push h v a now number size).answer)
+    unfolding got_of acked_of
     pushed n z v (pushes.Got lrsn recovered) size =
-        got n z (lightAckOf (receiving.placed_of (cond recovered h (receiving.ratedOf h now number size)) v now).history lrsn).light lrsn recovered
+        got n z (light_ack_of (receiving.placed_of (cond recovered h (receiving.rated_of h now number size)) v now).history lrsn).light lrsn recovered
     pushed n z v (pushes.Loss first last) size = unrefused z refl (λ q. let x : ◌≡◌ {A = ℕ} 0 1 = cc in omega arith)
     pushed n z v pushes.BufferFull size = later z (omega arith, omega arith) (omega arith)
     pushed n z v (pushes.PacketTooEarly room need) size = later z (omega arith, omega arith) (omega arith)
     pushed n z v pushes.PacketTooLate size = later z (omega arith, omega arith) (omega arith)
     pushed n z v pushes.DiscardedDuplicate size = later z (omega arith, omega arith) (omega arith)
 
-    data-refuses : Refuses tests c (answers.Data (dataCallOf h ws bs now p payload).handled.answer)
-    unfolding dataCallOf taken_of
+    data-refuses : Refuses tests c (answers.Data (data_call_of h ws bs now p payload).handled.answer)
+    unfolding data_call_of taken_of
     data-refuses =
         by-refusal (λ (o : DataOutcome). Refuses tests c (answers.Data o.handled.answer)) tests _ _
-        (λ z. let o = pushOf h.window ws bs now p payload in pushed tests z o.pushed.window o.pushed.answer (length payload))
+        (λ z. let o = push_of h.window ws bs now p payload in pushed tests z o.pushed.window o.pushed.answer (length payload))
         (λ z. earlier z refl)
 
   popped : (n : ℕ) → n ≡ 0 → (a : PopAnswer) → Refuses n (calls.Pop now) (answers.Pop (message.answer_of a))
@@ -105,10 +105,10 @@ module _ (h : Head) (ws bs : List ℕ) (now : ℤ) where
   popped n z pops.OutShort = later z refl (omega arith)
 
   pop-refuses : (out : List ℕ)
-      → Refuses (firstRefusal (popRules (headOk h) h.window.capacity (length ws) (length bs) now h.latest)) (calls.Pop now) (answers.Pop (popCallOf h ws bs out now).given.answer)
-  unfolding popCallOf message.taken_of
+      → Refuses (first_refusal (pop_rules (head_ok h) h.window.capacity (length ws) (length bs) now h.latest)) (calls.Pop now) (answers.Pop (pop_call_of h ws bs out now).given.answer)
+  unfolding pop_call_of message.taken_of
   pop-refuses out =
-      let n = firstRefusal (popRules (headOk h) h.window.capacity (length ws) (length bs) now h.latest) in
+      let n = first_refusal (pop_rules (head_ok h) h.window.capacity (length ws) (length bs) now h.latest) in
       by-refusal (λ (o : MessageOutcome). Refuses n (calls.Pop now) (answers.Pop o.given.answer)) n _ _
       (λ z. popped n z (pop_of h.clock h.latency h.dropping h.window ws now bs out).popped.answer)
       (λ z. earlier z refl)
@@ -119,74 +119,74 @@ module _ (h : Head) (ws bs : List ℕ) (now : ℤ) where
   reported n z reports.ListShort = later z refl (omega arith)
 
   report-refuses : (list : List ℕ)
-      → Refuses (firstRefusal (timedRules (headOk h) (length ws) (3 * h.window.capacity) now h.latest)) (calls.Report now) (answers.Report (reportCallOf h ws list now).reported.answer)
-  unfolding reportCallOf reportedOf
+      → Refuses (first_refusal (timed_rules (head_ok h) (length ws) (3 * h.window.capacity) now h.latest)) (calls.Report now) (answers.Report (report_call_of h ws list now).reported.answer)
+  unfolding report_call_of reported_of
   report-refuses list =
-      let n = firstRefusal (timedRules (headOk h) (length ws) (3 * h.window.capacity) now h.latest) in
+      let n = first_refusal (timed_rules (head_ok h) (length ws) (3 * h.window.capacity) now h.latest) in
       by-refusal (λ (o : LossOutcome). Refuses n (calls.Report now) (answers.Report o.reported.answer)) n _ _
-      (λ z. reported n z (reportOf h.window ws now h.rtt.mean list).answer)
+      (λ z. reported n z (report_of h.window ws now h.rtt.mean list).answer)
       (λ z. earlier z refl)
 
 module _ (h : Head) (b : List ℕ) (now : ℤ) where
   abbrev timed : ℕ
-  timed = firstRefusal (timedRules (headOk h) (length b) 2048 now h.latest)
+  timed = first_refusal (timed_rules (head_ok h) (length b) 2048 now h.latest)
 
-  acked : (n : ℕ) → n ≡ 0 → (y : History) (x : AckAnswer) → Refuses n (calls.FullAck now) (answers.FullAck (afterAck h y x now).answer)
+  acked : (n : ℕ) → n ≡ 0 → (y : History) (x : AckAnswer) → Refuses n (calls.FullAck now) (answers.FullAck (after_ack h y x now).answer)
   acked n z y acks.Nothing = unrefused z refl (λ q. let x : ◌≡◌ {A = ℕ} 0 1 = cc in omega arith)
   acked n z y acks.Worn = later z refl (omega arith)
   acked n z y (acks.Ack k) = unrefused z refl (λ q. let x : ◌≡◌ {A = ℕ} 0 1 = cc in omega arith)
 
-  full-ack-refuses : Refuses timed (calls.FullAck now) (answers.FullAck (fullAckCallOf h b now).acked.answer)
-  unfolding fullAckCallOf dueAck roomyAck
+  full-ack-refuses : Refuses timed (calls.FullAck now) (answers.FullAck (full_ack_call_of h b now).acked.answer)
+  unfolding full_ack_call_of due_ack roomy_ack
   full-ack-refuses =
       by-refusal (λ (o : FullAckOutcome). Refuses timed (calls.FullAck now) (answers.FullAck o.acked.answer)) timed _ _
       (λ z.
-      by-test (λ (o : FullAckOutcome). Refuses timed (calls.FullAck now) (answers.FullAck o.acked.answer)) (eqb (roomOf h.window) 0)
-      (fullAckEnded (record { head = withLatest h now; answer = answered.Nothing }) b) (roomyAck h b now)
+      by-test (λ (o : FullAckOutcome). Refuses timed (calls.FullAck now) (answers.FullAck o.acked.answer)) (eqb (room_of h.window) 0)
+      (full_ack_ended (record { head = with_latest h now; answer = answered.Nothing }) b) (roomy_ack h b now)
       (λ t. unrefused z refl (λ q. let x : ◌≡◌ {A = ℕ} 0 1 = cc in omega arith))
-      (λ t. let k = fullAckOf h.history b now h.rtt.mean h.latency h.window.lrsn in acked timed z k.acked.history k.acked.answer))
+      (λ t. let k = full_ack_of h.history b now h.rtt.mean h.latency h.window.lrsn in acked timed z k.acked.history k.acked.answer))
       (λ z. earlier z refl)
 
-  acked2 : (n : ℕ) → n ≡ 0 → (number : ℕ) (y : History) (x : Ack2Answer) → Refuses n (calls.Ack2 now number) (answers.Ack2 (afterAck2 h y x now).answer)
+  acked2 : (n : ℕ) → n ≡ 0 → (number : ℕ) (y : History) (x : Ack2Answer) → Refuses n (calls.Ack2 now number) (answers.Ack2 (after_ack2 h y x now).answer)
   acked2 n z number y acks2.NotHeld = unrefused z refl (λ q. let x : ◌≡◌ {A = ℕ} 0 1 = cc in omega arith)
   acked2 n z number y (acks2.Held r) = unrefused z refl (λ q. let x : ◌≡◌ {A = ℕ} 0 1 = cc in omega arith)
 
-  ack2-refuses : (number : ℕ) → Refuses timed (calls.Ack2 now number) (answers.Ack2 (ack2CallOf h b now number).acked2.answer)
-  unfolding ack2CallOf heldAck2
+  ack2-refuses : (number : ℕ) → Refuses timed (calls.Ack2 now number) (answers.Ack2 (ack2_call_of h b now number).acked2.answer)
+  unfolding ack2_call_of held_ack2
   ack2-refuses number =
       by-refusal (λ (o : Ack2Outcome). Refuses timed (calls.Ack2 now number) (answers.Ack2 o.acked2.answer)) timed _ _
-      (λ z. let k = ack2Of h.history b now number in acked2 timed z number k.history k.answer)
+      (λ z. let k = ack2_of h.history b now number in acked2 timed z number k.history k.answer)
       (λ z. earlier z refl)
 
-  synced : (n : ℕ) → n ≡ 0 → (stamp : ℕ) (k : SynchronizedRemoteClock) (x : Synchronized) → Refuses n (calls.Clock now stamp) (answers.Clock (afterSync h k x now).answer)
+  synced : (n : ℕ) → n ≡ 0 → (stamp : ℕ) (k : SynchronizedRemoteClock) (x : Synchronized) → Refuses n (calls.Clock now stamp) (answers.Clock (after_sync h k x now).answer)
   synced n z stamp k clocks.Nothing = unrefused z refl (λ q. let x : ◌≡◌ {A = ℕ} 0 1 = cc in omega arith)
   synced n z stamp k (clocks.Adjusted mean deviation) = unrefused z refl (λ q. let x : ◌≡◌ {A = ℕ} 0 1 = cc in omega arith)
   synced n z stamp k (clocks.Unsteady deviation v) = unrefused z refl (λ q. let x : ◌≡◌ {A = ℕ} 0 1 = cc in omega arith)
   synced n z stamp k clocks.DriftRange = later z refl (omega arith)
 
-  clock-refuses : (stamp : ℕ) → Refuses (firstRefusal (clockRules (headOk h) now h.latest)) (calls.Clock now stamp) (answers.Clock (clockCallOf h now stamp).clocked.answer)
-  unfolding clockCallOf syncOf
+  clock-refuses : (stamp : ℕ) → Refuses (first_refusal (clock_rules (head_ok h) now h.latest)) (calls.Clock now stamp) (answers.Clock (clock_call_of h now stamp).clocked.answer)
+  unfolding clock_call_of sync_of
   clock-refuses stamp =
-      let n = firstRefusal (clockRules (headOk h) now h.latest) in
+      let n = first_refusal (clock_rules (head_ok h) now h.latest) in
       by-refusal (λ (o : ClockOutcome). Refuses n (calls.Clock now stamp) (answers.Clock o.clocked.answer)) n _ _
       (λ z. let k = synchronized h.clock now stamp in synced n z stamp k.clock k.answer)
       (λ z. earlier z refl)
 
 drop-refuses : (h : Head) (ws : List ℕ) (first last : ℕ)
-    → Refuses (firstRefusal (dropRules (headOk h) h.window.capacity (length ws) first last)) (calls.Drop first last) (answers.Drop (dropCallOf h ws first last).answer)
-unfolding dropCallOf
+    → Refuses (first_refusal (drop_rules (head_ok h) h.window.capacity (length ws) first last)) (calls.Drop first last) (answers.Drop (drop_call_of h ws first last).answer)
+unfolding drop_call_of
 drop-refuses h ws first last =
-    let n = firstRefusal (dropRules (headOk h) h.window.capacity (length ws) first last) in
+    let n = first_refusal (drop_rules (head_ok h) h.window.capacity (length ws) first last) in
     by-refusal (λ (o : DropOutcome). Refuses n (calls.Drop first last) (answers.Drop o.answer)) n _ _
     (λ z. unrefused z refl (λ q. let x : ◌≡◌ {A = ℕ} 0 1 = cc in omega arith))
     (λ z. earlier z refl)
 
 -- the same tests on the head and areas as they are
-abbrev pub refusalNow : State → Lent → Call → ℕ
-refusalNow s t c =
-    earlyBy (headOk s.head) s.head.window.capacity (length s.slots) (length s.payloads) (length s.history) s.head.latest t c
+abbrev pub refusal_now : State → Lent → Call → ℕ
+refusal_now s t c =
+    early_by (head_ok s.head) s.head.window.capacity (length s.slots) (length s.payloads) (length s.history) s.head.latest t c
 
-step-refuses : (s : State) (t : Lent) (c : Call) → NotClear c → Refuses (refusalNow s t c) c (step_of s t c).answer
+step-refuses : (s : State) (t : Lent) (c : Call) → NotClear c → Refuses (refusal_now s t c) c (step_of s t c).answer
 step-refuses s t (calls.Data time number message location stamp) k = data-refuses s.head s.slots s.payloads time number message location stamp t.payload
 step-refuses s t (calls.Pop time) k = pop-refuses s.head s.slots s.payloads time t.output
 step-refuses s t (calls.Report time) k = report-refuses s.head s.slots s.payloads time t.list
@@ -197,14 +197,14 @@ step-refuses s t (calls.Clock time stamp) k = clock-refuses s.head s.history tim
 step-refuses s t calls.Clear k = absurd k
 
 -- and by what the station knows
-pub known-refusal : {d : Desk} {s : State} (t : Lent) (c : Call) → Known d s → headOk s.head ≡ true → refusalNow s t c ≡ earlyRefusal d t c
+pub known-refusal : {d : Desk} {s : State} (t : Lent) (c : Call) → Known d s → head_ok s.head ≡ true → refusal_now s t c ≡ early_refusal d t c
 known-refusal {d = d} {s = s} t c k o =
-    ap (λ (x : Bool). earlyBy x s.head.window.capacity (length s.slots) (length s.payloads) (length s.history) s.head.latest t c) o
-    ∙ ap (λ (x : ℕ). earlyBy true x (length s.slots) (length s.payloads) (length s.history) s.head.latest t c) k.capacity
-    ∙ ap (λ (x : ℕ). earlyBy true d.capacity x (length s.payloads) (length s.history) s.head.latest t c) k.slots
-    ∙ ap (λ (x : ℕ). earlyBy true d.capacity d.slots x (length s.history) s.head.latest t c) k.payloads
-    ∙ ap (λ (x : ℕ). earlyBy true d.capacity d.slots d.payloads x s.head.latest t c) k.history
-    ∙ ap (λ (x : ℤ). earlyBy true d.capacity d.slots d.payloads d.history x t c) k.latest
+    ap (λ (x : Bool). early_by x s.head.window.capacity (length s.slots) (length s.payloads) (length s.history) s.head.latest t c) o
+    ∙ ap (λ (x : ℕ). early_by true x (length s.slots) (length s.payloads) (length s.history) s.head.latest t c) k.capacity
+    ∙ ap (λ (x : ℕ). early_by true d.capacity x (length s.payloads) (length s.history) s.head.latest t c) k.slots
+    ∙ ap (λ (x : ℕ). early_by true d.capacity d.slots x (length s.history) s.head.latest t c) k.payloads
+    ∙ ap (λ (x : ℕ). early_by true d.capacity d.slots d.payloads x s.head.latest t c) k.history
+    ∙ ap (λ (x : ℤ). early_by true d.capacity d.slots d.payloads d.history x t c) k.latest
 
-pub station-refuses : {d : Desk} (s : State) (t : Lent) (c : Call) → NotClear c → Known d s → headOk s.head ≡ true → Refuses (earlyRefusal d t c) c (step_of s t c).answer
+pub station-refuses : {d : Desk} (s : State) (t : Lent) (c : Call) → NotClear c → Known d s → head_ok s.head ≡ true → Refuses (early_refusal d t c) c (step_of s t c).answer
 station-refuses s t c p k o = subst (λ (n : ℕ). Refuses n c (step_of s t c).answer) (known-refusal t c k o) (step-refuses s t c p)

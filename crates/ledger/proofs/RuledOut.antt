@@ -14,10 +14,10 @@ use Rattle.numbers.proofs.Circle.{distance_self, before-not}
 use Rattle.numbers.proofs.Flags.{impossible, and_left, by_bool, by-order}
 use Rattle.numbers.proofs.Places.{place-one, place-distance}
 use Rattle.window.proofs.Ranges.{in_window}
-use Rattle.head.specs.Rules.{thenOf}
+use Rattle.head.specs.Rules.{then_of}
 use Rattle.head.specs.Head.{made_of}
 use Rattle.head.proofs.Ready.{in_parts}
-use Rattle.receiver.specs.Paper.{dataLine}
+use Rattle.receiver.specs.Paper.{data_line}
 use Rattle.receiver.specs.declared.data.DataAnswer.{DataAnswer}
 use Rattle.receiver.specs.declared.data.DataAnswer.TheVariants as datas
 use Rattle.receiver.specs.declared.message.MessageAnswer.{MessageAnswer}
@@ -31,17 +31,17 @@ use Rattle.step.specs.declared.Answer.TheVariants as answers
 use Rattle.views.specs.Lists.{run_of}
 use Rattle.views.specs.View.{Seen, entries}
 use Rattle.views.proofs.Lists.{entries-length}
-use Rattle.ledger.specs.Seen.{NotClear, appends, recovers, isLoss, kindIn, refusalIn, kind_of}
-use Rattle.ledger.specs.Ledger.{Place, received, Ledger, number_of, frontOf, next_of, ackOf, lostCount, enterData, enter, lost, Fate, released, discarded, isReceived, receivedRun, releasedBytes}
-use Rattle.ledger.specs.Runs.{Event, Book, bookAfter, Fresh, freshDesk, fresh, NoneClear, place_of, handedOut, Sent}
+use Rattle.ledger.specs.Seen.{NotClear, appends, recovers, is_loss, kind_in, refusal_in, kind_of}
+use Rattle.ledger.specs.Ledger.{Place, received, Ledger, number_of, front_of, next_of, ack_of, lost_count, enter_data, enter, lost, Fate, released, discarded, is_received, received_run, released_bytes}
+use Rattle.ledger.specs.Runs.{Event, Book, book_after, Fresh, fresh_desk, fresh, NoneClear, place_of, handed_out, Sent}
 use Rattle.ledger.specs.Runs as runs
-use Rattle.ledger.specs.Claims.{DataAcks, Acks, Judges, Later, Refuses, earlyRefusal, Says, Demand3, Tells, frontBytes}
+use Rattle.ledger.specs.Claims.{DataAcks, Acks, Judges, Later, Refuses, early_refusal, Says, Demand3, Tells, front_bytes}
 
 abbrev sight : State → List Seen
 sight s = entries s.head.window s.slots s.payloads
 
 -- an answer of the kind of a data packet is one
-data-only : (a : Answer) → kindIn a ≡ 1 → (x : DataAnswer) × (a ≡ answers.Data x)
+data-only : (a : Answer) → kind_in a ≡ 1 → (x : DataAnswer) × (a ≡ answers.Data x)
 data-only (answers.Data x) e = (x, refl)
 data-only (answers.Pop x) e = absurd (omega arith)
 data-only (answers.Report x) e = absurd (omega arith)
@@ -52,7 +52,7 @@ data-only (answers.Clock x) e = absurd (omega arith)
 data-only (answers.Clear x) e = absurd (omega arith)
 
 -- one more place is held after a packet that came in order
-one_more : (l : Ledger) (number : ℕ) (bytes : List ℕ) (x : DataAnswer) → appends x ≡ true → length (enterData l number bytes x).held ≡ length l.held + 1
+one_more : (l : Ledger) (number : ℕ) (bytes : List ℕ) (x : DataAnswer) → appends x ≡ true → length (enter_data l number bytes x).held ≡ length l.held + 1
 one_more l number bytes (datas.Got lrsn true) e = impossible (sym e)
 one_more l number bytes (datas.Got lrsn false) e = length-append l.held (received bytes ∷ [])
 one_more l number bytes (datas.Light lrsn true) e = impossible (sym e)
@@ -62,19 +62,19 @@ one_more l number bytes (datas.Refused n) e = impossible (sym e)
 one_more l number bytes (datas.PacketTooEarly room need) e = impossible (sym e)
 
 -- of the received places in front: each is received, and there are no more than are held
-run-received : (xs : List Place) (i : ℕ) → i < receivedRun xs → isReceived (get_or xs i lost) ≡ true
+run-received : (xs : List Place) (i : ℕ) → i < received_run xs → is_received (get_or xs i lost) ≡ true
 unfolding run_of
 run-received [] i h = absurd (omega arith)
-run-received (x ∷ xs) zero h = by_bool (isReceived x) (λ t. t) (λ t. absurd (let k = rw t at h in omega arith))
+run-received (x ∷ xs) zero h = by_bool (is_received x) (λ t. t) (λ t. absurd (let k = rw t at h in omega arith))
 run-received (x ∷ xs) (suc i) h =
-    by_bool (isReceived x)
+    by_bool (is_received x)
     (λ t. run-received xs i (let k = rw t at h in omega arith))
     (λ t. absurd (let k = rw t at h in omega arith))
 
-run-within : (xs : List Place) → receivedRun xs ≤ length xs
+run-within : (xs : List Place) → received_run xs ≤ length xs
 unfolding run_of
 run-within [] = omega arith
-run-within (x ∷ xs) = by_bool (isReceived x) (λ t. rw t (let k = run-within xs in omega arith)) (λ t. rw t (omega arith))
+run-within (x ∷ xs) = by_bool (is_received x) (λ t. rw t (let k = run-within xs in omega arith)) (λ t. rw t (omega arith))
 
 -- no packet among these calls
 abbrev pub NoData : List Event → Type 0
@@ -85,17 +85,17 @@ none-sent : (past : List Event) (number : ℕ) (bytes : List ℕ) → NoData pas
 none-sent _ _ _ d (runs.now time number message location stamp t past) = d.0 refl
 none-sent _ _ _ d (runs.before e past number bytes h) = none-sent past number bytes d.1 h
 
-none-released : (fs : List Fate) → ((i : ℕ) (bytes : List ℕ) → get_or fs i discarded ≡ released bytes → ⊥) → releasedBytes fs ≡ []
-unfolding releasedBytes
+none-released : (fs : List Fate) → ((i : ℕ) (bytes : List ℕ) → get_or fs i discarded ≡ released bytes → ⊥) → released_bytes fs ≡ []
+unfolding released_bytes
 none-released [] h = refl
 none-released (released bytes ∷ fs) h = absurd (h 0 bytes refl)
 none-released (discarded ∷ fs) h = none-released fs (λ i bytes e. h (suc i) bytes e)
 
 -- what is held fits the capacity that the station knows
 fits : (step : State → Lent → Call → Ended) → Demand3 step → (first : ℕ) (s : State) (f : Fresh first s) (past : List Event) → NoneClear past
-    → (length (bookAfter step (fresh f) past).ledger.held ≤ (bookAfter step (fresh f) past).desk.capacity) × (length (bookAfter step (fresh f) past).ledger.held ≤ 8192)
+    → (length (book_after step (fresh f) past).ledger.held ≤ (book_after step (fresh f) past).desk.capacity) × (length (book_after step (fresh f) past).ledger.held ≤ 8192)
 fits step demand first s f past p =
-    let b = bookAfter step (fresh f) past in
+    let b = book_after step (fresh f) past in
     let h = (demand first s f past p).holds in
     let w = b.state.head.window in
     let r = in_window w (in_parts b.state.head h.in_range).window in
@@ -105,7 +105,7 @@ fits step demand first s f past p =
 
 module _ (step : State → Lent → Call → Ended) (demand : Demand3 step) (first : ℕ) (s : State) (f : Fresh first s) (past : List Event) (p : NoneClear past) where
   abbrev b : Book
-  b = bookAfter step (fresh f) past
+  b = book_after step (fresh f) past
 
   abbrev l : Ledger
   l = b.ledger
@@ -121,7 +121,7 @@ module _ (step : State → Lent → Call → Ended) (demand : Demand3 step) (fir
   held-now = sym (length-map (sight b.state) place_of) ∙ ap length (demand first s f past p).holds.agrees.entries
 
   held_then : (c : Call) (t : Lent) → NotClear c → map place_of (sight (r t c).state) ≡ (enter l c t.payload (r t c).answer).held
-  unfolding bookAfter
+  unfolding book_after
   held_then c t q = (demand first s f (event c t ∷ past) (q, p)).holds.agrees.entries
 
   -- a packet, and what its answer says
@@ -130,7 +130,7 @@ module _ (step : State → Lent → Call → Ended) (demand : Demand3 step) (fir
     c = calls.Data time number message location stamp
 
     abbrev earlier : ℕ
-    earlier = earlyRefusal b.desk t c
+    earlier = early_refusal b.desk t c
 
     pub told : (x : DataAnswer) → (r t c).answer ≡ answers.Data x → Judges l b.desk.capacity earlier number x
     told x q = subst (λ (a : Answer). Says l b.desk t c a (r t c).output (r t c).list) q ((demand first s f past p).told (event c t) k).says
@@ -138,8 +138,8 @@ module _ (step : State → Lent → Call → Ended) (demand : Demand3 step) (fir
     pub refuses : (x : DataAnswer) → (r t c).answer ≡ answers.Data x → Refuses earlier c (answers.Data x)
     refuses x q = subst (λ (a : Answer). Refuses earlier c a) q ((demand first s f past p).told (event c t) k).refuses
 
-    pub acks-so : (x : DataAnswer) → (r t c).answer ≡ answers.Data x → DataAcks (ackOf (enterData l number t.payload x)) x
-    acks-so x q = subst (λ (a : Answer). Acks (ackOf (enter l c t.payload a)) (b.desk.capacity - length (enter l c t.payload a).held) a) q ((demand first s f past p).told (event c t) k).acks
+    pub acks-so : (x : DataAnswer) → (r t c).answer ≡ answers.Data x → DataAcks (ack_of (enter_data l number t.payload x)) x
+    acks-so x q = subst (λ (a : Answer). Acks (ack_of (enter l c t.payload a)) (b.desk.capacity - length (enter l c t.payload a).held) a) q ((demand first s f past p).told (event c t) k).acks
 
     pub answer-is : (x : DataAnswer) × ((r t c).answer ≡ answers.Data x)
     answer-is = data-only (r t c).answer ((demand first s f past p).told (event c t) k).kind
@@ -166,14 +166,14 @@ module _ (step : State → Lent → Call → Ended) (demand : Demand3 step) (fir
     idle e z m q = let x = must-hold e z m in let y = ap (λ (a : State). length (sight a)) q in omega arith
 
     -- the next expected number is that of no held place
-    no_place : number ≡ number_of l (next_of l) → (i : ℕ) → i < length l.held → number_of l (frontOf l + i) ≡ number → ⊥
+    no_place : number ≡ number_of l (next_of l) → (i : ℕ) → i < length l.held → number_of l (front_of l + i) ≡ number → ⊥
     no_place e i h q =
         let m = (fits step demand first s f past p).1 in
-        let z = place-one 31 l.first (frontOf l) (frontOf l + i) (next_of l) (omega arith) (omega (arith, h, m)) (omega arith) (omega (arith, m)) (q ∙ e) in
+        let z = place-one 31 l.first (front_of l) (front_of l + i) (next_of l) (omega arith) (omega (arith, h, m)) (omega arith) (omega (arith, m)) (q ∙ e) in
         omega arith
 
     -- and it is no duplicate
-    pub no-duplicate : number ≡ number_of l (next_of l) → (x : DataAnswer) → (r t c).answer ≡ answers.Data x → (dataLine x).refusal ≡ 10 → ⊥
+    pub no-duplicate : number ≡ number_of l (next_of l) → (x : DataAnswer) → (r t c).answer ≡ answers.Data x → (data_line x).refusal ≡ 10 → ⊥
     no-duplicate e x q d = let u = (told x q).duplicate d in no_place e u.0 u.1 u.2
 
     -- nor is it after itself
@@ -186,12 +186,12 @@ module _ (step : State → Lent → Call → Ended) (demand : Demand3 step) (fir
         omega arith
 
     -- nor before the front
-    not-before : number ≡ number_of l (next_of l) → before 31 number (number_of l (frontOf l)) ≡ true → ⊥
+    not-before : number ≡ number_of l (next_of l) → before 31 number (number_of l (front_of l)) ≡ true → ⊥
     not-before e q =
         let m = (fits step demand first s f past p).1 in
-        let d : distance 31 number (number_of l (frontOf l)) ≡ length l.held =
-        ap (λ (x : ℕ). distance 31 x (number_of l (frontOf l))) e ∙ place-distance 31 l.first (frontOf l) (length l.held) (omega arith) in
-        impossible (sym q ∙ before-not 31 number (number_of l (frontOf l)) (omega (arith, d, m)))
+        let d : distance 31 number (number_of l (front_of l)) ≡ length l.held =
+        ap (λ (x : ℕ). distance 31 x (number_of l (front_of l))) e ∙ place-distance 31 l.first (front_of l) (length l.held) (omega arith) in
+        impossible (sym q ∙ before-not 31 number (number_of l (front_of l)) (omega (arith, d, m)))
 
     -- where there is no room it is refused 7, and by no other number
     module _ (e : number ≡ number_of l (next_of l)) (z : earlier ≡ 0) (m : length l.held ≡ b.desk.capacity) where
@@ -199,26 +199,26 @@ module _ (step : State → Lent → Call → Ended) (demand : Demand3 step) (fir
       x = answer-is.0
 
       abbrev y : ℕ
-      y = (dataLine x).refusal
+      y = (data_line x).refusal
 
       says_so : Judges l b.desk.capacity earlier number x
       says_so = told x answer-is.1
 
       too_many : appends x ≡ true → ⊥
-      unfolding bookAfter
+      unfolding book_after
       too_many g = let u = (fits step demand first s f (event c t ∷ past) (k, p)).0 in omega (arith, u, grown g, m)
 
-      taken : (appends x || recovers x || isLoss x) ≡ true → ⊥
+      taken : (appends x || recovers x || is_loss x) ≡ true → ⊥
       taken g =
           by_bool (appends x)
           too_many
           (λ n₁.
           by_bool (recovers x)
-          (λ n₂. let u = says_so.forLost n₂ in no_place e u.0 u.1 u.2)
-          (λ n₂. by_bool (isLoss x) (λ n₃. not_after e (says_so.afterGap n₃)) (λ n₃. impossible (sym (rw (n₁, n₂, n₃) at g)))))
+          (λ n₂. let u = says_so.for_lost n₂ in no_place e u.0 u.1 u.2)
+          (λ n₂. by_bool (is_loss x) (λ n₃. not_after e (says_so.after_gap n₃)) (λ n₃. impossible (sym (rw (n₁, n₂, n₃) at g)))))
 
-      by_number : 7 ≤ y → y ≤ 10 → y ≡ 7
-      by_number low high =
+      by-number : 7 ≤ y → y ≤ 10 → y ≡ 7
+      by-number low high =
           by-order y 8
           (λ h. omega arith)
           (λ h.
@@ -227,12 +227,12 @@ module _ (step : State → Lent → Call → Ended) (demand : Demand3 step) (fir
           (λ i. not_after e (says_so.early (omega arith)).0)
           (λ i. by-order y 10 (λ j. not-before e (says_so.late (omega arith)).0) (λ j. no-duplicate e x answer-is.1 (omega arith)))))
 
-      pub must-be-full : (dataLine answer-is.0).refusal ≡ 7
+      pub must-be-full : (data_line answer-is.0).refusal ≡ 7
       must-be-full = go (refuses x answer-is.1).tested
         where
-          go : (refusalIn (answers.Data x) ≡ earlier) ⊎ ((earlier ≡ 0) × Later c (refusalIn (answers.Data x))) → y ≡ 7
+          go : (refusal_in (answers.Data x) ≡ earlier) ⊎ ((earlier ≡ 0) × Later c (refusal_in (answers.Data x))) → y ≡ 7
           go (inl u) = absurd (taken (says_so.took (u ∙ z)))
-          go (inr u) = by_number u.1.0 u.1.1
+          go (inr u) = by-number u.1.0 u.1.1
 
   -- counts are not made up: a message's packets, a late drop's range and a drop request's count are what the receiver no longer holds
   pub message-count : (time : ℤ) (t : Lent) (at : ℤ) (bytes packets : ℕ) → (r t (calls.Pop time)).answer ≡ answers.Pop (messages.Message at bytes packets)
@@ -252,12 +252,12 @@ module _ (step : State → Lent → Call → Ended) (demand : Demand3 step) (fir
       ∙ ap (λ (x : ℕ). x - distance 31 end from) (sym held-now)
 
   pub drop-count : (from last : ℕ) (t : Lent) (n : ℕ) → (r t (calls.Drop from last)).answer ≡ answers.Drop (drops.Gone n)
-      → lostCount (map place_of (sight b.state)) ≡ lostCount (map place_of (sight (r t (calls.Drop from last)).state)) + n
+      → lost_count (map place_of (sight b.state)) ≡ lost_count (map place_of (sight (r t (calls.Drop from last)).state)) + n
   drop-count from last t n q =
       let c = calls.Drop from last in
       let u = subst (λ (a : Answer). Says l b.desk t c a (r t c).output (r t c).list) q ((demand first s f past p).told (event c t) tt).says in
       let v = held_then c t tt ∙ ap (λ (a : Answer). (enter l c t.payload a).held) q in
-      ap lostCount (demand first s f past p).holds.agrees.entries ∙ u ∙ ap (λ (x : List Place). lostCount x + n) (sym v)
+      ap lost_count (demand first s f past p).holds.agrees.entries ∙ u ∙ ap (λ (x : List Place). lost_count x + n) (sym v)
 
   -- what a pop answers
   pop-told : (time : ℤ) (t : Lent) (a : MessageAnswer) → (r t (calls.Pop time)).answer ≡ answers.Pop a → Tells l b.desk a (r t (calls.Pop time)).output
@@ -268,11 +268,11 @@ module _ (step : State → Lent → Call → Ended) (demand : Demand3 step) (fir
   -- a message is the bytes of the places in front, none of which is a hole, and those places leave: so a program that hands out other bytes is ruled out, one
   -- that releases over a place that is lost, and one that leaves the front where it was and releases it again
   pub own-bytes : (time : ℤ) (t : Lent) (at : ℤ) (bytes packets : ℕ) → (r t (calls.Pop time)).answer ≡ answers.Pop (messages.Message at bytes packets)
-      → take bytes (r t (calls.Pop time)).output ≡ frontBytes l packets
+      → take bytes (r t (calls.Pop time)).output ≡ front_bytes l packets
   own-bytes time t at bytes packets q = (pop-told time t (messages.Message at bytes packets) q).2
 
   pub no-hole : (time : ℤ) (t : Lent) (at : ℤ) (bytes packets : ℕ) → (r t (calls.Pop time)).answer ≡ answers.Pop (messages.Message at bytes packets)
-      → (i : ℕ) → i < packets → isReceived (get_or l.held i lost) ≡ true
+      → (i : ℕ) → i < packets → is_received (get_or l.held i lost) ≡ true
   no-hole time t at bytes packets q i h = run-received l.held i (omega (arith, h, (pop-told time t (messages.Message at bytes packets) q).1))
 
   pub released-once : (time : ℤ) (t : Lent) (at : ℤ) (bytes packets : ℕ) → (r t (calls.Pop time)).answer ≡ answers.Pop (messages.Message at bytes packets)
@@ -284,55 +284,55 @@ module _ (step : State → Lent → Call → Ended) (demand : Demand3 step) (fir
       omega (arith, u.0, u.1, run-within l.held, held-now)
 
   -- what was never handed in is never handed out
-  pub never-sent : NoData past → handedOut step (fresh f) past ≡ []
+  pub never-sent : NoData past → handed_out step (fresh f) past ≡ []
   never-sent d =
       let h = (demand first s f past p).holds in
-      h.handed ∙ none-released (bookAfter step (fresh f) past).ledger.gone (λ i bytes e. none-sent past _ bytes d (h.own i bytes e))
+      h.handed ∙ none-released (book_after step (fresh f) past).ledger.gone (λ i bytes e. none-sent past _ bytes d (h.own i bytes e))
 
 -- a receiver of one slot, fresh, and a packet that no test of 1 to 6 refuses: so these theorems speak of something
 abbrev pub small : State
 small = record { head = (made_of (pos 0) 0 false 0 1).head; slots = replicate 3 0; payloads = replicate 1456 0; history = [] }
 
 unfoldable pub small-fresh : Fresh 0 small
-unfolding made_of thenOf
+unfolding made_of then_of
 small-fresh = record { start = pos 0; latency = 0; dropping = false; capacity = 1; made = refl; head = refl }
 
 abbrev pub packet : Lent
 packet = record { payload = 7 ∷ []; output = []; list = [] }
 
-pub small-tests : earlyRefusal (freshDesk small-fresh) packet (calls.Data (pos 0) 0 0 3 0) ≡ 0
-unfolding small-fresh thenOf
+pub small-tests : early_refusal (fresh_desk small-fresh) packet (calls.Data (pos 0) 0 0 3 0) ≡ 0
+unfolding small-fresh then_of
 small-tests = refl
 
 -- doing nothing, whatever it answers
 pub doing-nothing : (step : State → Lent → Call → Ended) → Demand3 step → ((s : State) (t : Lent) (c : Call) → (step s t c).state ≡ s) → ⊥
-unfolding small-fresh bookAfter sum
+unfolding small-fresh book_after sum
 doing-nothing step demand still =
     idle step demand 0 small small-fresh [] tt (pos 0) 0 0 3 0 packet (omega arith) refl small-tests (omega arith) (still small packet (calls.Data (pos 0) 0 0 3 0))
 
 -- refusing all, by whatever numbers: no packet is ever taken
 pub refusing-all : (step : State → Lent → Call → Ended) → Demand3 step
     → ((s : State) (t : Lent) (time : ℤ) (number message location stamp : ℕ) (a : DataAnswer) → (step s t (calls.Data time number message location stamp)).answer ≡ answers.Data a
-    → (appends a || recovers a || isLoss a) ≡ false) → ⊥
-unfolding small-fresh bookAfter sum
+    → (appends a || recovers a || is_loss a) ≡ false) → ⊥
+unfolding small-fresh book_after sum
 refusing-all step demand none =
     let x = answer-is step demand 0 small small-fresh [] tt (pos 0) 0 0 3 0 packet (omega arith) in
     let m = must-append step demand 0 small small-fresh [] tt (pos 0) 0 0 3 0 packet (omega arith) refl small-tests (omega arith) in
-    impossible (sym (ap (λ (y : Bool). y || recovers x.0 || isLoss x.0) m) ∙ none small packet (pos 0) 0 0 3 0 x.0 x.1)
+    impossible (sym (ap (λ (y : Bool). y || recovers x.0 || is_loss x.0) m) ∙ none small packet (pos 0) 0 0 3 0 x.0 x.1)
 
 -- got every time: every packet is said to be taken in order, or for a lost place; the one just before the first number is neither
 pub got-every-time : (step : State → Lent → Call → Ended) → Demand3 step
     → ((s : State) (t : Lent) (time : ℤ) (number message location stamp : ℕ) (a : DataAnswer) → (step s t (calls.Data time number message location stamp)).answer ≡ answers.Data a
     → (appends a || recovers a) ≡ true) → ⊥
-unfolding small-fresh bookAfter sum
+unfolding small-fresh book_after sum
 got-every-time step demand all =
     let x = answer-is step demand 0 small small-fresh [] tt (pos 0) 2147483647 0 3 0 packet (omega arith) in
     let j = told step demand 0 small small-fresh [] tt (pos 0) 2147483647 0 3 0 packet (omega arith) x.0 x.1 in
     by_bool (appends x.0)
-    (λ u. let z = j.inOrder u in omega arith)
+    (λ u. let z = j.in_order u in omega arith)
     (λ u.
     by_bool (recovers x.0)
-    (λ v. let z = (j.forLost v).1 in omega arith)
+    (λ v. let z = (j.for_lost v).1 in omega arith)
     (λ v.
     let z : (appends x.0 || recovers x.0) ≡ false = rw (u, v) in
     impossible (sym (all small packet (pos 0) 2147483647 0 3 0 x.0 x.1) ∙ z)))

@@ -13,27 +13,27 @@ use Rattle.numbers.specs.Circular.{distance, sum}
 use Rattle.numbers.proofs.Flags.{impossible, and_left, and_right, by_bool, by-test}
 use Rattle.numbers.proofs.Circle.{stepped, distance-sum}
 use Rattle.slots.specs.Words as words
-use Rattle.slots.specs.Ring.{payloadAt, payloadStart}
+use Rattle.slots.specs.Ring.{payload_at, payload_start}
 use Rattle.slots.specs.declared.entry.Entry.{Entry}
 use Rattle.slots.specs.declared.entry.Entry.TheVariants.{Lost, Received, GivenUp}
 use Rattle.slots.proofs.Laws.{length-read, slot_lt}
-use Rattle.window.specs.Window.{slotIn, entryIn}
+use Rattle.window.specs.Window.{slot_in, entry_in}
 use Rattle.window.specs.Ready.{InWindow, Bytes}
-use Rattle.window.specs.Show.{nowhere, shownOf}
+use Rattle.window.specs.Show.{nowhere, shown_of}
 use Rattle.window.specs.declared.Window.{Window}
 use Rattle.window.specs.declared.show.Part.{Part}
 use Rattle.window.proofs.Ranges.{in_window}
-use Rattle.head.specs.Rules.{showRules}
-use Rattle.head.specs.Head.{headOk}
+use Rattle.head.specs.Rules.{show_rules}
+use Rattle.head.specs.Head.{head_ok}
 use Rattle.head.specs.declared.state.Head.{Head}
 use Rattle.head.proofs.Gates.{clear}
 use Rattle.head.proofs.Ready.{in_parts}
-use Rattle.upkeep.specs.Show.{refusalOf, placeCallOf, shownCallOf}
+use Rattle.upkeep.specs.Show.{refusal_of, place_call_of, shown_call_of}
 use Rattle.upkeep.specs.declared.show.ShowAnswer.{ShowAnswer}
 use Rattle.views.specs.View as views
-use Rattle.views.specs.View.{seenOf, seen_at, entries}
+use Rattle.views.specs.View.{seen_of, seen_at, entries}
 use Rattle.views.proofs.Lists.{entries_at}
-use Rattle.ledger.specs.Ledger.{Place, lost, received, Ledger, number_of, frontOf}
+use Rattle.ledger.specs.Ledger.{Place, lost, received, Ledger, number_of, front_of}
 use Rattle.ledger.specs.Runs.{place_of}
 use Rattle.ledger.specs.Claims.{Shows}
 use Rattle.ledger.proofs.Moved.{Stands, window-count, place-number}
@@ -43,129 +43,129 @@ get_d_map f [] i d = refl
 get_d_map f (x ∷ xs) zero d = refl
 get_d_map f (x ∷ xs) (suc i) d = get_d_map f xs i d
 
-received-place : (bs : List ℕ) (s : ℕ) (e : Entry) → words.isReceived e ≡ true → place_of (seenOf bs s e) ≡ received (payloadAt bs s (words.lengthIn e))
+received-place : (bs : List ℕ) (s : ℕ) (e : Entry) → words.is_received e ≡ true → place_of (seen_of bs s e) ≡ received (payload_at bs s (words.length_in e))
 received-place bs s (Lost k f) t = impossible (sym t)
 received-place bs s (Received n l m k) t = refl
 received-place bs s GivenUp t = impossible (sym t)
 
-place-received : (bs : List ℕ) (s : ℕ) (e : Entry) (bytes : List ℕ) → place_of (seenOf bs s e) ≡ received bytes → words.isReceived e ≡ true
+place-received : (bs : List ℕ) (s : ℕ) (e : Entry) (bytes : List ℕ) → place_of (seen_of bs s e) ≡ received bytes → words.is_received e ≡ true
 place-received bs s (Lost k f) bytes t = absurd (let z : ◌≡◌ {A = ℕ} 0 1 = cc in omega arith)
 place-received bs s (Received n l m k) bytes t = refl
 place-received bs s GivenUp bytes t = absurd (let z : ◌≡◌ {A = ℕ} 0 1 = cc in omega arith)
 
-same_bytes : {xs ys : List ℕ} → received xs ≡ received ys → xs ≡ ys
-same_bytes e = cc
+same-bytes : {xs ys : List ℕ} → received xs ≡ received ys → xs ≡ ys
+same-bytes e = cc
 
 module _ (S : ℕ → List ℕ → Type 0) (l : Ledger) (w : Window) (ws bs : List ℕ) (a : Stands S l w (entries w ws bs)) (r : InWindow w) (gb : Bytes w bs) (number : ℕ) (n : number < 2 ^ 31) where
   abbrev at : ℕ
   at = distance 31 number w.seqno0
 
-  place_is : (i : ℕ) → i < w.held → get_or l.held i lost ≡ place_of (seen_at ws bs (slotIn w i))
+  place_is : (i : ℕ) → i < w.held → get_or l.held i lost ≡ place_of (seen_at ws bs (slot_in w i))
   place_is i k =
       let z : 0 + i ≡ i = omega arith in
       ap (λ (x : List Place). get_or x i lost) (sym a.held)
       ∙ get_d_map place_of (entries w ws bs) i (views.lost 0 0)
-      ∙ ap place_of (entries_at w.capacity w.start ws bs 0 w.held i (views.lost 0 0) k ∙ ap (λ (x : ℕ). seen_at ws bs (slotIn w x)) z)
+      ∙ ap place_of (entries_at w.capacity w.start ws bs 0 w.held i (views.lost 0 0) k ∙ ap (λ (x : ℕ). seen_at ws bs (slot_in w x)) z)
 
-  numbered : number_of l (frontOf l + at) ≡ number
+  numbered : number_of l (front_of l + at) ≡ number
   unfolding sum
   numbered = sym (place-number a at) ∙ stepped 31 number w.seqno0 ∙ mod-eq_of_lt n
 
-  index_is : (i : ℕ) → i < w.held → number_of l (frontOf l + i) ≡ number → at ≡ i
+  index_is : (i : ℕ) → i < w.held → number_of l (front_of l + i) ≡ number → at ≡ i
   index_is i k e =
       ap (λ (x : ℕ). distance 31 x w.seqno0) (sym e ∙ sym (place-number a i)) ∙ distance-sum 31 w.seqno0 {n = i} (omega (arith, r.holds, r.most))
 
   abbrev Found : Part → Type 0
-  Found p = p.received ≡ true → (i : ℕ) × (i < length l.held) × (number_of l (frontOf l + i) ≡ number) × (get_or l.held i lost ≡ received (take p.len (drop p.at bs)))
+  Found p = p.received ≡ true → (i : ℕ) × (i < length l.held) × (number_of l (front_of l + i) ≡ number) × (get_or l.held i lost ≡ received (take p.len (drop p.at bs)))
 
   abbrev ShownIn : Part → Type 0
   ShownIn p =
-      (i : ℕ) (bytes : List ℕ) → i < length l.held → number_of l (frontOf l + i) ≡ number → get_or l.held i lost ≡ received bytes
+      (i : ℕ) (bytes : List ℕ) → i < length l.held → number_of l (front_of l + i) ≡ number → get_or l.held i lost ≡ received bytes
       → (p.received ≡ true) × (take p.len (drop p.at bs) ≡ bytes) × (p.len ≡ length bytes)
 
   abbrev Inside : Part → Type 0
   Inside p = p.received ≡ true → p.at + p.len ≤ length bs
 
-  fits : payloadStart (slotIn w at) + words.lengthIn (entryIn w ws at) ≤ length bs
-  fits = omega (arith, length-read ws (slotIn w at), slot_lt w.capacity w.start at r.some)
+  fits : payload_start (slot_in w at) + words.length_in (entry_in w ws at) ≤ length bs
+  fits = omega (arith, length-read ws (slot_in w at), slot_lt w.capacity w.start at r.some)
 
-  whole : length (take (words.lengthIn (entryIn w ws at)) (drop (payloadStart (slotIn w at)) bs)) ≡ words.lengthIn (entryIn w ws at)
+  whole : length (take (words.length_in (entry_in w ws at)) (drop (payload_start (slot_in w at)) bs)) ≡ words.length_in (entry_in w ws at)
   whole =
-      let m : words.lengthIn (entryIn w ws at) ≤ length (drop (payloadStart (slotIn w at)) bs) = rw length-drop (omega (arith, fits)) in
-      length-take-le (words.lengthIn (entryIn w ws at)) (drop (payloadStart (slotIn w at)) bs) m
+      let m : words.length_in (entry_in w ws at) ≤ length (drop (payload_start (slot_in w at)) bs) = rw length-drop (omega (arith, fits)) in
+      length-take-le (words.length_in (entry_in w ws at)) (drop (payload_start (slot_in w at)) bs) m
 
   abbrev Blank : Part → Type 0
   Blank p = p.received ≡ false → p.len ≡ 0
 
   abbrev test : Bool
-  test = ltb at w.held && words.isReceived (entryIn w ws at)
+  test = ltb at w.held && words.is_received (entry_in w ws at)
 
   -- what the window shows is what the ledger has for the number
-  found-so : Found (shownOf w ws number)
-  unfolding shownOf
+  found-so : Found (shown_of w ws number)
+  unfolding shown_of
   found-so =
-      by-test Found test (record { received = true; at = payloadStart (slotIn w at); len = words.lengthIn (entryIn w ws at) }) nowhere
+      by-test Found test (record { received = true; at = payload_start (slot_in w at); len = words.length_in (entry_in w ws at) }) nowhere
       (λ t.
-      let h = ltb-true at w.held (and_left (ltb at w.held) (words.isReceived (entryIn w ws at)) t) in
-      let u = and_right (ltb at w.held) (words.isReceived (entryIn w ws at)) t in
-      λ e. (at, omega (arith, window-count ws bs a, h), numbered, place_is at h ∙ received-place bs (slotIn w at) (entryIn w ws at) u))
+      let h = ltb-true at w.held (and_left (ltb at w.held) (words.is_received (entry_in w ws at)) t) in
+      let u = and_right (ltb at w.held) (words.is_received (entry_in w ws at)) t in
+      λ e. (at, omega (arith, window-count ws bs a, h), numbered, place_is at h ∙ received-place bs (slot_in w at) (entry_in w ws at) u))
       (λ t e. impossible (sym e))
 
-  shown-so : ShownIn (shownOf w ws number)
-  unfolding shownOf
+  shown-so : ShownIn (shown_of w ws number)
+  unfolding shown_of
   shown-so =
-      by-test ShownIn test (record { received = true; at = payloadStart (slotIn w at); len = words.lengthIn (entryIn w ws at) }) nowhere
+      by-test ShownIn test (record { received = true; at = payload_start (slot_in w at); len = words.length_in (entry_in w ws at) }) nowhere
       (λ t.
-      let h = ltb-true at w.held (and_left (ltb at w.held) (words.isReceived (entryIn w ws at)) t) in
-      let u = and_right (ltb at w.held) (words.isReceived (entryIn w ws at)) t in
-      let p = place_is at h ∙ received-place bs (slotIn w at) (entryIn w ws at) u in
+      let h = ltb-true at w.held (and_left (ltb at w.held) (words.is_received (entry_in w ws at)) t) in
+      let u = and_right (ltb at w.held) (words.is_received (entry_in w ws at)) t in
+      let p = place_is at h ∙ received-place bs (slot_in w at) (entry_in w ws at) u in
       λ i bytes k e q.
-      let y = same_bytes (sym p ∙ ap (λ (x : ℕ). get_or l.held x lost) (index_is i (omega (arith, window-count ws bs a)) e) ∙ q) in
+      let y = same-bytes (sym p ∙ ap (λ (x : ℕ). get_or l.held x lost) (index_is i (omega (arith, window-count ws bs a)) e) ∙ q) in
       (refl, y, sym whole ∙ ap length y))
       (λ t i bytes k e q.
       let h : i < w.held = omega (arith, window-count ws bs a) in
       let y = index_is i h e in
-      let v = place-received bs (slotIn w i) (entryIn w ws i) bytes (sym (place_is i h) ∙ q) in
+      let v = place-received bs (slot_in w i) (entry_in w ws i) bytes (sym (place_is i h) ∙ q) in
       let f : ltb at w.held ≡ true = lt-ltb at w.held (omega (arith, y, h)) in
-      let g : words.isReceived (entryIn w ws at) ≡ true = ap (λ (x : ℕ). words.isReceived (entryIn w ws x)) y ∙ v in
+      let g : words.is_received (entry_in w ws at) ≡ true = ap (λ (x : ℕ). words.is_received (entry_in w ws x)) y ∙ v in
       let c : test ≡ true = rw (f, g) in
       impossible (sym c ∙ t))
 
-  inside-so : Inside (shownOf w ws number)
-  unfolding shownOf
+  inside-so : Inside (shown_of w ws number)
+  unfolding shown_of
   inside-so =
-      by-test Inside test (record { received = true; at = payloadStart (slotIn w at); len = words.lengthIn (entryIn w ws at) }) nowhere
+      by-test Inside test (record { received = true; at = payload_start (slot_in w at); len = words.length_in (entry_in w ws at) }) nowhere
       (λ t e. fits)
       (λ t e. impossible (sym e))
 
-  empty-so : Blank (shownOf w ws number)
-  unfolding shownOf
+  empty-so : Blank (shown_of w ws number)
+  unfolding shown_of
   empty-so =
-      by-test Blank test (record { received = true; at = payloadStart (slotIn w at); len = words.lengthIn (entryIn w ws at) }) nowhere
+      by-test Blank test (record { received = true; at = payload_start (slot_in w at); len = words.length_in (entry_in w ws at) }) nowhere
       (λ t e. impossible e)
       (λ t e. refl)
 
 -- the call, with its second question
-module _ (S : ℕ → List ℕ → Type 0) (l : Ledger) (h : Head) (ws bs : List ℕ) (a : Stands S l h.window (entries h.window ws bs)) (ok : headOk h ≡ true) (number : ℕ) where
+module _ (S : ℕ → List ℕ → Type 0) (l : Ledger) (h : Head) (ws bs : List ℕ) (a : Stands S l h.window (entries h.window ws bs)) (ok : head_ok h ≡ true) (number : ℕ) where
   abbrev tests : ℕ
-  tests = refusalOf h ws (length bs) number
+  tests = refusal_of h ws (length bs) number
 
   -- the number's range, from the test of it
   in-number : tests ≡ 0 → number < 2 ^ 31
   in-number z =
       leb-false (2 ^ 31) number
-      (clear (showRules (headOk h) h.window.capacity (length ws) (length bs) number) (lit< tt, (lit< tt, (lit< tt, (lit< tt, tt)))) z).1.1.1.0
+      (clear (show_rules (head_ok h) h.window.capacity (length ws) (length bs) number) (lit< tt, (lit< tt, (lit< tt, (lit< tt, tt)))) z).1.1.1.0
 
   long-enough : tests ≡ 0 → Bytes h.window bs
   long-enough z =
       ltb-false (length bs) (1456 * h.window.capacity)
-      (clear (showRules (headOk h) h.window.capacity (length ws) (length bs) number) (lit< tt, (lit< tt, (lit< tt, (lit< tt, tt)))) z).1.1.0
+      (clear (show_rules (head_ok h) h.window.capacity (length ws) (length bs) number) (lit< tt, (lit< tt, (lit< tt, (lit< tt, tt)))) z).1.1.0
 
   abbrev Right : Part → ShowAnswer → Type 0
   Right p x = Shows l tests number bs p x
 
-  pub shows : Right (placeCallOf h ws (length bs) number) (shownCallOf h ws (length bs) number).answer
-  unfolding placeCallOf shownCallOf
+  pub shows : Right (place_call_of h ws (length bs) number) (shown_call_of h ws (length bs) number).answer
+  unfolding place_call_of shown_call_of
   shows =
       by_bool (eqb tests 0)
       (λ t.

@@ -11,21 +11,21 @@ use lib.ListN.{length, length-map}
 use Rattle.numbers.specs.Circular.{sum}
 use Rattle.numbers.proofs.Circle.{sum-zero}
 use Rattle.numbers.proofs.Places.{place-one}
-use Rattle.head.specs.Rules.{firstRefusal, makeRules, showRules, headRules}
-use Rattle.head.specs.Head.{headOk, freshHead, made_of}
+use Rattle.head.specs.Rules.{first_refusal, make_rules, show_rules, head_rules}
+use Rattle.head.specs.Head.{head_ok, fresh_head, made_of}
 use Rattle.head.specs.declared.state.Head.{Head}
 use Rattle.head.specs.declared.state.Made.{Made}
 use Rattle.head.proofs.Gates.{clear}
 use Rattle.head.proofs.Ready.{in_parts}
-use Rattle.window.specs.Window.{roomOf}
+use Rattle.window.specs.Window.{room_of}
 use Rattle.window.proofs.Ranges.{in_window}
-use Rattle.receiver.specs.Data.{packet, dataCallOf}
-use Rattle.receiver.specs.Paper.{dataLine}
+use Rattle.receiver.specs.Data.{packet, data_call_of}
+use Rattle.receiver.specs.Paper.{data_line}
 use Rattle.receiver.specs.declared.data.DataAnswer.{DataAnswer}
 use Rattle.window.specs.declared.show.Part.{Part}
-use Rattle.feedback.specs.Loss.{reportCallOf}
-use Rattle.upkeep.specs.Request.{ClearOutcome, clearedOf, clearCallOf}
-use Rattle.upkeep.specs.Show.{refusalOf, placeCallOf, shownCallOf}
+use Rattle.feedback.specs.Loss.{report_call_of}
+use Rattle.upkeep.specs.Request.{ClearOutcome, cleared_of, clear_call_of}
+use Rattle.upkeep.specs.Show.{refusal_of, place_call_of, shown_call_of}
 use Rattle.upkeep.specs.declared.show.ShowAnswer.{ShowAnswer}
 use Rattle.kept.proofs.DataKept.{made_kept, data-kept, loss-kept, cleared-kept}
 use Rattle.kept.proofs.TimedKept.{ack2-kept, full-ack-kept, clock-kept, message-kept}
@@ -35,19 +35,19 @@ use Rattle.step.specs.declared.Call.TheVariants as calls
 use Rattle.step.specs.declared.Answer.{Answer}
 use Rattle.step.specs.declared.Answer.TheVariants as answers
 use Rattle.views.specs.Lists.{run_of}
-use Rattle.views.specs.View.{Seen, entriesFrom, entries, gapIn}
+use Rattle.views.specs.View.{Seen, entries_from, entries, gap_in}
 use Rattle.ledger.specs.Runs.{place_of}
 use Rattle.views.proofs.Lists.{entries-length}
-use Rattle.ledger.specs.Ledger.{ackOf, Place, receivedRun, Ledger, opened, number_of, frontOf, next_of, enter, releasedBytes}
-use Rattle.ledger.specs.Seen.{NotClear, outBytes, kind_of, kindIn}
-use Rattle.ledger.specs.Runs.{Event, Desk, Known, Book, opening, answered, turned, bookAfter, Fresh, freshDesk, fresh, NoneClear, handedOut, Sent, now, before, Empty}
-use Rattle.ledger.specs.Claims.{Holds, Judges, Reports, earlyRefusal, Acks, Says, Told, Demand3, Stretch, showRefusal, Shows, DemandShown}
+use Rattle.ledger.specs.Ledger.{ack_of, Place, received_run, Ledger, opened, number_of, front_of, next_of, enter, released_bytes}
+use Rattle.ledger.specs.Seen.{NotClear, out_bytes, kind_of, kind_in}
+use Rattle.ledger.specs.Runs.{Event, Desk, Known, Book, opening, answered, turned, book_after, Fresh, fresh_desk, fresh, NoneClear, handed_out, Sent, now, before, Empty}
+use Rattle.ledger.specs.Claims.{Holds, Judges, Reports, early_refusal, Acks, Says, Told, Demand3, Stretch, show_refusal, Shows, DemandShown}
 use Rattle.ledger.proofs.Owned.{nothing, empty}
 use Rattle.ledger.proofs.Moved.{Stands, Moved, held-count, window-count, lrsn-said}
 use Rattle.ledger.proofs.Moves.{by-refusal}
 use Rattle.ledger.proofs.Data.{data-stands}
 use Rattle.ledger.proofs.Knows.{step_same, known-after, step-acks, step_line, step-lent, report-says}
-use Rattle.ledger.proofs.Refusals.{refusalNow, known-refusal, station-refuses}
+use Rattle.ledger.proofs.Refusals.{refusal_now, known-refusal, station-refuses}
 use Rattle.ledger.proofs.Shown.{shows}
 use Rattle.ledger.proofs.Pop.{pop-stands, pop-tells}
 use Rattle.ledger.proofs.Judged.{data-judged}
@@ -70,7 +70,7 @@ seen s = entries s.head.window s.slots s.payloads
 step-stands : (S : ℕ → List ℕ → Type 0) (l : Ledger) (s : State) (t : Lent) (c : Call)
     → NotClear c → Stands S l s.head.window (seen s) → Fed S c t.payload
     → Moved S l (enter l c t.payload (step_of s t c).answer) (step_of s t c).state.head.window (seen (step_of s t c).state)
-    (outBytes (step_of s t c).answer (step_of s t c).output)
+    (out_bytes (step_of s t c).answer (step_of s t c).output)
 step-stands S l s t (calls.Data time number message location stamp) p a f =
     data-stands S l s.head s.slots s.payloads time (packet number message location stamp) t.payload p a f
 step-stands S l s t (calls.Pop time) p a f = pop-stands S l s.head s.slots s.payloads t.output time a
@@ -82,7 +82,7 @@ step-stands S l s t (calls.Clock time stamp) p a f = clock-stands S l s.head s.s
 step-stands S l s t calls.Clear p a f = absurd p
 
 -- its answer is of its kind
-step-kind : (s : State) (t : Lent) (c : Call) → kindIn (step_of s t c).answer ≡ kind_of c
+step-kind : (s : State) (t : Lent) (c : Call) → kind_in (step_of s t c).answer ≡ kind_of c
 step-kind s t (calls.Data time number message location stamp) = refl
 step-kind s t (calls.Pop time) = refl
 step-kind s t (calls.Report time) = refl
@@ -93,17 +93,17 @@ step-kind s t (calls.Clock time stamp) = refl
 step-kind s t calls.Clear = refl
 
 -- what its answer says is so
-step-says : (S : ℕ → List ℕ → Type 0) (l : Ledger) (d : Desk) (s : State) (t : Lent) (c : Call) → NotClear c → Stands S l s.head.window (seen s) → Known d s → headOk s.head ≡ true
+step-says : (S : ℕ → List ℕ → Type 0) (l : Ledger) (d : Desk) (s : State) (t : Lent) (c : Call) → NotClear c → Stands S l s.head.window (seen s) → Known d s → head_ok s.head ≡ true
     → Says l d t c (step_of s t c).answer (step_of s t c).output (step_of s t c).list
 step-says S l d s t (calls.Data time number message location stamp) p a k o =
-    let x = (dataCallOf s.head s.slots s.payloads time (packet number message location stamp) t.payload).handled.answer in
+    let x = (data_call_of s.head s.slots s.payloads time (packet number message location stamp) t.payload).handled.answer in
     let c = calls.Data time number message location stamp in
     subst (λ (n : ℕ). Judges l d.capacity n number x) (known-refusal t c k o)
-    (subst (λ (n : ℕ). Judges l n (refusalNow s t c) number x) k.capacity
+    (subst (λ (n : ℕ). Judges l n (refusal_now s t c) number x) k.capacity
     (data-judged S l s.head s.slots s.payloads time (packet number message location stamp) t.payload p a))
 step-says S l d s t (calls.Pop time) p a k o = pop-tells S l s.head s.slots s.payloads t.output time a d k.dropping
 step-says S l d s t (calls.Report time) p a k o =
-    subst (λ (n : ℕ). Reports n (reportCallOf s.head s.slots t.list time).reported.answer (reportCallOf s.head s.slots t.list time).list) (window-count s.slots s.payloads a)
+    subst (λ (n : ℕ). Reports n (report_call_of s.head s.slots t.list time).reported.answer (report_call_of s.head s.slots t.list time).list) (window-count s.slots s.payloads a)
     (report-says s.head s.slots s.payloads t.list time)
 step-says S l d s t (calls.FullAck time) p a k o = tt
 step-says S l d s t (calls.Ack2 time number) p a k o = tt
@@ -113,14 +113,14 @@ step-says S l d s t calls.Clear p a k o = absurd p
 
 -- what an answer acknowledges, and its room, as the ledger has them
 acks-said : {S : ℕ → List ℕ → Type 0} {l : Ledger} {d : Desk} {s : State} (x : Answer) → Stands S l s.head.window (seen s) → Known d s
-    → Acks s.head.window.lrsn (roomOf s.head.window) x → Acks (ackOf l) (d.capacity - length l.held) x
+    → Acks s.head.window.lrsn (room_of s.head.window) x → Acks (ack_of l) (d.capacity - length l.held) x
 acks-said {l = l} {d = d} {s = s} x a k q =
-    let room : roomOf s.head.window ≡ d.capacity - length l.held =
+    let room : room_of s.head.window ≡ d.capacity - length l.held =
     ap (λ (y : ℕ). y - s.head.window.held) k.capacity ∙ ap (λ (y : ℕ). d.capacity - y) (window-count s.slots s.payloads a) in
     subst (λ (y : ℕ). Acks y (d.capacity - length l.held) x) (lrsn-said a) (subst (λ (y : ℕ). Acks s.head.window.lrsn y x) room q)
 
 -- a head in range stays there
-step_kept : (s : State) (t : Lent) (c : Call) → NotClear c → headOk s.head ≡ true → headOk (step_of s t c).state.head ≡ true
+step_kept : (s : State) (t : Lent) (c : Call) → NotClear c → head_ok s.head ≡ true → head_ok (step_of s t c).state.head ≡ true
 step_kept s t (calls.Data time number message location stamp) p e = data-kept s.head s.slots s.payloads time (packet number message location stamp) t.payload e
 step_kept s t (calls.Pop time) p e = message-kept s.head s.slots s.payloads t.output time e
 step_kept s t (calls.Report time) p e = loss-kept s.head s.slots t.list time e
@@ -133,17 +133,17 @@ step_kept s t calls.Clear p e = absurd p
 -- a fresh receiver
 module _ (start : ℤ) (latency : ℕ) (dropping : Bool) (first capacity : ℕ) where
   made-fresh : (made_of start latency dropping first capacity).refusal ≡ 0
-      → ((made_of start latency dropping first capacity).head ≡ freshHead start latency dropping first capacity) × (first < 2 ^ 31)
+      → ((made_of start latency dropping first capacity).head ≡ fresh_head start latency dropping first capacity) × (first < 2 ^ 31)
   unfolding made_of
   made-fresh =
-      by-refusal (λ (m : Made). m.refusal ≡ 0 → (m.head ≡ freshHead start latency dropping first capacity) × (first < 2 ^ 31)) (firstRefusal (makeRules start latency first capacity)) _ _
+      by-refusal (λ (m : Made). m.refusal ≡ 0 → (m.head ≡ fresh_head start latency dropping first capacity) × (first < 2 ^ 31)) (first_refusal (make_rules start latency first capacity)) _ _
       (λ e r.
-      let c = clear (makeRules start latency first capacity) (lit< tt, (lit< tt, (lit< tt, (lit< tt, (lit< tt, tt))))) e in
+      let c = clear (make_rules start latency first capacity) (lit< tt, (lit< tt, (lit< tt, (lit< tt, (lit< tt, tt))))) e in
       (refl, leb-false (2 ^ 31) first c.1.1.0))
       (λ e r. absurd (e r))
 
-none_seen : (capacity start : ℕ) (ws bs : List ℕ) {n : ℕ} → n ≡ 0 → entriesFrom capacity start ws bs 0 n ≡ []
-unfolding entriesFrom
+none_seen : (capacity start : ℕ) (ws bs : List ℕ) {n : ℕ} → n ≡ 0 → entries_from capacity start ws bs 0 n ≡ []
+unfolding entries_from
 none_seen capacity start ws bs e = rw e
 
 fresh-stands : (S : ℕ → List ℕ → Type 0) (first : ℕ) (s : State) → Empty first s → Stands S (opened first) s.head.window (seen s)
@@ -157,26 +157,26 @@ fresh-stands S first s f =
     record {
       front = f.begins ∙ sym z;
       held = ap (map place_of) e;
-      right = f.acked ∙ sym (sum-zero 31 lt) ∙ ap (λ (x : ℕ). sum 31 x 0) (sym f.begins) ∙ ap (λ (x : List Seen). sum 31 w.seqno0 (gapIn x)) (sym e);
-      ownGone = λ i bytes q. empty S first i bytes q;
-      ownHeld = λ i bytes q. nothing S first i bytes q;
+      right = f.acked ∙ sym (sum-zero 31 lt) ∙ ap (λ (x : ℕ). sum 31 x 0) (sym f.begins) ∙ ap (λ (x : List Seen). sum 31 w.seqno0 (gap_in x)) (sym e);
+      own_gone = λ i bytes q. empty S first i bytes q;
+      own_held = λ i bytes q. nothing S first i bytes q;
     }
 
-fresh_kept : (first : ℕ) (s : State) → Fresh first s → headOk s.head ≡ true
-fresh_kept first s f = ap headOk f.head ∙ made_kept f.start f.latency f.dropping first f.capacity f.made
+fresh_kept : (first : ℕ) (s : State) → Fresh first s → head_ok s.head ≡ true
+fresh_kept first s f = ap head_ok f.head ∙ made_kept f.start f.latency f.dropping first f.capacity f.made
 
 fresh-empty : (first : ℕ) (s : State) → Fresh first s → Empty first s
-unfolding freshHead
+unfolding fresh_head
 fresh-empty first s f =
     let m = made-fresh f.start f.latency f.dropping first f.capacity f.made in
-    let e : s.head ≡ freshHead f.start f.latency f.dropping first f.capacity = f.head ∙ m.0 in
+    let e : s.head ≡ fresh_head f.start f.latency f.dropping first f.capacity = f.head ∙ m.0 in
     record { kept = fresh_kept first s f; none = ap (λ (h : Head). h.window.held) e; begins = ap (λ (h : Head). h.window.seqno0) e; acked = ap (λ (h : Head). h.window.lrsn) e }
 
-fresh-known : (first : ℕ) (s : State) (f : Fresh first s) → Known (freshDesk f) s
-unfolding freshHead
+fresh-known : (first : ℕ) (s : State) (f : Fresh first s) → Known (fresh_desk f) s
+unfolding fresh_head
 fresh-known first s f =
     let m = made-fresh f.start f.latency f.dropping first f.capacity f.made in
-    let e : s.head ≡ freshHead f.start f.latency f.dropping first f.capacity = f.head ∙ m.0 in
+    let e : s.head ≡ fresh_head f.start f.latency f.dropping first f.capacity = f.head ∙ m.0 in
     record {
       capacity = ap (λ (h : Head). h.window.capacity) e;
       latency = ap (λ (h : Head). h.latency) e;
@@ -188,11 +188,11 @@ fresh-known first s f =
     }
 
 -- what show shows, and what its second question answers
-abbrev pub placeNow : State → ℕ → Part
-placeNow s number = placeCallOf s.head s.slots (length s.payloads) number
+abbrev pub place_now : State → ℕ → Part
+place_now s number = place_call_of s.head s.slots (length s.payloads) number
 
-abbrev pub questionNow : State → ℕ → ShowAnswer
-questionNow s number = (shownCallOf s.head s.slots (length s.payloads) number).answer
+abbrev pub question_now : State → ℕ → ShowAnswer
+question_now s number = (shown_call_of s.head s.slots (length s.payloads) number).answer
 
 -- any calls, the newest first
 feeds : (c : Call) (t : Lent) (past : List Event) → Fed (Sent (record { call = c; lent = t } ∷ past)) c t.payload
@@ -211,8 +211,8 @@ older e past l s a =
       front = a.front;
       held = a.held;
       right = a.right;
-      ownGone = λ i bytes q. before e past (sum 31 l.first (0 + i)) bytes (a.ownGone i bytes q);
-      ownHeld = λ i bytes q. before e past (sum 31 l.first (frontOf l + i)) bytes (a.ownHeld i bytes q);
+      own_gone = λ i bytes q. before e past (sum 31 l.first (0 + i)) bytes (a.own_gone i bytes q);
+      own_held = λ i bytes q. before e past (sum 31 l.first (front_of l + i)) bytes (a.own_held i bytes q);
     }
 
 module _ (first : ℕ) (d : Desk) (s : State) (f : Empty first s) (g : Known d s) where
@@ -220,7 +220,7 @@ module _ (first : ℕ) (d : Desk) (s : State) (f : Empty first s) (g : Known d s
   b = opening first d s
 
   abbrev at : List Event → Book
-  at past = bookAfter step_of b past
+  at past = book_after step_of b past
 
   abbrev then : Event → List Event → Ended
   then e past = answered step_of (at past) e
@@ -229,7 +229,7 @@ module _ (first : ℕ) (d : Desk) (s : State) (f : Empty first s) (g : Known d s
   abbrev Next : Event → List Event → Type 0
   Next e past =
       Moved (Sent (e ∷ past)) (at past).ledger (turned step_of (at past) e).ledger (turned step_of (at past) e).state.head.window (seen (turned step_of (at past) e).state)
-      (outBytes (then e past).answer (then e past).output)
+      (out_bytes (then e past).answer (then e past).output)
 
   abbrev At : List Event → Type 0
   At past = Stands (Sent past) (at past).ledger (at past).state.head.window (seen (at past).state)
@@ -239,39 +239,39 @@ module _ (first : ℕ) (d : Desk) (s : State) (f : Empty first s) (g : Known d s
       step-stands (Sent (e ∷ past)) (at past).ledger (at past).state e.lent e.call p (older e past (at past).ledger (at past).state a) (feeds e.call e.lent past)
 
   run-stands : (past : List Event) → NoneClear past → At past
-  unfolding bookAfter
+  unfolding book_after
   run-stands [] p = fresh-stands (Sent []) first s f
   run-stands (e ∷ past) p = (one_more e past p.0 (run-stands past p.1)).stands
 
-  run-kept : (past : List Event) → NoneClear past → headOk (at past).state.head ≡ true
-  unfolding bookAfter
+  run-kept : (past : List Event) → NoneClear past → head_ok (at past).state.head ≡ true
+  unfolding book_after
   run-kept [] p = f.kept
   run-kept (e ∷ past) p = step_kept (at past).state e.lent e.call p.0 (run-kept past p.1)
 
   run-known : (past : List Event) → NoneClear past → Known (at past).desk (at past).state
-  unfolding bookAfter
+  unfolding book_after
   run-known [] p = g
   run-known (e ∷ past) p = known-after (run-known past p.1) (step_same (at past).state e.lent e.call p.0 (run-stands past p.1).right)
 
-  run-handed : (past : List Event) → NoneClear past → handedOut step_of b past ≡ releasedBytes (at past).ledger.gone
-  unfolding bookAfter handedOut releasedBytes
+  run-handed : (past : List Event) → NoneClear past → handed_out step_of b past ≡ released_bytes (at past).ledger.gone
+  unfolding book_after handed_out released_bytes
   run-handed [] p = refl
   run-handed (e ∷ past) p =
-      ap (λ (x : List ℕ). x ++ outBytes (then e past).answer (then e past).output) (run-handed past p.1)
+      ap (λ (x : List ℕ). x ++ out_bytes (then e past).answer (then e past).output) (run-handed past p.1)
       ∙ sym (one_more e past p.0 (run-stands past p.1)).handed
 
   run-apart : (past : List Event) → NoneClear past → (i j : ℕ) → i < length (at past).ledger.held → j < length (at past).ledger.held
-      → number_of (at past).ledger (frontOf (at past).ledger + i) ≡ number_of (at past).ledger (frontOf (at past).ledger + j) → i ≡ j
+      → number_of (at past).ledger (front_of (at past).ledger + i) ≡ number_of (at past).ledger (front_of (at past).ledger + j) → i ≡ j
   run-apart past p i j hi hj e =
       let l = (at past).ledger in
       let w = (at past).state.head.window in
       let n = held-count (run-stands past p) in
       let m = entries-length w.capacity w.start (at past).state.slots (at past).state.payloads 0 w.held in
       let r = in_window w (in_parts (at past).state.head (run-kept past p)).window in
-      let q = place-one 31 l.first (frontOf l) (frontOf l + i) (frontOf l + j) (omega arith) (omega (arith, n, m, r.holds, r.most)) (omega arith) (omega (arith, n, m, r.holds, r.most)) e in
+      let q = place-one 31 l.first (front_of l) (front_of l + i) (front_of l + j) (omega arith) (omega (arith, n, m, r.holds, r.most)) (omega arith) (omega (arith, n, m, r.holds, r.most)) e in
       omega arith
 
-  run_holds : (past : List Event) → NoneClear past → Holds (at past).ledger (at past).desk (at past).state past (handedOut step_of b past)
+  run_holds : (past : List Event) → NoneClear past → Holds (at past).ledger (at past).desk (at past).state past (handed_out step_of b past)
   run_holds past p =
       let a = run-stands past p in
       let l = (at past).ledger in
@@ -279,8 +279,8 @@ module _ (first : ℕ) (d : Desk) (s : State) (f : Empty first s) (g : Known d s
         agrees = record { front = a.front; entries = a.held; lrsn = lrsn-said a };
         known = run-known past p;
         handed = run-handed past p;
-        own = λ i bytes q. subst (λ (x : ℕ). Sent past (sum 31 l.first x) bytes) (zero-add i) (a.ownGone i bytes q);
-        held = a.ownHeld;
+        own = λ i bytes q. subst (λ (x : ℕ). Sent past (sum 31 l.first x) bytes) (zero-add i) (a.own_gone i bytes q);
+        held = a.own_held;
         apart = run-apart past p;
         in_range = run-kept past p;
       }
@@ -300,17 +300,17 @@ module _ (first : ℕ) (d : Desk) (s : State) (f : Empty first s) (g : Known d s
       }
 
   pub run-shows : (past : List Event) → NoneClear past → (number : ℕ)
-      → Shows (at past).ledger (showRefusal (at past).desk number) number (at past).state.payloads (placeNow (at past).state number) (questionNow (at past).state number)
+      → Shows (at past).ledger (show_refusal (at past).desk number) number (at past).state.payloads (place_now (at past).state number) (question_now (at past).state number)
   run-shows past p number =
       let s₁ = (at past).state in
       let k = run-known past p in
       let o = run-kept past p in
-      let e : refusalOf s₁.head s₁.slots (length s₁.payloads) number ≡ showRefusal (at past).desk number =
-      ap (λ (x : Bool). firstRefusal (showRules x s₁.head.window.capacity (length s₁.slots) (length s₁.payloads) number)) o
-      ∙ ap (λ (x : ℕ). firstRefusal (showRules true x (length s₁.slots) (length s₁.payloads) number)) k.capacity
-      ∙ ap (λ (x : ℕ). firstRefusal (showRules true (at past).desk.capacity x (length s₁.payloads) number)) k.slots
-      ∙ ap (λ (x : ℕ). firstRefusal (showRules true (at past).desk.capacity (at past).desk.slots x number)) k.payloads in
-      subst (λ (n : ℕ). Shows (at past).ledger n number s₁.payloads (placeNow s₁ number) (questionNow s₁ number)) e
+      let e : refusal_of s₁.head s₁.slots (length s₁.payloads) number ≡ show_refusal (at past).desk number =
+      ap (λ (x : Bool). first_refusal (show_rules x s₁.head.window.capacity (length s₁.slots) (length s₁.payloads) number)) o
+      ∙ ap (λ (x : ℕ). first_refusal (show_rules true x (length s₁.slots) (length s₁.payloads) number)) k.capacity
+      ∙ ap (λ (x : ℕ). first_refusal (show_rules true (at past).desk.capacity x (length s₁.payloads) number)) k.slots
+      ∙ ap (λ (x : ℕ). first_refusal (show_rules true (at past).desk.capacity (at past).desk.slots x number)) k.payloads in
+      subst (λ (n : ℕ). Shows (at past).ledger n number s₁.payloads (place_now s₁ number) (question_now s₁ number)) e
       (shows (Sent past) (at past).ledger s₁.head s₁.slots s₁.payloads (run-stands past p) o number)
 
 -- demand 3, of the receiver: in a stretch, and from a fresh one on
@@ -318,52 +318,52 @@ pub stretch-theorem : Stretch step_of
 stretch-theorem first d s f g past p = record { holds = run_holds first d s f g past p; told = run-told first d s f g past p }
 
 pub ledger-theorem : Demand3 step_of
-ledger-theorem first s f past p = stretch-theorem first (freshDesk f) s (fresh-empty first s f) (fresh-known first s f) past p
+ledger-theorem first s f past p = stretch-theorem first (fresh_desk f) s (fresh-empty first s f) (fresh-known first s f) past p
 
 -- what is shown after any calls
-pub show-theorem : DemandShown step_of placeNow questionNow
-show-theorem first s f past p number = run-shows first (freshDesk f) s (fresh-empty first s f) (fresh-known first s f) past p number
+pub show-theorem : DemandShown step_of place_now question_now
+show-theorem first s f past p number = run-shows first (fresh_desk f) s (fresh-empty first s f) (fresh-known first s f) past p number
 
 -- the fault that lost three passes: a fresh packet, of the number next expected after any number of wraps, is never refused as a duplicate
 pub fresh-never-duplicate : (first : ℕ) (s : State) (f : Fresh first s) (past : List Event) → NoneClear past → (time : ℤ) (number message location stamp : ℕ) (t : Lent) → stamp < 2 ^ 32
-    → number ≡ number_of (bookAfter step_of (fresh f) past).ledger (next_of (bookAfter step_of (fresh f) past).ledger)
-    → (a : DataAnswer) → (step_of (bookAfter step_of (fresh f) past).state t (calls.Data time number message location stamp)).answer ≡ answers.Data a
-    → (dataLine a).refusal ≡ 10 → ⊥
+    → number ≡ number_of (book_after step_of (fresh f) past).ledger (next_of (book_after step_of (fresh f) past).ledger)
+    → (a : DataAnswer) → (step_of (book_after step_of (fresh f) past).state t (calls.Data time number message location stamp)).answer ≡ answers.Data a
+    → (data_line a).refusal ≡ 10 → ⊥
 fresh-never-duplicate first s f past p time number message location stamp t k e a x q =
-    let b = bookAfter step_of (fresh f) past in
+    let b = book_after step_of (fresh f) past in
     let c = calls.Data time number message location stamp in
     let h = (ledger-theorem first s f past p).holds in
     let u = ((ledger-theorem first s f past p).told (record { call = c; lent = t }) k).says in
-    let v : Judges b.ledger b.desk.capacity (earlyRefusal b.desk t c) number a =
+    let v : Judges b.ledger b.desk.capacity (early_refusal b.desk t c) number a =
     subst (λ (y : Answer). Says b.ledger b.desk t c y (step_of b.state t c).output (step_of b.state t c).list) x u in
     let d = v.duplicate q in
     let w = b.state.head.window in
     let r = in_window w (in_parts b.state.head h.in_range).window in
     let n = sym (length-map (seen b.state) place_of) ∙ ap length h.agrees.entries in
     let m = entries-length w.capacity w.start b.state.slots b.state.payloads 0 w.held in
-    let z = place-one 31 b.ledger.first (frontOf b.ledger) (frontOf b.ledger + d.0) (next_of b.ledger) (omega arith) (omega (arith, n, m, r.holds, r.most, d.1)) (omega arith) (omega (arith, n, m, r.holds, r.most)) (d.2 ∙ e) in
+    let z = place-one 31 b.ledger.first (front_of b.ledger) (front_of b.ledger + d.0) (next_of b.ledger) (omega arith) (omega (arith, n, m, r.holds, r.most, d.1)) (omega arith) (omega (arith, n, m, r.holds, r.most)) (d.2 ∙ e) in
     let y = d.1 in
     omega arith
 
 -- a run that holds nothing is a new start, and so is a clear of it; what the station knows goes on
 module _ (first : ℕ) (d : Desk) (s : State) (f : Empty first s) (g : Known d s) (past : List Event) (p : NoneClear past) where
   abbrev last : Book
-  last = bookAfter step_of (opening first d s) past
+  last = book_after step_of (opening first d s) past
 
-  pub empty-again : length last.ledger.held ≡ 0 → Empty (number_of last.ledger (frontOf last.ledger)) last.state × Known last.desk last.state
+  pub empty-again : length last.ledger.held ≡ 0 → Empty (number_of last.ledger (front_of last.ledger)) last.state × Known last.desk last.state
   unfolding run_of
   empty-again z =
       let a = run-stands first d s f g past p in
       let n = window-count last.state.slots last.state.payloads a in
       let e : last.ledger.held ≡ [] = none-held last.ledger.held z in
-      let q : frontOf last.ledger + 0 ≡ frontOf last.ledger = omega arith in (
+      let q : front_of last.ledger + 0 ≡ front_of last.ledger = omega arith in (
         record {
           kept = run-kept first d s f g past p;
           none = n ∙ z;
           begins = a.front;
           acked =
               lrsn-said a
-              ∙ ap (λ (x : List Place). number_of last.ledger (frontOf last.ledger + receivedRun x)) e
+              ∙ ap (λ (x : List Place). number_of last.ledger (front_of last.ledger + received_run x)) e
               ∙ ap (number_of last.ledger) q;
         },
         run-known first d s f g past p,
@@ -374,9 +374,9 @@ module _ (first : ℕ) (d : Desk) (s : State) (f : Empty first s) (g : Known d s
       none-held (x ∷ xs) e = absurd (omega arith)
 
 pub clear-empty : (first : ℕ) (d : Desk) (s : State) (t : Lent) → Empty first s → Known d s → Empty first (step_of s t calls.Clear).state × Known d (step_of s t calls.Clear).state
-unfolding clearCallOf clearedOf
+unfolding clear_call_of cleared_of
 clear-empty first d s t f k =
-    let n = firstRefusal (headRules (headOk s.head)) in (
+    let n = first_refusal (head_rules (head_ok s.head)) in (
       record {
         kept = cleared-kept s.head f.kept;
         none = by-refusal (λ (o : ClearOutcome). o.cleared.head.window.held ≡ 0) n _ _ (λ z. refl) (λ z. f.none);

@@ -3,11 +3,11 @@
 use Rattle.std.specs.Prelude.{◌≡◌, Bool, true, false, ◌||◌, cond, List, [], map, ◌⊎◌, ℕ, ◌+◌, ◌-◌, ◌*◌, ◌^◌, ◌<◌, ◌≤◌, eqb, ℤ, length, take, drop, get_or}
 use Rattle.numbers.specs.Circular.{distance, before, after, sum}
 use Rattle.window.specs.declared.show.Part.{Part}
-use Rattle.head.specs.Head.{headOk}
+use Rattle.head.specs.Head.{head_ok}
 use Rattle.head.specs.Paper as paper
-use Rattle.head.specs.Rules.{firstRefusal, pushRules, popRules, timedRules, dropRules, showRules, clockRules, headRules}
+use Rattle.head.specs.Rules.{first_refusal, push_rules, pop_rules, timed_rules, drop_rules, show_rules, clock_rules, head_rules}
 use Rattle.receiver.specs.Data.{packet}
-use Rattle.receiver.specs.Paper.{dataLine}
+use Rattle.receiver.specs.Paper.{data_line}
 use Rattle.receiver.specs.declared.data.DataAnswer.{DataAnswer}
 use Rattle.receiver.specs.declared.data.DataAnswer.TheVariants as datas
 use Rattle.feedback.specs.declared.acking.FullAckAnswer.{FullAckAnswer}
@@ -25,9 +25,9 @@ use Rattle.step.specs.declared.Call.{Call}
 use Rattle.step.specs.declared.Call.TheVariants as calls
 use Rattle.step.specs.declared.Answer.{Answer}
 use Rattle.step.specs.declared.Answer.TheVariants as answers
-use Rattle.ledger.specs.Seen.{NotClear, number_in, lastIn, appends, recovers, isLoss, LossIs, EarlyIs, kind_of, kindIn, refusalIn}
-use Rattle.ledger.specs.Ledger.{lost, received, givenUp, released, discarded, Ledger, number_of, frontOf, next_of, ackOf, bytes_of, receivedRun, lostCount, releasedBytes, enterDrop}
-use Rattle.ledger.specs.Runs.{Event, Desk, Book, opening, Known, Fresh, fresh, Empty, NoneClear, answered, turned, bookAfter, handedOut, Sent, Agrees}
+use Rattle.ledger.specs.Seen.{NotClear, number_in, last_in, appends, recovers, is_loss, LossIs, EarlyIs, kind_of, kind_in, refusal_in}
+use Rattle.ledger.specs.Ledger.{lost, received, given_up, released, discarded, Ledger, number_of, front_of, next_of, ack_of, bytes_of, received_run, lost_count, released_bytes, enter_drop}
+use Rattle.ledger.specs.Runs.{Event, Desk, Book, opening, Known, Fresh, fresh, Empty, NoneClear, answered, turned, book_after, handed_out, Sent, Agrees}
 
 -- after any calls: past has them all, out is all that they handed out
 pub record Holds (l : Ledger) (d : Desk) (s : State) (past : List Event) (out : List ℕ) : Type 0 where
@@ -35,61 +35,61 @@ pub record Holds (l : Ledger) (d : Desk) (s : State) (past : List Event) (out : 
   pub agrees : Agrees l s
   pub known : Known d s
   -- nothing twice, nothing out of order: all that was handed out is the bytes of the places released, place by place
-  pub handed : out ≡ releasedBytes l.gone
+  pub handed : out ≡ released_bytes l.gone
   -- no other bytes: what a place was released with, or holds, came in a packet of its number
   pub own : (p : ℕ) (bytes : List ℕ) → get_or l.gone p discarded ≡ released bytes → Sent past (number_of l p) bytes
-  pub held : (i : ℕ) (bytes : List ℕ) → get_or l.held i lost ≡ received bytes → Sent past (number_of l (frontOf l + i)) bytes
+  pub held : (i : ℕ) (bytes : List ℕ) → get_or l.held i lost ≡ received bytes → Sent past (number_of l (front_of l + i)) bytes
   -- two held places never share a number
-  pub apart : (i j : ℕ) → i < length l.held → j < length l.held → number_of l (frontOf l + i) ≡ number_of l (frontOf l + j) → i ≡ j
+  pub apart : (i j : ℕ) → i < length l.held → j < length l.held → number_of l (front_of l + i) ≡ number_of l (front_of l + j) → i ≡ j
   -- no run is ever refused 1
-  pub in_range : headOk s.head ≡ true
+  pub in_range : head_ok s.head ≡ true
 
 -- the answer to a packet, by its number and by the earlier refusal, the first of 1 to 6 (0 for none), whose tests look at no place; the capacity is the station's
 pub record Judges (l : Ledger) (capacity earlier number : ℕ) (a : DataAnswer) : Type 0 where
   -- taken in order: its number is the next; for a lost place: a held place of its number is lost; after a gap: the gap is what lies between
-  pub inOrder : appends a ≡ true → number ≡ number_of l (next_of l)
-  pub forLost : recovers a ≡ true → (i : ℕ) × (i < length l.held) × (number_of l (frontOf l + i) ≡ number) × (get_or l.held i givenUp ≡ lost)
-  pub afterGap : isLoss a ≡ true → after 31 number (number_of l (next_of l)) ≡ true
-  pub gapNamed : LossIs a (number_of l (next_of l)) (sum 31 number (2 ^ 31 - 1))
+  pub in_order : appends a ≡ true → number ≡ number_of l (next_of l)
+  pub for_lost : recovers a ≡ true → (i : ℕ) × (i < length l.held) × (number_of l (front_of l + i) ≡ number) × (get_or l.held i given_up ≡ lost)
+  pub after_gap : is_loss a ≡ true → after 31 number (number_of l (next_of l)) ≡ true
+  pub gap_named : LossIs a (number_of l (next_of l)) (sum 31 number (2 ^ 31 - 1))
   -- and a packet of each of these kinds is taken: one of the number next expected, after any number of wraps, if there is room ..
   pub next : earlier ≡ 0 → number ≡ number_of l (next_of l) → length l.held < capacity → appends a ≡ true
   -- .. one whose held place is lost ..
-  pub taken : earlier ≡ 0 → (i : ℕ) → i < length l.held → number_of l (frontOf l + i) ≡ number → get_or l.held i givenUp ≡ lost → recovers a ≡ true
+  pub taken : earlier ≡ 0 → (i : ℕ) → i < length l.held → number_of l (front_of l + i) ≡ number → get_or l.held i given_up ≡ lost → recovers a ≡ true
   -- .. and one after a gap, if there is room for both
-  pub gap : earlier ≡ 0 → after 31 number (number_of l (next_of l)) ≡ true → length l.held + distance 31 number (number_of l (next_of l)) + 1 ≤ capacity → isLoss a ≡ true
+  pub gap : earlier ≡ 0 → after 31 number (number_of l (next_of l)) ≡ true → length l.held + distance 31 number (number_of l (next_of l)) + 1 ≤ capacity → is_loss a ≡ true
   -- one that is not refused is taken
-  pub took : (dataLine a).refusal ≡ 0 → (appends a || recovers a || isLoss a) ≡ true
+  pub took : (data_line a).refusal ≡ 0 → (appends a || recovers a || is_loss a) ≡ true
   -- 7 and 8: there is no room for it at the next expected number, or after it; 8 has both numbers, the room and the need
-  pub full : (dataLine a).refusal ≡ 7 → (number ≡ number_of l (next_of l)) × (length l.held ≡ capacity)
-  pub early : (dataLine a).refusal ≡ 8 → (after 31 number (number_of l (next_of l)) ≡ true) × (capacity < length l.held + distance 31 number (number_of l (next_of l)) + 1)
+  pub full : (data_line a).refusal ≡ 7 → (number ≡ number_of l (next_of l)) × (length l.held ≡ capacity)
+  pub early : (data_line a).refusal ≡ 8 → (after 31 number (number_of l (next_of l)) ≡ true) × (capacity < length l.held + distance 31 number (number_of l (next_of l)) + 1)
   pub room : EarlyIs a (capacity - length l.held) (distance 31 number (number_of l (next_of l)) + 1)
   -- 9: it is before the front, and not after the next expected, which is tested before; 7, 8 and 9: it has no held place
-  pub late : (dataLine a).refusal ≡ 9 → (before 31 number (number_of l (frontOf l)) ≡ true) × (after 31 number (number_of l (next_of l)) ≡ false)
-  pub unplaced : 7 ≤ (dataLine a).refusal → (dataLine a).refusal ≤ 9 → (i : ℕ) → i < length l.held → number_of l (frontOf l + i) ≡ number → ⊥
+  pub late : (data_line a).refusal ≡ 9 → (before 31 number (number_of l (front_of l)) ≡ true) × (after 31 number (number_of l (next_of l)) ≡ false)
+  pub unplaced : 7 ≤ (data_line a).refusal → (data_line a).refusal ≤ 9 → (i : ℕ) → i < length l.held → number_of l (front_of l + i) ≡ number → ⊥
   -- 10, a duplicate: its held place is received or given up
-  pub duplicate : (dataLine a).refusal ≡ 10 → (i : ℕ) × (i < length l.held) × (number_of l (frontOf l + i) ≡ number) × (get_or l.held i lost ≡ lost → ⊥)
+  pub duplicate : (data_line a).refusal ≡ 10 → (i : ℕ) × (i < length l.held) × (number_of l (front_of l + i) ≡ number) × (get_or l.held i lost ≡ lost → ⊥)
 
 -- the bytes of the first held places, in order
-abbrev pub frontBytes : Ledger → (places : ℕ) → List ℕ
-frontBytes l n = releasedBytes (map (λ x. released (bytes_of x)) (take n l.held))
+abbrev pub front_bytes : Ledger → (places : ℕ) → List ℕ
+front_bytes l n = released_bytes (map (λ x. released (bytes_of x)) (take n l.held))
 
 -- a pop: a message's places are all received, its output is their bytes, in order, and their count is right; a late drop names the places that it discards, and
 -- there is none where the station turned dropping off; 11 comes only if the received places in front have more bytes than the output that was lent
 abbrev pub Tells : Ledger → Desk → MessageAnswer → (output : List ℕ) → Type 0
 Tells l d messages.Nothing out = Unit
 Tells l d (messages.Message time bytes packets) out =
-    (0 < packets) × (packets ≤ receivedRun l.held) × (take bytes out ≡ frontBytes l packets) × (bytes ≡ length (frontBytes l packets))
+    (0 < packets) × (packets ≤ received_run l.held) × (take bytes out ≡ front_bytes l packets) × (bytes ≡ length (front_bytes l packets))
 Tells l d (messages.Late first end delay) out =
     (d.dropping ≡ true)
     × (0 < distance 31 end first)
     × (distance 31 end first ≤ length l.held)
-    × (first ≡ number_of l (frontOf l))
-    × (end ≡ number_of l (frontOf l + distance 31 end first))
-Tells l d (messages.Refused n) out = n ≡ 11 → (packets : ℕ) × (0 < packets) × (packets ≤ receivedRun l.held) × (length out < length (frontBytes l packets))
+    × (first ≡ number_of l (front_of l))
+    × (end ≡ number_of l (front_of l + distance 31 end first))
+Tells l d (messages.Refused n) out = n ≡ 11 → (packets : ℕ) × (0 < packets) × (packets ≤ received_run l.held) × (length out < length (front_bytes l packets))
 
 -- a drop request counts the places that it gives up
 abbrev pub Counts : Ledger → ℕ → ℕ → DropAnswer → Type 0
-Counts l first last (drops.Gone n) = lostCount l.held ≡ lostCount (enterDrop l first last (drops.Gone n)).held + n
+Counts l first last (drops.Gone n) = lost_count l.held ≡ lost_count (enter_drop l first last (drops.Gone n)).held + n
 Counts l first last (drops.Refused n) = Unit
 
 -- a loss report has words, as many as the list has room for at most; 12 comes only if the list that was lent has less than a word for each held place
@@ -101,20 +101,20 @@ Reports held (losses.Refused n) list = n ≡ 12 → length list < held
 -- the first of the refusals 1 to 6 whose test holds for a call, else 0: ok says that the head is in range; the other arguments are capacity, the lengths of
 -- the areas, and the latest reading
 module _ (ok : Bool) (capacity slots payloads history : ℕ) (latest : ℤ) (t : Lent) where
-  abbrev pub earlyBy : Call → ℕ
-  earlyBy (calls.Data time number message location stamp) =
-      firstRefusal (pushRules ok capacity slots payloads time latest (packet number message location stamp) (length t.payload))
-  earlyBy (calls.Pop time) = firstRefusal (popRules ok capacity slots payloads time latest)
-  earlyBy (calls.Report time) = firstRefusal (timedRules ok slots (3 * capacity) time latest)
-  earlyBy (calls.FullAck time) = firstRefusal (timedRules ok history 2048 time latest)
-  earlyBy (calls.Ack2 time number) = firstRefusal (timedRules ok history 2048 time latest)
-  earlyBy (calls.Drop first last) = firstRefusal (dropRules ok capacity slots first last)
-  earlyBy (calls.Clock time stamp) = firstRefusal (clockRules ok time latest)
-  earlyBy calls.Clear = firstRefusal (headRules ok)
+  abbrev pub early_by : Call → ℕ
+  early_by (calls.Data time number message location stamp) =
+      first_refusal (push_rules ok capacity slots payloads time latest (packet number message location stamp) (length t.payload))
+  early_by (calls.Pop time) = first_refusal (pop_rules ok capacity slots payloads time latest)
+  early_by (calls.Report time) = first_refusal (timed_rules ok slots (3 * capacity) time latest)
+  early_by (calls.FullAck time) = first_refusal (timed_rules ok history 2048 time latest)
+  early_by (calls.Ack2 time number) = first_refusal (timed_rules ok history 2048 time latest)
+  early_by (calls.Drop first last) = first_refusal (drop_rules ok capacity slots first last)
+  early_by (calls.Clock time stamp) = first_refusal (clock_rules ok time latest)
+  early_by calls.Clear = first_refusal (head_rules ok)
 
 -- by what the station knows; a receiver that it made is never refused 1
-abbrev pub earlyRefusal : Desk → Lent → Call → ℕ
-earlyRefusal d t c = earlyBy true d.capacity d.slots d.payloads d.history d.latest t c
+abbrev pub early_refusal : Desk → Lent → Call → ℕ
+early_refusal d t c = early_by true d.capacity d.slots d.payloads d.history d.latest t c
 
 -- the later refusals of each call
 abbrev pub Later : Call → ℕ → Type 0
@@ -129,17 +129,17 @@ Later calls.Clear n = ⊥
 
 -- a call is refused by 1 to 6 just if a test holds, else by none or by a later number of its own; and a refusal never has the number 0
 pub record Refuses (earlier : ℕ) (c : Call) (a : Answer) : Type 0 where
-  pub tested : (refusalIn a ≡ earlier) ⊎ ((earlier ≡ 0) × Later c (refusalIn a))
-  pub numbered : (line_of a []).word ≡ paper.refused → 0 < refusalIn a
+  pub tested : (refusal_in a ≡ earlier) ⊎ ((earlier ≡ 0) × Later c (refusal_in a))
+  pub numbered : (line_of a []).word ≡ paper.refused → 0 < refusal_in a
 
 -- what an answer says is so, with the output and the list as they are after it
 abbrev pub Says : Ledger → Desk → Lent → Call → Answer → (output list : List ℕ) → Type 0
-Says l d t c (answers.Data a) out list = Judges l d.capacity (earlyRefusal d t c) (number_in c) a
+Says l d t c (answers.Data a) out list = Judges l d.capacity (early_refusal d t c) (number_in c) a
 Says l d t c (answers.Pop a) out list = Tells l d a out
 Says l d t c (answers.Report a) out list = Reports (length l.held) a list
 Says l d t c (answers.FullAck a) out list = Unit
 Says l d t c (answers.Ack2 a) out list = Unit
-Says l d t c (answers.Drop a) out list = Counts l (number_in c) (lastIn c) a
+Says l d t c (answers.Drop a) out list = Counts l (number_in c) (last_in c) a
 Says l d t c (answers.Clock a) out list = Unit
 Says l d t c (answers.Clear a) out list = Unit
 
@@ -169,17 +169,17 @@ Acks n m (answers.Clear a) = Unit
 -- one call more: the answer is of its call's kind, its line is its own, output and list are as long as they were lent, the number it acknowledges and the room
 -- are the ledger's after it, and what it says is so
 pub record Told (b b₁ : Book) (e : Event) (r : Ended) : Type 0 where
-  pub kind : kindIn r.answer ≡ kind_of e.call
+  pub kind : kind_in r.answer ≡ kind_of e.call
   pub line : r.line ≡ line_of r.answer r.list
   pub lent : (length r.output ≡ length e.lent.output) × (length r.list ≡ length e.lent.list)
-  pub acks : Acks (ackOf b₁.ledger) (b₁.desk.capacity - length b₁.ledger.held) r.answer
-  pub refuses : Refuses (earlyRefusal b.desk e.lent e.call) e.call r.answer
+  pub acks : Acks (ack_of b₁.ledger) (b₁.desk.capacity - length b₁.ledger.held) r.answer
+  pub refuses : Refuses (early_refusal b.desk e.lent e.call) e.call r.answer
   pub says : Says b.ledger b.desk e.lent e.call r.answer r.output r.list
 
 -- demand 3, of what makes a call, from a book just opened
 pub record Demanded (step : State → Lent → Call → Ended) (b : Book) (past : List Event) : Type 0 where
-  pub holds : Holds (bookAfter step b past).ledger (bookAfter step b past).desk (bookAfter step b past).state past (handedOut step b past)
-  pub told : (e : Event) → NotClear e.call → Told (bookAfter step b past) (turned step (bookAfter step b past) e) e (answered step (bookAfter step b past) e)
+  pub holds : Holds (book_after step b past).ledger (book_after step b past).desk (book_after step b past).state past (handed_out step b past)
+  pub told : (e : Event) → NotClear e.call → Told (book_after step b past) (turned step (book_after step b past) e) e (answered step (book_after step b past) e)
 
 abbrev pub Demand3 : (step : State → Lent → Call → Ended) → Type 0
 Demand3 step = (first : ℕ) (s : State) (f : Fresh first s) (past : List Event) → NoneClear past → Demanded step (fresh f) past
@@ -190,8 +190,8 @@ Stretch step =
     (first : ℕ) (d : Desk) (s : State) → Empty first s → Known d s → (past : List Event) → NoneClear past → Demanded step (opening first d s) past
 
 -- show, asked for a number: the tests are by what the station knows
-abbrev pub showRefusal : Desk → (number : ℕ) → ℕ
-showRefusal d number = firstRefusal (showRules true d.capacity d.slots d.payloads number)
+abbrev pub show_refusal : Desk → (number : ℕ) → ℕ
+show_refusal d number = first_refusal (show_rules true d.capacity d.slots d.payloads number)
 
 -- its second question, by the refusal and by whether a part was shown
 abbrev pub questioned : (refusal : ℕ) → (shown : Bool) → ShowAnswer
@@ -199,9 +199,9 @@ questioned n shown = cond (eqb n 0) (cond shown shows.Received shows.Other) (sho
 
 -- what show shows is the ledger's bytes of a held received place, and they are shown exactly then
 pub record Shows (l : Ledger) (refusal number : ℕ) (payloads : List ℕ) (p : Part) (a : ShowAnswer) : Type 0 where
-  pub found : p.received ≡ true → (i : ℕ) × (i < length l.held) × (number_of l (frontOf l + i) ≡ number) × (get_or l.held i lost ≡ received (take p.len (drop p.at payloads)))
+  pub found : p.received ≡ true → (i : ℕ) × (i < length l.held) × (number_of l (front_of l + i) ≡ number) × (get_or l.held i lost ≡ received (take p.len (drop p.at payloads)))
   pub inside : p.received ≡ true → p.at + p.len ≤ length payloads
-  pub shown : refusal ≡ 0 → (i : ℕ) (bytes : List ℕ) → i < length l.held → number_of l (frontOf l + i) ≡ number → get_or l.held i lost ≡ received bytes
+  pub shown : refusal ≡ 0 → (i : ℕ) (bytes : List ℕ) → i < length l.held → number_of l (front_of l + i) ≡ number → get_or l.held i lost ≡ received bytes
       → (p.received ≡ true) × (take p.len (drop p.at payloads) ≡ bytes) × (p.len ≡ length bytes)
   pub empty : p.received ≡ false → p.len ≡ 0
   pub answer : a ≡ questioned refusal p.received
@@ -210,5 +210,5 @@ pub record Shows (l : Ledger) (refusal number : ℕ) (payloads : List ℕ) (p : 
 abbrev pub DemandShown : (step : State → Lent → Call → Ended) → (place : State → ℕ → Part) → (question : State → ℕ → ShowAnswer) → Type 0
 DemandShown step place question =
     (first : ℕ) (s : State) (f : Fresh first s) (past : List Event) → NoneClear past → (number : ℕ)
-    → let b = bookAfter step (fresh f) past in
-    Shows b.ledger (showRefusal b.desk number) number b.state.payloads (place b.state number) (question b.state number)
+    → let b = book_after step (fresh f) past in
+    Shows b.ledger (show_refusal b.desk number) number b.state.payloads (place b.state number) (question b.state number)

@@ -2,8 +2,8 @@
 -- A place is a position in the stream, counted 0, 1, 2 and never restarting; place p has the number (first + p) mod 2^31, however often that has wrapped.
 use Rattle.std.specs.Prelude.{Bool, true, false, cond, List, [], ◌∷◌, ◌++◌, map, ℕ, suc, ◌+◌, eqb, length, take, drop, replicate}
 use Rattle.numbers.specs.Circular.{distance, sum}
-use Rattle.window_report.specs.Drop.{endFrom}
-use Rattle.views.specs.Lists.{run_of, changedIn}
+use Rattle.window_report.specs.Drop.{end_from}
+use Rattle.views.specs.Lists.{run_of, changed_in}
 use Rattle.receiver.specs.declared.data.DataAnswer.{DataAnswer}
 use Rattle.receiver.specs.declared.data.DataAnswer.TheVariants as datas
 use Rattle.receiver.specs.declared.message.MessageAnswer.{MessageAnswer}
@@ -13,13 +13,13 @@ use Rattle.upkeep.specs.declared.request.DropAnswer.TheVariants as drops
 use Rattle.step.specs.declared.Call.{Call}
 use Rattle.step.specs.declared.Answer.{Answer}
 use Rattle.step.specs.declared.Answer.TheVariants as answers
-use Rattle.ledger.specs.Seen.{number_in, lastIn}
+use Rattle.ledger.specs.Seen.{number_in, last_in}
 
 -- a place that is still held: a gap, a packet with the bytes handed in for it, or a gap that a drop request gave up
 pub data Place : Type 0 where
   lost : Place
   received : List ℕ → Place
-  givenUp : Place
+  given_up : Place
 
 -- what became of a place that is gone: handed out in a message, with its bytes, or discarded late, as an answer said
 pub data Fate : Type 0 where
@@ -39,11 +39,11 @@ abbrev pub number_of : Ledger → ℕ → ℕ
 number_of l p = sum 31 l.first p
 
 -- the place at the front, the first that is held, and the place that the next packet in order will have
-abbrev pub frontOf : Ledger → ℕ
-frontOf l = length l.gone
+abbrev pub front_of : Ledger → ℕ
+front_of l = length l.gone
 
 abbrev pub next_of : Ledger → ℕ
-next_of l = frontOf l + length l.held
+next_of l = front_of l + length l.held
 
 abbrev pub holding : Ledger → List Place → Ledger
 holding l ps = record { first = l.first; gone = l.gone; held = ps }
@@ -54,17 +54,17 @@ marked first p number bytes [] = []
 marked first p number bytes (x ∷ xs) = cond (eqb (sum 31 first p) number) (received bytes) x ∷ marked first (suc p) number bytes xs
 
 -- a packet that came in order, or for a place that was lost
-abbrev pub tookIn : Ledger → ℕ → List ℕ → Bool → Ledger
-tookIn l number bytes recovered =
-    holding l (cond recovered (marked l.first (frontOf l) number bytes l.held) (l.held ++ (received bytes ∷ [])))
+abbrev pub took_in : Ledger → ℕ → List ℕ → Bool → Ledger
+took_in l number bytes recovered =
+    holding l (cond recovered (marked l.first (front_of l) number bytes l.held) (l.held ++ (received bytes ∷ [])))
 
 -- a packet, by its answer: `loss` adds the lost places that it names and then the packet
-abbrev pub enterData : Ledger → ℕ → List ℕ → DataAnswer → Ledger
-enterData l number bytes (datas.Got lrsn recovered) = tookIn l number bytes recovered
-enterData l number bytes (datas.Light lrsn recovered) = tookIn l number bytes recovered
-enterData l number bytes (datas.Loss a b) = holding l (l.held ++ replicate (distance 31 b a + 1) lost ++ (received bytes ∷ []))
-enterData l number bytes (datas.Refused n) = l
-enterData l number bytes (datas.PacketTooEarly room need) = l
+abbrev pub enter_data : Ledger → ℕ → List ℕ → DataAnswer → Ledger
+enter_data l number bytes (datas.Got lrsn recovered) = took_in l number bytes recovered
+enter_data l number bytes (datas.Light lrsn recovered) = took_in l number bytes recovered
+enter_data l number bytes (datas.Loss a b) = holding l (l.held ++ replicate (distance 31 b a + 1) lost ++ (received bytes ∷ []))
+enter_data l number bytes (datas.Refused n) = l
+enter_data l number bytes (datas.PacketTooEarly room need) = l
 
 -- the first n places leave
 abbrev pub leave : Ledger → ℕ → (Place → Fate) → Ledger
@@ -73,63 +73,63 @@ leave l n f = record { first = l.first; gone = l.gone ++ map f (take n l.held); 
 abbrev pub bytes_of : Place → List ℕ
 bytes_of lost = []
 bytes_of (received bytes) = bytes
-bytes_of givenUp = []
+bytes_of given_up = []
 
 -- a pop, by its answer: a message releases as many places as it has packets, `late` discards its range
-abbrev pub enterPop : Ledger → MessageAnswer → Ledger
-enterPop l messages.Nothing = l
-enterPop l (messages.Message time bytes packets) = leave l packets (λ x. released (bytes_of x))
-enterPop l (messages.Late first end delay) = leave l (distance 31 end first) (λ x. discarded)
-enterPop l (messages.Refused n) = l
+abbrev pub enter_pop : Ledger → MessageAnswer → Ledger
+enter_pop l messages.Nothing = l
+enter_pop l (messages.Message time bytes packets) = leave l packets (λ x. released (bytes_of x))
+enter_pop l (messages.Late first end delay) = leave l (distance 31 end first) (λ x. discarded)
+enter_pop l (messages.Refused n) = l
 
 -- a drop request gives up the lost places of its range: 01, both ends are saturating differences from the front's number, at most as many as are held
-abbrev pub gaveUp : Place → Place
-gaveUp lost = givenUp
-gaveUp (received bytes) = received bytes
-gaveUp givenUp = givenUp
+abbrev pub gave_up : Place → Place
+gave_up lost = given_up
+gave_up (received bytes) = received bytes
+gave_up given_up = given_up
 
-abbrev pub givenIn : ℕ → ℕ → ℕ → List Place → List Place
-givenIn from to i xs = changedIn gaveUp from to i xs
+abbrev pub given_in : ℕ → ℕ → ℕ → List Place → List Place
+given_in from to i xs = changed_in gave_up from to i xs
 
 abbrev pub end_in : Ledger → ℕ → ℕ
-end_in l number = endFrom (number_of l (frontOf l)) (length l.held) number
+end_in l number = end_from (number_of l (front_of l)) (length l.held) number
 
-abbrev pub enterDrop : Ledger → ℕ → ℕ → DropAnswer → Ledger
-enterDrop l first last (drops.Gone n) = holding l (givenIn (end_in l first) (end_in l (sum 31 last 1)) 0 l.held)
-enterDrop l first last (drops.Refused n) = l
+abbrev pub enter_drop : Ledger → ℕ → ℕ → DropAnswer → Ledger
+enter_drop l first last (drops.Gone n) = holding l (given_in (end_in l first) (end_in l (sum 31 last 1)) 0 l.held)
+enter_drop l first last (drops.Refused n) = l
 
 -- a call with the bytes handed in for it and its answer; reports, ACKs and the clock move no place
 abbrev pub enter : Ledger → Call → List ℕ → Answer → Ledger
-enter l c bytes (answers.Data a) = enterData l (number_in c) bytes a
-enter l c bytes (answers.Pop a) = enterPop l a
+enter l c bytes (answers.Data a) = enter_data l (number_in c) bytes a
+enter l c bytes (answers.Pop a) = enter_pop l a
 enter l c bytes (answers.Report a) = l
 enter l c bytes (answers.FullAck a) = l
 enter l c bytes (answers.Ack2 a) = l
-enter l c bytes (answers.Drop a) = enterDrop l (number_in c) (lastIn c) a
+enter l c bytes (answers.Drop a) = enter_drop l (number_in c) (last_in c) a
 enter l c bytes (answers.Clock a) = l
 enter l c bytes (answers.Clear a) = l
 
 -- of the places held, how many from the front on are received, and how many are lost
-abbrev pub isReceived : Place → Bool
-isReceived lost = false
-isReceived (received bytes) = true
-isReceived givenUp = false
+abbrev pub is_received : Place → Bool
+is_received lost = false
+is_received (received bytes) = true
+is_received given_up = false
 
-abbrev pub receivedRun : List Place → ℕ
-receivedRun xs = run_of isReceived xs
+abbrev pub received_run : List Place → ℕ
+received_run xs = run_of is_received xs
 
 -- the acknowledgement number: that of the first held place not received, else of the next expected
-abbrev pub ackOf : Ledger → ℕ
-ackOf l = number_of l (frontOf l + receivedRun l.held)
+abbrev pub ack_of : Ledger → ℕ
+ack_of l = number_of l (front_of l + received_run l.held)
 
-unfoldable pub lostCount : List Place → ℕ
-lostCount [] = 0
-lostCount (lost ∷ xs) = lostCount xs + 1
-lostCount (received bytes ∷ xs) = lostCount xs
-lostCount (givenUp ∷ xs) = lostCount xs
+unfoldable pub lost_count : List Place → ℕ
+lost_count [] = 0
+lost_count (lost ∷ xs) = lost_count xs + 1
+lost_count (received bytes ∷ xs) = lost_count xs
+lost_count (given_up ∷ xs) = lost_count xs
 
 -- the bytes of the places released, in the order of the places
-unfoldable pub releasedBytes : List Fate → List ℕ
-releasedBytes [] = []
-releasedBytes (released bytes ∷ fs) = bytes ++ releasedBytes fs
-releasedBytes (discarded ∷ fs) = releasedBytes fs
+unfoldable pub released_bytes : List Fate → List ℕ
+released_bytes [] = []
+released_bytes (released bytes ∷ fs) = bytes ++ released_bytes fs
+released_bytes (discarded ∷ fs) = released_bytes fs

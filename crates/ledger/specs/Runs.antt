@@ -1,13 +1,13 @@
 -- Runs: any calls but clear on a fresh receiver, each given what the last left, with the ledger kept beside. `step` is what makes a call: the receiver's, or a wrong one.
 use Rattle.std.specs.Prelude.{◌≡◌, Bool, true, cond, List, [], ◌∷◌, ◌++◌, map, ℕ, ◌+◌, eqb, ℤ, length}
-use Rattle.head.specs.Head.{headOk, made_of}
+use Rattle.head.specs.Head.{head_ok, made_of}
 use Rattle.step.specs.Step.{State, Lent, Ended}
 use Rattle.step.specs.declared.Call.{Call}
 use Rattle.step.specs.declared.Answer.{Answer}
 use Rattle.step.specs.declared.Call.TheVariants as calls
 use Rattle.views.specs.View as views
-use Rattle.ledger.specs.Seen.{NotClear, outBytes, placesIn, readingIn, refusalIn}
-use Rattle.ledger.specs.Ledger.{Place, lost, received, givenUp, Ledger, opened, number_of, frontOf, ackOf, enter}
+use Rattle.ledger.specs.Seen.{NotClear, out_bytes, places_in, reading_in, refusal_in}
+use Rattle.ledger.specs.Ledger.{Place, lost, received, given_up, Ledger, opened, number_of, front_of, ack_of, enter}
 
 -- a call and what is lent for it; any contents
 pub record Event : Type 0 where
@@ -35,7 +35,7 @@ noted d c a =
       slots = d.slots;
       payloads = d.payloads;
       history = d.history;
-      latest = cond (eqb (refusalIn a) 0) (readingIn c d.latest) d.latest;
+      latest = cond (eqb (refusal_in a) 0) (reading_in c d.latest) d.latest;
     }
 
 -- the station's ledger and desk beside the receiver's state
@@ -58,8 +58,8 @@ pub record Fresh (first : ℕ) (s : State) : Type 0 where
   pub head : s.head ≡ (made_of start latency dropping first capacity).head
 
 -- what the station knows when it has made it
-abbrev pub freshDesk : {first : ℕ} {s : State} → Fresh first s → Desk
-freshDesk {s = s} f =
+abbrev pub fresh_desk : {first : ℕ} {s : State} → Fresh first s → Desk
+fresh_desk {s = s} f =
     record {
       capacity = f.capacity;
       latency = f.latency;
@@ -71,11 +71,11 @@ freshDesk {s = s} f =
     }
 
 abbrev pub fresh : {first : ℕ} {s : State} → Fresh first s → Book
-fresh {first = first} {s = s} f = opening first (freshDesk f) s
+fresh {first = first} {s = s} f = opening first (fresh_desk f) s
 
 -- a receiver that holds nothing and has acknowledged all: a fresh one, and any other between two messages, after a clear of an empty window too
 pub record Empty (first : ℕ) (s : State) : Type 0 where
-  pub kept : headOk s.head ≡ true
+  pub kept : head_ok s.head ≡ true
   pub none : s.head.window.held ≡ 0
   pub begins : s.head.window.seqno0 ≡ first
   pub acked : s.head.window.lrsn ≡ first
@@ -93,19 +93,19 @@ module _ (step : State → Lent → Call → Ended) where
       record { ledger = enter b.ledger e.call e.lent.payload (answered b e).answer; desk = noted b.desk e.call (answered b e).answer; state = (answered b e).state }
 
   -- the book after these calls; the newest stands first in the list
-  unfoldable pub bookAfter : Book → List Event → Book
-  bookAfter b [] = b
-  bookAfter b (e ∷ past) = turned (bookAfter b past) e
+  unfoldable pub book_after : Book → List Event → Book
+  book_after b [] = b
+  book_after b (e ∷ past) = turned (book_after b past) e
 
   -- the bytes that all answers handed out, oldest first
-  unfoldable pub handedOut : Book → List Event → List ℕ
-  handedOut b [] = []
-  handedOut b (e ∷ past) = handedOut b past ++ outBytes (answered (bookAfter b past) e).answer (answered (bookAfter b past) e).output
+  unfoldable pub handed_out : Book → List Event → List ℕ
+  handed_out b [] = []
+  handed_out b (e ∷ past) = handed_out b past ++ out_bytes (answered (book_after b past) e).answer (answered (book_after b past) e).output
 
   -- how many places were ever entered
   unfoldable pub entered : Book → List Event → ℕ
   entered b [] = 0
-  entered b (e ∷ past) = entered b past + placesIn (answered (bookAfter b past) e).answer
+  entered b (e ∷ past) = entered b past + places_in (answered (book_after b past) e).answer
 
 -- a packet of this number with these bytes was handed in
 pub data Sent : List Event → ℕ → List ℕ → Type 0 where
@@ -118,12 +118,12 @@ pub data Sent : List Event → ℕ → List ℕ → Type 0 where
 abbrev pub place_of : views.Seen → Place
 place_of (views.lost k f) = lost
 place_of (views.received l m t bytes) = received bytes
-place_of views.givenUp = givenUp
+place_of views.given_up = given_up
 
 pub record Agrees (l : Ledger) (s : State) : Type 0 where
-  pub front : s.head.window.seqno0 ≡ number_of l (frontOf l)
+  pub front : s.head.window.seqno0 ≡ number_of l (front_of l)
   pub entries : map place_of (views.entries s.head.window s.slots s.payloads) ≡ l.held
-  pub lrsn : s.head.window.lrsn ≡ ackOf l
+  pub lrsn : s.head.window.lrsn ≡ ack_of l
 
 -- head and areas agree with what the station knows
 pub record Known (d : Desk) (s : State) : Type 0 where

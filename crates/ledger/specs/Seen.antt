@@ -22,15 +22,15 @@ number_in (calls.Drop first last) = first
 number_in (calls.Clock time stamp) = 0
 number_in calls.Clear = 0
 
-abbrev pub lastIn : Call → ℕ
-lastIn (calls.Data time number message location stamp) = 0
-lastIn (calls.Pop time) = 0
-lastIn (calls.Report time) = 0
-lastIn (calls.FullAck time) = 0
-lastIn (calls.Ack2 time number) = 0
-lastIn (calls.Drop first last) = last
-lastIn (calls.Clock time stamp) = 0
-lastIn calls.Clear = 0
+abbrev pub last_in : Call → ℕ
+last_in (calls.Data time number message location stamp) = 0
+last_in (calls.Pop time) = 0
+last_in (calls.Report time) = 0
+last_in (calls.FullAck time) = 0
+last_in (calls.Ack2 time number) = 0
+last_in (calls.Drop first last) = last
+last_in (calls.Clock time stamp) = 0
+last_in calls.Clear = 0
 
 -- any call but clear; a stamp is a number of 32 bits, as its type in the code says
 abbrev pub NotClear : Call → Type 0
@@ -44,41 +44,41 @@ NotClear (calls.Clock time stamp) = Unit
 NotClear calls.Clear = ⊥
 
 -- the bytes that an answer handed out
-abbrev pub popBytes : MessageAnswer → List ℕ → List ℕ
-popBytes messages.Nothing out = []
-popBytes (messages.Message time bytes packets) out = take bytes out
-popBytes (messages.Late first end delay) out = []
-popBytes (messages.Refused n) out = []
+abbrev pub pop_bytes : MessageAnswer → List ℕ → List ℕ
+pop_bytes messages.Nothing out = []
+pop_bytes (messages.Message time bytes packets) out = take bytes out
+pop_bytes (messages.Late first end delay) out = []
+pop_bytes (messages.Refused n) out = []
 
-abbrev pub outBytes : Answer → List ℕ → List ℕ
-outBytes (answers.Data a) out = []
-outBytes (answers.Pop a) out = popBytes a out
-outBytes (answers.Report a) out = []
-outBytes (answers.FullAck a) out = []
-outBytes (answers.Ack2 a) out = []
-outBytes (answers.Drop a) out = []
-outBytes (answers.Clock a) out = []
-outBytes (answers.Clear a) out = []
+abbrev pub out_bytes : Answer → List ℕ → List ℕ
+out_bytes (answers.Data a) out = []
+out_bytes (answers.Pop a) out = pop_bytes a out
+out_bytes (answers.Report a) out = []
+out_bytes (answers.FullAck a) out = []
+out_bytes (answers.Ack2 a) out = []
+out_bytes (answers.Drop a) out = []
+out_bytes (answers.Clock a) out = []
+out_bytes (answers.Clear a) out = []
 
 -- how many places an answer entered
-abbrev pub dataPlaces : DataAnswer → ℕ
-dataPlaces (datas.Got lrsn true) = 0
-dataPlaces (datas.Got lrsn false) = 1
-dataPlaces (datas.Light lrsn true) = 0
-dataPlaces (datas.Light lrsn false) = 1
-dataPlaces (datas.Loss a b) = distance 31 b a + 2
-dataPlaces (datas.Refused n) = 0
-dataPlaces (datas.PacketTooEarly room need) = 0
+abbrev pub data_places : DataAnswer → ℕ
+data_places (datas.Got lrsn true) = 0
+data_places (datas.Got lrsn false) = 1
+data_places (datas.Light lrsn true) = 0
+data_places (datas.Light lrsn false) = 1
+data_places (datas.Loss a b) = distance 31 b a + 2
+data_places (datas.Refused n) = 0
+data_places (datas.PacketTooEarly room need) = 0
 
-abbrev pub placesIn : Answer → ℕ
-placesIn (answers.Data a) = dataPlaces a
-placesIn (answers.Pop a) = 0
-placesIn (answers.Report a) = 0
-placesIn (answers.FullAck a) = 0
-placesIn (answers.Ack2 a) = 0
-placesIn (answers.Drop a) = 0
-placesIn (answers.Clock a) = 0
-placesIn (answers.Clear a) = 0
+abbrev pub places_in : Answer → ℕ
+places_in (answers.Data a) = data_places a
+places_in (answers.Pop a) = 0
+places_in (answers.Report a) = 0
+places_in (answers.FullAck a) = 0
+places_in (answers.Ack2 a) = 0
+places_in (answers.Drop a) = 0
+places_in (answers.Clock a) = 0
+places_in (answers.Clear a) = 0
 
 -- whether a packet came for a place that was lost
 abbrev pub recovers : DataAnswer → Bool
@@ -99,12 +99,12 @@ appends (datas.Refused n) = false
 appends (datas.PacketTooEarly room need) = false
 
 -- whether it came after a gap, and that the gap named is from a to b
-abbrev pub isLoss : DataAnswer → Bool
-isLoss (datas.Got lrsn recovered) = false
-isLoss (datas.Light lrsn recovered) = false
-isLoss (datas.Loss a b) = true
-isLoss (datas.Refused n) = false
-isLoss (datas.PacketTooEarly room need) = false
+abbrev pub is_loss : DataAnswer → Bool
+is_loss (datas.Got lrsn recovered) = false
+is_loss (datas.Light lrsn recovered) = false
+is_loss (datas.Loss a b) = true
+is_loss (datas.Refused n) = false
+is_loss (datas.PacketTooEarly room need) = false
 
 abbrev pub LossIs : DataAnswer → ℕ → ℕ → Type 0
 LossIs (datas.Got lrsn recovered) first last = Unit
@@ -124,29 +124,29 @@ kind_of (calls.Drop first last) = 6
 kind_of (calls.Clock time stamp) = 7
 kind_of calls.Clear = 8
 
-abbrev pub kindIn : Answer → ℕ
-kindIn (answers.Data a) = 1
-kindIn (answers.Pop a) = 2
-kindIn (answers.Report a) = 3
-kindIn (answers.FullAck a) = 4
-kindIn (answers.Ack2 a) = 5
-kindIn (answers.Drop a) = 6
-kindIn (answers.Clock a) = 7
-kindIn (answers.Clear a) = 8
+abbrev pub kind_in : Answer → ℕ
+kind_in (answers.Data a) = 1
+kind_in (answers.Pop a) = 2
+kind_in (answers.Report a) = 3
+kind_in (answers.FullAck a) = 4
+kind_in (answers.Ack2 a) = 5
+kind_in (answers.Drop a) = 6
+kind_in (answers.Clock a) = 7
+kind_in (answers.Clear a) = 8
 
 -- the reading of a call that has one, and the number of the refusal that an answer tells, 0 for none
-abbrev pub readingIn : Call → ℤ → ℤ
-readingIn (calls.Data time number message location stamp) z = time
-readingIn (calls.Pop time) z = time
-readingIn (calls.Report time) z = time
-readingIn (calls.FullAck time) z = time
-readingIn (calls.Ack2 time number) z = time
-readingIn (calls.Drop first last) z = z
-readingIn (calls.Clock time stamp) z = time
-readingIn calls.Clear z = z
+abbrev pub reading_in : Call → ℤ → ℤ
+reading_in (calls.Data time number message location stamp) z = time
+reading_in (calls.Pop time) z = time
+reading_in (calls.Report time) z = time
+reading_in (calls.FullAck time) z = time
+reading_in (calls.Ack2 time number) z = time
+reading_in (calls.Drop first last) z = z
+reading_in (calls.Clock time stamp) z = time
+reading_in calls.Clear z = z
 
-abbrev pub refusalIn : Answer → ℕ
-refusalIn a = (line_of a []).refusal
+abbrev pub refusal_in : Answer → ℕ
+refusal_in a = (line_of a []).refusal
 
 -- 8 never comes without its two numbers, and they are these
 abbrev pub EarlyIs : DataAnswer → ℕ → ℕ → Type 0

@@ -13,12 +13,12 @@ use lib.Seq.{take_all, take-length}
 use Rattle.numbers.proofs.Flags.{by-order}
 use Rattle.numbers.proofs.Signs.{widens}
 use Rattle.text.specs.Bytes.{bytes}
-use Rattle.text.specs.Put.{Put, putEnded, put_of}
+use Rattle.text.specs.Put.{Put, put_ended, put_of}
 use Rattle.text.proofs.Puts.{put_then}
-use Rattle.head.specs.Paper.{got, light, message, late, report, refused, adjusted, whole, plain, refusedBy}
-use Rattle.receiver.specs.Paper.{dataLine, messageLine}
-use Rattle.feedback.specs.Paper.{lossLine, fullAckLine, rttLine, clockLine}
-use Rattle.upkeep.specs.Paper.{dropLine, clearLine}
+use Rattle.head.specs.Paper.{got, light, message, late, report, refused, adjusted, whole, plain, refused_by}
+use Rattle.receiver.specs.Paper.{data_line, message_line}
+use Rattle.feedback.specs.Paper.{loss_line, full_ack_line, rtt_line, clock_line}
+use Rattle.upkeep.specs.Paper.{drop_line, clear_line}
 use Rattle.receiver.specs.declared.data.DataAnswer.{DataAnswer}
 use Rattle.receiver.specs.declared.data.DataAnswer.TheVariants as datas
 use Rattle.receiver.specs.declared.message.MessageAnswer.{MessageAnswer}
@@ -32,58 +32,58 @@ use Rattle.feedback.specs.declared.sync.ClockAnswer.TheVariants as clocks
 use Rattle.feedback.specs.declared.acking.FullAckAnswer.{FullAckAnswer}
 use Rattle.feedback.specs.declared.acking.RttAnswer.{RttAnswer}
 use Rattle.shapes.specs.Shapes.{closed, line_of}
-use Rattle.shapes.specs.Inner.{oneIf}
-use Rattle.lines.specs.Lines.{letters, lineBytes, endBytes, badBytes}
+use Rattle.shapes.specs.Inner.{one_if}
+use Rattle.lines.specs.Lines.{letters, line_bytes, end_bytes, bad_bytes}
 
 module _ (out : List ℕ) (at n : ℕ) where
   -- a refusal's number stands first, unless it is 0
-  pub refused_none : (k : ℕ) {x : Put} → k ≡ 0 → x ≡ put_of out at (line_of n (letters refused) []) → x ≡ put_of out at (lineBytes n (refusedBy k []))
+  pub refused_none : (k : ℕ) {x : Put} → k ≡ 0 → x ≡ put_of out at (line_of n (letters refused) []) → x ≡ put_of out at (line_bytes n (refused_by k []))
   refused_none k h e = rw h e
 
-  pub refused-some : (k : ℕ) {x : Put} → (k ≡ 0 → ⊥) → x ≡ put_of out at (line_of n (letters refused) (plain k ∷ [])) → x ≡ put_of out at (lineBytes n (refusedBy k []))
+  pub refused-some : (k : ℕ) {x : Put} → (k ≡ 0 → ⊥) → x ≡ put_of out at (line_of n (letters refused) (plain k ∷ [])) → x ≡ put_of out at (line_bytes n (refused_by k []))
   refused-some k h e = rw (ne_eqb k 0 h) e
 
   -- each answer by its case
-  pub data-case : (a b : DataAnswer) {x : Put} → a ≡ b → x ≡ put_of out at (lineBytes n (dataLine b)) → x ≡ put_of out at (lineBytes n (dataLine a))
+  pub data-case : (a b : DataAnswer) {x : Put} → a ≡ b → x ≡ put_of out at (line_bytes n (data_line b)) → x ≡ put_of out at (line_bytes n (data_line a))
   data-case a b h e = rw h e
 
-  pub data-got : (a : DataAnswer) (l y : ℕ) {t : Bool} {x : Put} → a ≡ datas.Got l t → y ≡ oneIf t → x ≡ put_of out at (line_of n (letters got) (plain l ∷ plain y ∷ [])) → x ≡ put_of out at (lineBytes n (dataLine a))
+  pub data-got : (a : DataAnswer) (l y : ℕ) {t : Bool} {x : Put} → a ≡ datas.Got l t → y ≡ one_if t → x ≡ put_of out at (line_of n (letters got) (plain l ∷ plain y ∷ [])) → x ≡ put_of out at (line_bytes n (data_line a))
   data-got a l y h q e = rw h (e ∙ ap (λ (k : ℕ). put_of out at (line_of n (letters got) (plain l ∷ plain k ∷ []))) q)
 
-  pub data-light : (a : DataAnswer) (l y : ℕ) {t : Bool} {x : Put} → a ≡ datas.Light l t → y ≡ oneIf t → x ≡ put_of out at (line_of n (letters light) (plain l ∷ plain y ∷ [])) → x ≡ put_of out at (lineBytes n (dataLine a))
+  pub data-light : (a : DataAnswer) (l y : ℕ) {t : Bool} {x : Put} → a ≡ datas.Light l t → y ≡ one_if t → x ≡ put_of out at (line_of n (letters light) (plain l ∷ plain y ∷ [])) → x ≡ put_of out at (line_bytes n (data_line a))
   data-light a l y h q e = rw h (e ∙ ap (λ (k : ℕ). put_of out at (line_of n (letters light) (plain l ∷ plain k ∷ []))) q)
 
-  pub message-case : (a b : MessageAnswer) {x : Put} → a ≡ b → x ≡ put_of out at (lineBytes n (messageLine b)) → x ≡ put_of out at (lineBytes n (messageLine a))
+  pub message-case : (a b : MessageAnswer) {x : Put} → a ≡ b → x ≡ put_of out at (line_bytes n (message_line b)) → x ≡ put_of out at (line_bytes n (message_line a))
   message-case a b h e = rw h e
 
   -- z₁ is z as the machine reads it back, and z₂ the i64 of an i32 that is read back as z₃
-  pub message-due : (a : MessageAnswer) (z : ℤ) (b p : ℕ) {z₁ : ℤ} {x : Put} → a ≡ messages.Message z b p → z₁ ≡ z → x ≡ put_of out at (line_of n (letters message) (whole z₁ ∷ plain b ∷ plain p ∷ [])) → x ≡ put_of out at (lineBytes n (messageLine a))
+  pub message-due : (a : MessageAnswer) (z : ℤ) (b p : ℕ) {z₁ : ℤ} {x : Put} → a ≡ messages.Message z b p → z₁ ≡ z → x ≡ put_of out at (line_of n (letters message) (whole z₁ ∷ plain b ∷ plain p ∷ [])) → x ≡ put_of out at (line_bytes n (message_line a))
   message-due a z b p h q e = rw h (e ∙ ap (λ (y : ℤ). put_of out at (line_of n (letters message) (whole y ∷ plain b ∷ plain p ∷ []))) q)
 
   pub message-late : (a : MessageAnswer) (f l : ℕ) (z : ℤ) {z₁ z₂ z₃ : ℤ} {x : Put} → a ≡ messages.Late f l z → z₁ ≡ z₂ → z₂ ≡ z₃ → z₃ ≡ z
-      → x ≡ put_of out at (line_of n (letters late) (plain f ∷ plain l ∷ whole z₁ ∷ [])) → x ≡ put_of out at (lineBytes n (messageLine a))
+      → x ≡ put_of out at (line_of n (letters late) (plain f ∷ plain l ∷ whole z₁ ∷ [])) → x ≡ put_of out at (line_bytes n (message_line a))
   message-late a f l z h q s t e = rw h (e ∙ ap (λ (y : ℤ). put_of out at (line_of n (letters late) (plain f ∷ plain l ∷ whole y ∷ []))) (q ∙ s ∙ t))
 
-  pub loss-case : (a b : LossAnswer) (list : List ℕ) {x : Put} → a ≡ b → x ≡ put_of out at (lineBytes n (lossLine b list)) → x ≡ put_of out at (lineBytes n (lossLine a list))
+  pub loss-case : (a b : LossAnswer) (list : List ℕ) {x : Put} → a ≡ b → x ≡ put_of out at (line_bytes n (loss_line b list)) → x ≡ put_of out at (line_bytes n (loss_line a list))
   loss-case a b list h e = rw h e
 
-  pub full-case : (a b : FullAckAnswer) {x : Put} → a ≡ b → x ≡ put_of out at (lineBytes n (fullAckLine b)) → x ≡ put_of out at (lineBytes n (fullAckLine a))
+  pub full-case : (a b : FullAckAnswer) {x : Put} → a ≡ b → x ≡ put_of out at (line_bytes n (full_ack_line b)) → x ≡ put_of out at (line_bytes n (full_ack_line a))
   full-case a b h e = rw h e
 
-  pub rtt-case : (a b : RttAnswer) {x : Put} → a ≡ b → x ≡ put_of out at (lineBytes n (rttLine b)) → x ≡ put_of out at (lineBytes n (rttLine a))
+  pub rtt-case : (a b : RttAnswer) {x : Put} → a ≡ b → x ≡ put_of out at (line_bytes n (rtt_line b)) → x ≡ put_of out at (line_bytes n (rtt_line a))
   rtt-case a b h e = rw h e
 
-  pub drop-case : (a b : DropAnswer) {x : Put} → a ≡ b → x ≡ put_of out at (lineBytes n (dropLine b)) → x ≡ put_of out at (lineBytes n (dropLine a))
+  pub drop-case : (a b : DropAnswer) {x : Put} → a ≡ b → x ≡ put_of out at (line_bytes n (drop_line b)) → x ≡ put_of out at (line_bytes n (drop_line a))
   drop-case a b h e = rw h e
 
-  pub clock-case : (a b : ClockAnswer) {x : Put} → a ≡ b → x ≡ put_of out at (lineBytes n (clockLine b)) → x ≡ put_of out at (lineBytes n (clockLine a))
+  pub clock-case : (a b : ClockAnswer) {x : Put} → a ≡ b → x ≡ put_of out at (line_bytes n (clock_line b)) → x ≡ put_of out at (line_bytes n (clock_line a))
   clock-case a b h e = rw h e
 
   pub clock-adjusted : (a : ClockAnswer) (z : ℤ) (d : ℕ) {z₁ z₂ z₃ : ℤ} {x : Put} → a ≡ clocks.Adjusted z d → z₁ ≡ z₂ → z₂ ≡ z₃ → z₃ ≡ z
-      → x ≡ put_of out at (line_of n (letters adjusted) (whole z₁ ∷ plain d ∷ [])) → x ≡ put_of out at (lineBytes n (clockLine a))
+      → x ≡ put_of out at (line_of n (letters adjusted) (whole z₁ ∷ plain d ∷ [])) → x ≡ put_of out at (line_bytes n (clock_line a))
   clock-adjusted a z d h q s t e = rw h (e ∙ ap (λ (y : ℤ). put_of out at (line_of n (letters adjusted) (whole y ∷ plain d ∷ []))) (q ∙ s ∙ t))
 
-  pub clear-case : (a b : ClearAnswer) {x : Put} → a ≡ b → x ≡ put_of out at (lineBytes n (clearLine b)) → x ≡ put_of out at (lineBytes n (clearLine a))
+  pub clear-case : (a b : ClearAnswer) {x : Put} → a ≡ b → x ≡ put_of out at (line_bytes n (clear_line b)) → x ≡ put_of out at (line_bytes n (clear_line a))
   clear-case a b h e = rw h e
 
 -- loss_line: the first `w` words of a list are its first `min w (length list)`
@@ -100,20 +100,20 @@ taken list w =
     (λ h. rw (min-eq_right h) (take-length list ∙ sym (take_all w list h)))
 
 pub loss-report : (out : List ℕ) (at k : ℕ) (a : LossAnswer) (list : List ℕ) (n w : ℕ) {x : Put} → a ≡ losses.Report w → n ≡ min w (length list)
-    → x ≡ put_of out at (line_of k (letters report) (map plain (take n list))) → x ≡ put_of out at (lineBytes k (lossLine a list))
+    → x ≡ put_of out at (line_of k (letters report) (map plain (take n list))) → x ≡ put_of out at (line_bytes k (loss_line a list))
 loss-report out at k a list n w h q e =
     rw h (e ∙ ap (λ (l : List ℕ). put_of out at (line_of k (letters report) (map plain l))) (ap (λ (m : ℕ). take m list) q ∙ taken list w))
 
 -- end_line, bad_line
 module _ (out : List ℕ) (at : ℕ) {p : ℕ} {out₁ : List ℕ} where
-  pub end-bytes : (i j k l : ℕ) {r : ℕ} {out₂ : List ℕ} → putEnded p out₁ ≡ put_of out at (bytes "end") → at + 256 ≤ length out
-      → putEnded r out₂ ≡ put_of out₁ p (closed (plain i ∷ plain j ∷ plain k ∷ plain l ∷ [])) → putEnded r out₂ ≡ put_of out at (endBytes i j k l)
-  unfolding endBytes
+  pub end-bytes : (i j k l : ℕ) {r : ℕ} {out₂ : List ℕ} → put_ended p out₁ ≡ put_of out at (bytes "end") → at + 256 ≤ length out
+      → put_ended r out₂ ≡ put_of out₁ p (closed (plain i ∷ plain j ∷ plain k ∷ plain l ∷ [])) → put_ended r out₂ ≡ put_of out at (end_bytes i j k l)
+  unfolding end_bytes
   end-bytes i j k l e h f = put_then out at (bytes "end") (closed (plain i ∷ plain j ∷ plain k ∷ plain l ∷ [])) e f (omega arith)
 
-  pub bad-bytes : (i : ℕ) {r : ℕ} {out₂ : List ℕ} → putEnded p out₁ ≡ put_of out at (bytes "bad") → at + 256 ≤ length out
-      → putEnded r out₂ ≡ put_of out₁ p (closed (plain i ∷ [])) → putEnded r out₂ ≡ put_of out at (badBytes i)
-  unfolding badBytes
+  pub bad-bytes : (i : ℕ) {r : ℕ} {out₂ : List ℕ} → put_ended p out₁ ≡ put_of out at (bytes "bad") → at + 256 ≤ length out
+      → put_ended r out₂ ≡ put_of out₁ p (closed (plain i ∷ [])) → put_ended r out₂ ≡ put_of out at (bad_bytes i)
+  unfolding bad_bytes
   bad-bytes i e h f = put_then out at (bytes "bad") (closed (plain i ∷ [])) e f (omega arith)
 
 -- wider

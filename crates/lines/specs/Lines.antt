@@ -30,12 +30,12 @@ abbrev pub values_of : Line → List Value
 values_of l = cond (eqb l.refusal 0) l.values (plain l.refusal ∷ l.values)
 
 -- the record's number, the word, the values
-abbrev pub lineBytes : ℕ → Line → List ℕ
-lineBytes n l = line_of n (letters l.word) (values_of l)
+abbrev pub line_bytes : ℕ → Line → List ℕ
+line_bytes n l = line_of n (letters l.word) (values_of l)
 
 -- the last line: records, lrsn, seqno0, held; and the line of a bad file: the offset
-unfoldable pub endBytes : ℕ → ℕ → ℕ → ℕ → List ℕ
-endBytes records lrsn seqno0 held = bytes "end" ++ closed (plain records ∷ plain lrsn ∷ plain seqno0 ∷ plain held ∷ [])
+unfoldable pub end_bytes : ℕ → ℕ → ℕ → ℕ → List ℕ
+end_bytes records lrsn seqno0 held = bytes "end" ++ closed (plain records ∷ plain lrsn ∷ plain seqno0 ∷ plain held ∷ [])
 
-unfoldable pub badBytes : ℕ → List ℕ
-badBytes offset = bytes "bad" ++ closed (plain offset ∷ [])
+unfoldable pub bad_bytes : ℕ → List ℕ
+bad_bytes offset = bytes "bad" ++ closed (plain offset ∷ [])

@@ -1,12 +1,12 @@
 // The lines of the trace: 01, "Trace, mark DLT", "After the record's number (from 1) a line has ..". A function for each call's answer writes
 // the whole line at the cursor and answers the cursor behind it; `nth` is the record's number. Each needs room: only the trace calls them.
 ghost use Rattle.std.specs.Prelude.{◌≡◌, [], ◌+◌, ◌*◌, ◌≤◌, min, length};
-ghost use Rattle.head.specs.Paper.{refusedBy};
-ghost use Rattle.receiver.specs.Paper.{dataLine, messageLine};
-ghost use Rattle.feedback.specs.Paper.{lossLine, fullAckLine, rttLine, clockLine};
-ghost use Rattle.upkeep.specs.Paper.{dropLine, clearLine};
+ghost use Rattle.head.specs.Paper.{refused_by};
+ghost use Rattle.receiver.specs.Paper.{data_line, message_line};
+ghost use Rattle.feedback.specs.Paper.{loss_line, full_ack_line, rtt_line, clock_line};
+ghost use Rattle.upkeep.specs.Paper.{drop_line, clear_line};
 ghost use Rattle.shapes.specs.Ready.{Wrote};
-ghost use Rattle.lines.specs.Lines.{lineBytes, endBytes, badBytes};
+ghost use Rattle.lines.specs.Lines.{line_bytes, end_bytes, bad_bytes};
 
 use feedback::acking::{FullAckAnswer, RttAnswer};
 use feedback::loss::LossAnswer;
@@ -20,7 +20,7 @@ use upkeep::request::{ClearAnswer, DropAnswer};
 // A refusal without values; 0 is none, and has no number.
 fn refused(out: &mut [u8], at: usize, nth: u64, n: u32) -> usize
     requires { at + 256 ≤ length out.old }
-    ensures { Wrote out.old at (lineBytes nth (refusedBy n [])) 256 result out.new }
+    ensures { Wrote out.old at (line_bytes nth (refused_by n [])) 256 result out.new }
 {
     if n == 0 {
         return line::bare(out, at, nth, b"refused");
@@ -30,7 +30,7 @@ fn refused(out: &mut [u8], at: usize, nth: u64, n: u32) -> usize
 
 pub fn data_line(out: &mut [u8], at: usize, nth: u64, answer: DataAnswer) -> usize
     requires { at + 256 ≤ length out.old }
-    ensures { Wrote out.old at (lineBytes nth (dataLine answer)) 256 result out.new }
+    ensures { Wrote out.old at (line_bytes nth (data_line answer)) 256 result out.new }
 {
     match answer {
         DataAnswer::Got { lrsn, recovered } => {
@@ -57,7 +57,7 @@ fn wider(z: i32) -> i64
 
 pub fn message_line(out: &mut [u8], at: usize, nth: u64, answer: MessageAnswer) -> usize
     requires { at + 256 ≤ length out.old }
-    ensures { Wrote out.old at (lineBytes nth (messageLine answer)) 256 result out.new }
+    ensures { Wrote out.old at (line_bytes nth (message_line answer)) 256 result out.new }
 {
     match answer {
         MessageAnswer::Nothing => line::bare(out, at, nth, b"none"),
@@ -90,7 +90,7 @@ fn smaller(a: usize, b: usize) -> usize
 // The words of a report are the first of the lent list.
 pub fn loss_line(out: &mut [u8], at: usize, nth: u64, answer: LossAnswer, list: &[u32]) -> usize
     requires { at + (256 + 21 * length list.now) ≤ length out.old }
-    ensures { Wrote out.old at (lineBytes nth (lossLine answer list.now)) (256 + 21 * length list.now) result out.new }
+    ensures { Wrote out.old at (line_bytes nth (loss_line answer list.now)) (256 + 21 * length list.now) result out.new }
 {
     match answer {
         LossAnswer::Nothing => line::bare(out, at, nth, b"none"),
@@ -104,7 +104,7 @@ pub fn loss_line(out: &mut [u8], at: usize, nth: u64, answer: LossAnswer, list: 
 
 pub fn full_ack_line(out: &mut [u8], at: usize, nth: u64, answer: FullAckAnswer) -> usize
     requires { at + 256 ≤ length out.old }
-    ensures { Wrote out.old at (lineBytes nth (fullAckLine answer)) 256 result out.new }
+    ensures { Wrote out.old at (line_bytes nth (full_ack_line answer)) 256 result out.new }
 {
     match answer {
         FullAckAnswer::Nothing => line::bare(out, at, nth, b"none"),
@@ -137,7 +137,7 @@ pub fn full_ack_line(out: &mut [u8], at: usize, nth: u64, answer: FullAckAnswer)
 
 pub fn ack2_line(out: &mut [u8], at: usize, nth: u64, answer: RttAnswer) -> usize
     requires { at + 256 ≤ length out.old }
-    ensures { Wrote out.old at (lineBytes nth (rttLine answer)) 256 result out.new }
+    ensures { Wrote out.old at (line_bytes nth (rtt_line answer)) 256 result out.new }
 {
     match answer {
         RttAnswer::Nothing => line::bare(out, at, nth, b"none"),
@@ -150,7 +150,7 @@ pub fn ack2_line(out: &mut [u8], at: usize, nth: u64, answer: RttAnswer) -> usiz
 
 pub fn drop_line(out: &mut [u8], at: usize, nth: u64, answer: DropAnswer) -> usize
     requires { at + 256 ≤ length out.old }
-    ensures { Wrote out.old at (lineBytes nth (dropLine answer)) 256 result out.new }
+    ensures { Wrote out.old at (line_bytes nth (drop_line answer)) 256 result out.new }
 {
     match answer {
         DropAnswer::Gone(count) => line::one(out, at, nth, b"gone", count as u64),
@@ -160,7 +160,7 @@ pub fn drop_line(out: &mut [u8], at: usize, nth: u64, answer: DropAnswer) -> usi
 
 pub fn clock_line(out: &mut [u8], at: usize, nth: u64, answer: ClockAnswer) -> usize
     requires { at + 256 ≤ length out.old }
-    ensures { Wrote out.old at (lineBytes nth (clockLine answer)) 256 result out.new }
+    ensures { Wrote out.old at (line_bytes nth (clock_line answer)) 256 result out.new }
 {
     match answer {
         ClockAnswer::Nothing => line::bare(out, at, nth, b"none"),
@@ -177,7 +177,7 @@ pub fn clock_line(out: &mut [u8], at: usize, nth: u64, answer: ClockAnswer) -> u
 
 pub fn clear_line(out: &mut [u8], at: usize, nth: u64, answer: ClearAnswer) -> usize
     requires { at + 256 ≤ length out.old }
-    ensures { Wrote out.old at (lineBytes nth (clearLine answer)) 256 result out.new }
+    ensures { Wrote out.old at (line_bytes nth (clear_line answer)) 256 result out.new }
 {
     match answer {
         ClearAnswer::Cleared => line::bare(out, at, nth, b"clear"),
@@ -195,7 +195,7 @@ pub fn end_line(
     held: usize,
 ) -> usize
     requires { at + 256 ≤ length out.old }
-    ensures { Wrote out.old at (endBytes records lrsn seqno0 held) 256 result out.new }
+    ensures { Wrote out.old at (end_bytes records lrsn seqno0 held) 256 result out.new }
 {
     let p = part::start(out, at, b"end");
     tail::tail4(out, p, records, lrsn as u64, seqno0 as u64, held as u64)
@@ -204,7 +204,7 @@ pub fn end_line(
 // The line of a file that is no trace, or of a record that is none: its offset.
 pub fn bad_line(out: &mut [u8], at: usize, offset: u64) -> usize
     requires { at + 256 ≤ length out.old }
-    ensures { Wrote out.old at (badBytes offset) 256 result out.new }
+    ensures { Wrote out.old at (bad_bytes offset) 256 result out.new }
 {
     let p = part::start(out, at, b"bad");
     tail::tail1(out, p, offset)

@@ -2,7 +2,7 @@
 use Rattle.std.proofs.Common.{◌≡◌, ℕ, ◌+◌, ◌-◌, ◌^◌, ◌<◌, ◌≤◌, true, false, ℤ, pos, negsuc, ◌-ℤ◌, nat_abs, sym, refl, ◌∙◌, mod-eq_of_lt, arith, w32, w64, SFits, ltb-true, le-ltb, lt-ltb, le-leb}
 use lib.Signed.{mag, lt_z}
 use mir.Facts.{sfits_widen}
-use Rattle.numbers.specs.Instants.{least, most, clamp, intervalOf, sinceTime, isReading}
+use Rattle.numbers.specs.Instants.{least, most, clamp, interval_of, since_time, is_reading}
 use Rattle.numbers.specs.Circular.{distance, signed, difference, wrap}
 use Rattle.numbers.proofs.Halves.{above, below, apart, same, size, above--, below--, lt-false, halves_lt, halves-not-lt}
 use Rattle.numbers.proofs.Flags.{by-order, by_bool}
@@ -75,12 +75,12 @@ unfolding clamp
 clamp-in z h k = rw (halves-not-lt z least (omega (arith, apart z)), halves-not-lt most z (omega (arith, apart z)))
 
 -- a reading's size
-pub reading-size : (z : ℤ) → isReading z ≡ true → (below z ≡ 0) × (nat_abs z < 2 ^ 60)
+pub reading-size : (z : ℤ) → is_reading z ≡ true → (below z ≡ 0) × (nat_abs z < 2 ^ 60)
 reading-size (pos n) e = (refl, ltb-true n (2 ^ 60) (sym (rw (le-leb 0 n (omega arith))) ∙ e))
 reading-size (negsuc n) e = absurd (let z : ◌≡◌ {A = ℕ} 0 1 = cc in omega arith)
 
 -- a reading is one as the machine reads it back, z₁
-pub reading-on : (z : ℤ) {z₁ : ℤ} → isReading z ≡ true → z₁ ≡ z → isReading z₁ ≡ true
+pub reading-on : (z : ℤ) {z₁ : ℤ} → is_reading z ≡ true → z₁ ≡ z → is_reading z₁ ≡ true
 reading-on z e p = rw p e
 
 -- a number that fits 32 bits fits 64; z₁ is z as the machine reads it back
@@ -94,21 +94,21 @@ clamp-above z h =
     (λ k. rw (clamp-in z (omega arith) (omega arith)) (h, omega (arith, size z)))
     (λ k. rw (clamp-high z k) (refl, omega arith))
 
-pub interval-above : (t now : ℤ) → lt_z now t ≡ false → (below (intervalOf t now) ≡ 0) × (nat_abs (intervalOf t now) < 2 ^ 31)
-unfolding intervalOf
+pub interval-above : (t now : ℤ) → lt_z now t ≡ false → (below (interval_of t now) ≡ 0) × (nat_abs (interval_of t now) < 2 ^ 31)
+unfolding interval_of
 interval-above t now e = clamp-above (now -ℤ t) (omega (arith, below-- now t, lt-false now t e))
 
 -- since a time that is not after `now`, it is the interval of 01, "Numbers"
-pub since-interval : (now t : ℤ) → lt_z now t ≡ false → pos (sinceTime now t) ≡ intervalOf t now
-unfolding sinceTime
+pub since-interval : (now t : ℤ) → lt_z now t ≡ false → pos (since_time now t) ≡ interval_of t now
+unfolding since_time
 since-interval now t e =
-    let z = intervalOf t now in
+    let z = interval_of t now in
     let b = (interval-above t now e).0 in
     rw e (same (omega (arith, size z)) (omega arith))
 
 -- an interval since a time is under 2^31
-pub since-under : (now t : ℤ) → sinceTime now t < 2 ^ 31
-unfolding sinceTime
+pub since-under : (now t : ℤ) → since_time now t < 2 ^ 31
+unfolding since_time
 since-under now t =
     by_bool (lt_z now t)
     (λ e. rw e (interval-above now now (halves-not-lt now now (omega arith))).1)

@@ -6,7 +6,7 @@ use lib.Signed.{mag, lt_z, le_z, non_neg}
 use lib.Pow.{mod-mod-pow}
 use Rattle.numbers.specs.Circular.{distance, after, before, saturating, sum, wrap}
 use Rattle.numbers.specs.Order.{order}
-use Rattle.numbers.specs.Instants.{intervalOf, sinceTime}
+use Rattle.numbers.specs.Instants.{interval_of, since_time}
 use Rattle.numbers.specs.declared.seq.Order.TheVariants.{Before, Equal, After}
 use Rattle.numbers.proofs.Flags.{impossible}
 use Rattle.numbers.proofs.Halves.{same, not_negative, above--, below--}
@@ -87,23 +87,23 @@ wrap-below w (pos n) o v a p e q = impossible (sym (leb-zero n) ∙ rw q at e)
 wrap-below w (negsuc n) o v a p e q = rw (o, v, a, p)
 
 -- since
-interval-self : (z : ℤ) → nat_abs (intervalOf z z) ≡ 0
-unfolding intervalOf
+interval-self : (z : ℤ) → nat_abs (interval_of z z) ≡ 0
+unfolding interval_of
 interval-self z =
     let e : z -ℤ z ≡ pos 0 = same (above-- z z ∙ omega arith) (below-- z z ∙ omega arith) in
     rw (e, clamp-in (pos 0) (omega arith) (omega arith))
 
-pub since-later : (now t : ℤ) {n u : ℤ} → lt_z n u ≡ true → n ≡ now → u ≡ t → 0 ≡ sinceTime now t
-unfolding sinceTime
+pub since-later : (now t : ℤ) {n u : ℤ} → lt_z n u ≡ true → n ≡ now → u ≡ t → 0 ≡ since_time now t
+unfolding since_time
 since-later now t e p q = rw (rw (p, q) at e) (sym (interval-self now))
 
-module _ (now t : ℤ) {n u n₁ u₁ r r₁ : ℤ} (e : lt_z n u ≡ false) (p : n ≡ now) (q : u ≡ t) (f : r ≡ intervalOf u₁ n₁) (p₁ : n₁ ≡ now) (q₁ : u₁ ≡ t) (g : r₁ ≡ r) where
-  pub since-on : nat_abs r₁ ≡ sinceTime now t
-  unfolding sinceTime
+module _ (now t : ℤ) {n u n₁ u₁ r r₁ : ℤ} (e : lt_z n u ≡ false) (p : n ≡ now) (q : u ≡ t) (f : r ≡ interval_of u₁ n₁) (p₁ : n₁ ≡ now) (q₁ : u₁ ≡ t) (g : r₁ ≡ r) where
+  pub since-on : nat_abs r₁ ≡ since_time now t
+  unfolding since_time
   since-on = rw (rw (p, q) at e, g, f, p₁, q₁)
 
   pub since-sign : T (non_neg r₁)
-  since-sign = rw (g, f, p₁, q₁) (not_negative (intervalOf t now) (interval-above t now (rw (p, q) at e)).0)
+  since-sign = rw (g, f, p₁, q₁) (not_negative (interval_of t now) (interval-above t now (rw (p, q) at e)).0)
 
   pub since-fits : Fits w32 (nat_abs r₁)
   since-fits = rw (g, f, p₁, q₁) (record { fits = omega (arith, (interval-above t now (rw (p, q) at e)).1) })

@@ -1,7 +1,7 @@
 // Instants and intervals, signed µs: 01, "Numbers".
 ghost use Rattle.std.specs.Prelude.{◌≡◌, unsigned_abs};
 ghost use Rattle.std.specs.Int.Signed.{mag};
-ghost use Rattle.numbers.specs.Instants.{clamp, intervalOf, isReading, sinceTime};
+ghost use Rattle.numbers.specs.Instants.{clamp, interval_of, is_reading, since_time};
 
 // A time that may be unset.
 #[derive(Drop)]
@@ -12,7 +12,7 @@ pub enum Moment {
 
 // A reading lies in 0..2^60-1.
 pub fn is_reading(z: i64) -> bool
-    ensures { result ≡ isReading z }
+    ensures { result ≡ is_reading z }
 {
     (0 <= z) & (z < 0x1000_0000_0000_0000)
 }
@@ -50,7 +50,7 @@ pub fn clamp(z: i64) -> i32
 
 // The difference of two instants, clamped. A difference that would not fit is told before it is made.
 pub fn interval(begin: i64, end: i64) -> i32
-    ensures { result ≡ intervalOf begin end }
+    ensures { result ≡ interval_of begin end }
 {
     if begin <= 0 {
         if begin + 0x7fff_ffff < end {
@@ -66,7 +66,7 @@ pub fn interval(begin: i64, end: i64) -> i32
 
 // The interval since a time; a time after `now` is read as `now`.
 pub fn since(now: i64, time: i64) -> u32
-    ensures { result ≡ sinceTime now time }
+    ensures { result ≡ since_time now time }
 {
     if now < time {
         return 0;

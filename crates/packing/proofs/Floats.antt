@@ -7,7 +7,7 @@ use lib.Dec.{T, eqb, leb}
 use lib.Ieee.{Float, nan, inf, fin, up, down, level, div, eq, is_nan, nan_bits, of_bits, to_bits, binary64}
 use lib.Ieee.Bits.{nan_bits_above, nan_bits_is}
 use Rattle.numbers.proofs.Flags.{impossible, by-order}
-use Rattle.packing.specs.Words.{bits_of, float_of, floatFormed}
+use Rattle.packing.specs.Words.{bits_of, float_of, float_formed}
 
 -- a float that equals itself is no NaN, and one that does not is
 pub itself : (x : Float) → eq x x ≡ true → T (not (is_nan x))
@@ -53,7 +53,7 @@ over_zero = refl
 pub quotient-nan : (w : ℕ) → 9218868437227405312 < w % 2 ^ 63 → div binary64 (of_bits binary64 0) (of_bits binary64 0) ≡ float_of w
 quotient-nan w h = over_zero ∙ read-nan w h
 
-pub float-tests : (w : ℕ) → (leb (w % 2 ^ 63) 9218868437227405312 || eqb w 9221120237041090560) ≡ floatFormed w
+pub float-tests : (w : ℕ) → (leb (w % 2 ^ 63) 9218868437227405312 || eqb w 9221120237041090560) ≡ float_formed w
 float-tests w =
     by-order 9218868437227405312 (w % 2 ^ 63)
     (λ h. rw (nan-high w h, lt-leb (w % 2 ^ 63) 9218868437227405312 h))

@@ -20,7 +20,7 @@ use Rattle.numbers.proofs.Flags.{impossible}
 use Rattle.numbers.proofs.Halves.{same, in-range, above--, below--}
 use Rattle.numbers.proofs.Signs.{signed_low, signed_high}
 use Rattle.packing.specs.Holds.{Time}
-use Rattle.packing.specs.Words.{word_of, whole_of, flagWord, timeWord, momentOf}
+use Rattle.packing.specs.Words.{word_of, whole_of, flag_word, time_word, moment_of}
 use Rattle.packing.proofs.Floats.{itself, nan-bits, no-nan-bits, quotient-nan, float-tests}
 
 -- of_whole, on either side of zero
@@ -66,12 +66,12 @@ module _ (w : ℕ) (lo : 9223372036854775808 ≤ w) where
   pub whole-high : Fits w64 w → to_z w64 (of_z w64 (to_z w64 (of_z w64 (pos 0 -ℤ to_z w64 (18446744073709551615 - w))) -ℤ pos 1)) ≡ whole_of w
   whole-high f = turned (18446744073709551615 - w) (omega arith) ∙ sym (signed_high 64 w lo ∙ turn-less f)
 
-pub flag-byte : (b : Bool) → bool_byte b ≡ flagWord b
+pub flag-byte : (b : Bool) → bool_byte b ≡ flag_word b
 flag-byte true = refl
 flag-byte false = refl
 
 -- moments
-pub time-at : (m : Moment) (t : ℤ) {t₁ : ℤ} {w : ℕ} → m ≡ At t → w ≡ word_of t₁ → t₁ ≡ t → w ≡ timeWord m
+pub time-at : (m : Moment) (t : ℤ) {t₁ : ℤ} {w : ℕ} → m ≡ At t → w ≡ word_of t₁ → t₁ ≡ t → w ≡ time_word m
 time-at m t e p q = rw e (p ∙ ap word_of q)
 
 pub time-holds : (m : Moment) (t : ℤ) → m ≡ At t → SFits w64 t → Time m
@@ -80,10 +80,10 @@ time-holds m t e f = rw e f.sfits
 pub unset-holds : (m : Moment) → m ≡ Unset → Time m
 unset-holds m e = rw e tt
 
-pub moment-at : (s w : ℕ) {z z₁ : ℤ} → s ≡ 1 → z ≡ whole_of w → z₁ ≡ z → At z₁ ≡ momentOf s w
+pub moment-at : (s w : ℕ) {z z₁ : ℤ} → s ≡ 1 → z ≡ whole_of w → z₁ ≡ z → At z₁ ≡ moment_of s w
 moment-at s w e p q = rw (eq-eqb s 1 e) (ap At (q ∙ p))
 
-pub moment-unset : (s w : ℕ) → (s ≡ 1 → ⊥) → Unset ≡ momentOf s w
+pub moment-unset : (s w : ℕ) → (s ≡ 1 → ⊥) → Unset ≡ moment_of s w
 moment-unset s w n = rw (ne_eqb s 1 n)
 
 pub ruleset steps = (word-above, word_below, whole-low, negated_fits, lessened-fits, whole-high, itself, nan-bits, no-nan-bits, quotient-nan, float-tests, flag-byte, time-at, time-holds, unset-holds, moment-at, moment-unset, rules)

@@ -17,10 +17,10 @@ use Rattle.numbers.specs.declared.instant.Moment.TheVariants.{Unset, At}
 use Rattle.numbers.proofs.Flags.{and_left, and_right, by_bool, by-order}
 use Rattle.numbers.proofs.Signs.{signed-congruent, signed-only}
 use Rattle.head.specs.declared.state.Head.{Head}
-use Rattle.packing.specs.Words.{word_of, whole_of, bits_of, float_of, flagWord, flagOf, number_of, setWord, timeWord, momentOf, numberFormed, flagFormed, floatFormed, momentFormed}
-use Rattle.packing.specs.Packed.{at, numbersWords, windowWords, clockWords, rttWords, arrivalsWords, linksWords, historyWords, packOf, sixteenOf, windowOf, clockOf, rttOf, arrivalsOf, linksOf, historyOf, head_of, numbersFormed, firstFormed, ratesFormed, lastFormed, formed, unpackOf}
+use Rattle.packing.specs.Words.{word_of, whole_of, bits_of, float_of, flag_word, flag_of, number_of, set_word, time_word, moment_of, number_formed, flag_formed, float_formed, moment_formed}
+use Rattle.packing.specs.Packed.{at, numbers_words, window_words, clock_words, rtt_words, arrivals_words, links_words, history_words, pack_of, sixteen_of, window_of, clock_of, rtt_of, arrivals_of, links_of, history_of, head_of, numbers_formed, first_formed, rates_formed, last_formed, formed, unpack_of}
 use Rattle.counts.specs.declared.Counters.{Counters}
-use Rattle.packing.specs.Tally.{countersWords, countersOf}
+use Rattle.packing.specs.Tally.{counters_words, counters_of}
 use Rattle.packing.specs.Holds.{Number, Whole, Time, Numbers, Double, Holds}
 
 -- one value and back
@@ -30,24 +30,24 @@ whole_back z h = sym (signed-only 64 z (omega arith) h)
 number-back : (n : ℕ) → Number n → number_of n ≡ n
 number-back n h = mod-eq_of_lt h
 
-flag-back : (b : Bool) → flagOf (flagWord b) ≡ b
+flag-back : (b : Bool) → flag_of (flag_word b) ≡ b
 flag-back true = refl
 flag-back false = refl
 
-time-back : (m : Moment) → Time m → momentOf (setWord m) (timeWord m) ≡ m
+time-back : (m : Moment) → Time m → moment_of (set_word m) (time_word m) ≡ m
 time-back Unset h = refl
 time-back (At t) h = ap At (whole_back t h)
 
 -- and its word is formed
-flag-fits : (b : Bool) → flagFormed (flagWord b) ≡ true
+flag-fits : (b : Bool) → flag_formed (flag_word b) ≡ true
 flag-fits true = refl
 flag-fits false = refl
 
-time-fits : (m : Moment) → momentFormed (setWord m) (timeWord m) ≡ true
+time-fits : (m : Moment) → moment_formed (set_word m) (time_word m) ≡ true
 time-fits Unset = refl
 time-fits (At t) = refl
 
-double-fits : (x : Float) → Double x → floatFormed (bits_of x) ≡ true
+double-fits : (x : Float) → Double x → float_formed (bits_of x) ≡ true
 unfolding is_nan to_bits nan_bits
 double-fits nan h = refl
 double-fits (inf s) h = rw (nan_bits_is binary64 (bits_of (inf s)), of_bits-to_bits binary64 (inf s) h)
@@ -78,17 +78,17 @@ reads_same i zero l h = refl
 reads_same i (suc n) l h = rw (number-back (at l i) (h i (omega arith) (omega arith)), reads_same (suc i) n l (λ k a b. h k (omega arith) (omega arith)))
 
 -- each of the words that were tested
-tested : (l : List ℕ) (i n j : ℕ) → numbersFormed l i n ≡ true → j < n → Number (at l (i + j))
-unfolding numbersFormed
+tested : (l : List ℕ) (i n j : ℕ) → numbers_formed l i n ≡ true → j < n → Number (at l (i + j))
+unfolding numbers_formed
 tested l i zero j e h = absurd (omega arith)
 tested l i (suc n) j e h =
     by-order j n
-    (λ g. tested l i n j (and_left (numbersFormed l i n) (numberFormed (at l (i + n))) e) g)
+    (λ g. tested l i n j (and_left (numbers_formed l i n) (number_formed (at l (i + n))) e) g)
     (λ g.
     let d : j ≡ n = omega arith in
-    rw d (ltb-true (at l (i + n)) (2 ^ 32) (and_right (numbersFormed l i n) (numberFormed (at l (i + n))) e)))
+    rw d (ltb-true (at l (i + n)) (2 ^ 32) (and_right (numbers_formed l i n) (number_formed (at l (i + n))) e)))
 
-tested-from : (l : List ℕ) (i n : ℕ) → numbersFormed l i n ≡ true → (k : ℕ) → i ≤ k → k < i + n → Number (at l k)
+tested-from : (l : List ℕ) (i n : ℕ) → numbers_formed l i n ≡ true → (k : ℕ) → i ≤ k → k < i + n → Number (at l k)
 tested-from l i n e k a b =
     let j = k - i in
     let d : i + j ≡ k = omega arith in
@@ -100,65 +100,65 @@ numbers-back l h = reads_same 0 16 l (tested-from l 0 16 h.1) ∙ one_by_one 16 
 -- each part of a head from the head's words
 module _ (h : Head) (o : Holds h) where
   abbrev ws : List ℕ
-  ws = packOf h
+  ws = pack_of h
 
-  window-back : windowOf ws ≡ h.window
-  unfolding packOf
+  window-back : window_of ws ≡ h.window
+  unfolding pack_of
   window-back = rw (number-back h.window.seqno0 o.window.seqno0, number-back h.window.lrsn o.window.lrsn)
 
-  clock-back : clockOf ws ≡ h.clock
-  unfolding packOf
+  clock-back : clock_of ws ≡ h.clock
+  unfolding pack_of
   clock-back =
       let k = h.clock in
       rw (whole_back k.base.time o.base.time, number-back k.base.stamp o.base.stamp, time-back k.last o.base.last, flag-back k.seen, of_bits-to_bits binary64 k.stats.mean o.stats.mean, of_bits-to_bits binary64 k.stats.squares o.stats.squares, number-back k.stats.count o.stats.count)
 
-  rtt-back : rttOf ws ≡ h.rtt
-  unfolding packOf
+  rtt-back : rtt_of ws ≡ h.rtt
+  unfolding pack_of
   rtt-back = rw (number-back h.rtt.mean o.rtt.mean, number-back h.rtt.variance o.rtt.variance)
 
-  gaps-back : sixteenOf ws 18 ≡ h.arrivals.gaps
-  unfolding packOf numbersWords sixteenOf
+  gaps-back : sixteen_of ws 18 ≡ h.arrivals.gaps
+  unfolding pack_of numbers_words sixteen_of
   gaps-back = numbers-back h.arrivals.gaps o.arrivals.gaps
 
-  sizes-back : sixteenOf ws 34 ≡ h.arrivals.sizes
-  unfolding packOf numbersWords sixteenOf
+  sizes-back : sixteen_of ws 34 ≡ h.arrivals.sizes
+  unfolding pack_of numbers_words sixteen_of
   sizes-back = numbers-back h.arrivals.sizes o.arrivals.sizes
 
-  pairs-back : sixteenOf ws 54 ≡ h.links.gaps
-  unfolding packOf numbersWords sixteenOf
+  pairs-back : sixteen_of ws 54 ≡ h.links.gaps
+  unfolding pack_of numbers_words sixteen_of
   pairs-back = numbers-back h.links.gaps o.links.gaps
 
-  last-back : momentOf (at ws 52) (at ws 53) ≡ h.arrivals.last
-  unfolding packOf numbersWords
+  last-back : moment_of (at ws 52) (at ws 53) ≡ h.arrivals.last
+  unfolding pack_of numbers_words
   last-back = time-back h.arrivals.last o.arrivals.last
 
   at_back : (at ws 50 ≡ h.arrivals.at) × (at ws 51 ≡ h.arrivals.count)
-  unfolding packOf numbersWords
+  unfolding pack_of numbers_words
   at_back = (refl, refl)
 
-  arrivals-back : arrivalsOf ws ≡ h.arrivals
+  arrivals-back : arrivals_of ws ≡ h.arrivals
   arrivals-back = rw (gaps-back, sizes-back, at_back.0, at_back.1, last-back)
 
-  probe-back : momentOf (at ws 72) (at ws 73) ≡ h.links.probe
-  unfolding packOf numbersWords
+  probe-back : moment_of (at ws 72) (at ws 73) ≡ h.links.probe
+  unfolding pack_of numbers_words
   probe-back = time-back h.links.probe o.links.probe
 
   pair-at-back : (at ws 70 ≡ h.links.at) × (at ws 71 ≡ h.links.count)
-  unfolding packOf numbersWords
+  unfolding pack_of numbers_words
   pair-at-back = (refl, refl)
 
-  links-back : linksOf ws ≡ h.links
+  links-back : links_of ws ≡ h.links
   links-back = rw (pairs-back, pair-at-back.0, pair-at-back.1, probe-back)
 
-  history-back : historyOf ws ≡ h.history
-  unfolding packOf numbersWords
+  history-back : history_of ws ≡ h.history
+  unfolding pack_of numbers_words
   history-back =
       let y = h.history in
       let g = o.history in
       rw (number-back y.first g.first, number-back y.largest g.largest, number-back y.lastack g.lastack)
 
-  settings-back : (whole_of (at ws 0) ≡ h.latest) × (number_of (at ws 6) ≡ h.latency) × (flagOf (at ws 7) ≡ h.dropping)
-  unfolding packOf
+  settings-back : (whole_of (at ws 0) ≡ h.latest) × (number_of (at ws 6) ≡ h.latency) × (flag_of (at ws 7) ≡ h.dropping)
+  unfolding pack_of
   settings-back = (whole_back h.latest o.latest, number-back h.latency o.latency, flag-back h.dropping)
 
   head-back : head_of ws ≡ h
@@ -167,47 +167,47 @@ module _ (h : Head) (o : Holds h) where
       rw (settings-back.0, settings-back.1, settings-back.2, window-back, clock-back, rtt-back, arrivals-back, links-back, history-back)
 
   -- and all words are formed
-  first_fits : firstFormed ws ≡ true
-  unfolding packOf
+  first_fits : first_formed ws ≡ true
+  unfolding pack_of
   first_fits =
       let k = h.clock in
       rw
       (lt-ltb h.window.seqno0 (2 ^ 32) o.window.seqno0, lt-ltb h.window.lrsn (2 ^ 32) o.window.lrsn, lt-ltb h.latency (2 ^ 32) o.latency, flag-fits h.dropping, lt-ltb k.base.stamp (2 ^ 32) o.base.stamp, time-fits k.last, flag-fits k.seen, double-fits k.stats.mean o.stats.mean, double-fits k.stats.squares o.stats.squares, lt-ltb k.stats.count (2 ^ 32) o.stats.count)
 
-  rates-fit : ratesFormed ws ≡ true
-  unfolding packOf numbersWords numbersFormed
+  rates-fit : rates_formed ws ≡ true
+  unfolding pack_of numbers_words numbers_formed
   rates-fit = rw (o.arrivals.gaps.1, o.arrivals.sizes.1, o.links.gaps.1)
 
-  last_fits : lastFormed ws ≡ true
-  unfolding packOf numbersWords
+  last_fits : last_formed ws ≡ true
+  unfolding pack_of numbers_words
   last_fits =
       let y = h.history in
       let g = o.history in
       rw
       (lt-ltb h.rtt.mean (2 ^ 32) o.rtt.mean, lt-ltb h.rtt.variance (2 ^ 32) o.rtt.variance, time-fits h.arrivals.last, time-fits h.links.probe, lt-ltb y.first (2 ^ 32) g.first, lt-ltb y.largest (2 ^ 32) g.largest, lt-ltb y.lastack (2 ^ 32) g.lastack)
 
-  pub all-formed : formed (packOf h) ≡ true
+  pub all-formed : formed (pack_of h) ≡ true
   unfolding formed
   all-formed = rw (first_fits, last_fits, rates-fit)
 
-  pub unpack-pack : unpackOf (packOf h) ≡ h
-  unfolding unpackOf
+  pub unpack-pack : unpack_of (pack_of h) ≡ h
+  unfolding unpack_of
   unpack-pack = rw (all-formed, head-back)
 
-pub pack-length : (h : Head) → length (packOf h) ≡ 79
-unfolding packOf numbersWords
+pub pack-length : (h : Head) → length (pack_of h) ≡ 79
+unfolding pack_of numbers_words
 pack-length h = refl
 
 -- one word and back, if it is formed
 word_back : (w : ℕ) → w < 2 ^ 64 → word_of (whole_of w) ≡ w
 word_back w h = signed-congruent 64 w h
 
-flag_word : (w : ℕ) → flagFormed w ≡ true → flagWord (flagOf w) ≡ w
-flag_word zero e = refl
-flag_word (suc zero) e = refl
-flag_word (suc (suc w)) e = absurd (let h = ltb-true (suc (suc w)) 2 e in omega arith)
+flag-word : (w : ℕ) → flag_formed w ≡ true → flag_word (flag_of w) ≡ w
+flag-word zero e = refl
+flag-word (suc zero) e = refl
+flag-word (suc (suc w)) e = absurd (let h = ltb-true (suc (suc w)) 2 e in omega arith)
 
-moment-words : (s t : ℕ) → t < 2 ^ 64 → momentFormed s t ≡ true → (setWord (momentOf s t) ≡ s) × (timeWord (momentOf s t) ≡ t)
+moment-words : (s t : ℕ) → t < 2 ^ 64 → moment_formed s t ≡ true → (set_word (moment_of s t) ≡ s) × (time_word (moment_of s t) ≡ t)
 moment-words s t h e =
     by_bool (eqb s 1)
     (λ p. rw p (sym (eqb-true s 1 p), word_back t h))
@@ -219,7 +219,7 @@ one-nan : bits_of (float_of 9221120237041090560) ≡ 9221120237041090560
 unfolding of_bits to_bits
 one-nan = refl
 
-bits_back : (w : ℕ) → w < 2 ^ 64 → floatFormed w ≡ true → bits_of (float_of w) ≡ w
+bits_back : (w : ℕ) → w < 2 ^ 64 → float_formed w ≡ true → bits_of (float_of w) ≡ w
 bits_back w h e =
     by_bool (nan_bits binary64 w)
     (λ n.
@@ -250,102 +250,102 @@ joined : {a a' b b' c c' : ℕ} {w w' k k' t t' r r' l l' y y' : List ℕ}
 joined a w b c k t r l y = rw (a, w, b, c, k, t, r, l, y)
 
 -- the tests of `formed`, as lists
-abbrev lowTests : List ℕ → List Bool
-lowTests ws =
-    numberFormed (at ws 4)
-    ∷ numberFormed (at ws 5)
-    ∷ numberFormed (at ws 6)
-    ∷ flagFormed (at ws 7)
-    ∷ numberFormed (at ws 9)
-    ∷ momentFormed (at ws 10) (at ws 11)
-    ∷ flagFormed (at ws 12)
-    ∷ floatFormed (at ws 13)
-    ∷ floatFormed (at ws 14)
-    ∷ numberFormed (at ws 15)
+abbrev low_tests : List ℕ → List Bool
+low_tests ws =
+    number_formed (at ws 4)
+    ∷ number_formed (at ws 5)
+    ∷ number_formed (at ws 6)
+    ∷ flag_formed (at ws 7)
+    ∷ number_formed (at ws 9)
+    ∷ moment_formed (at ws 10) (at ws 11)
+    ∷ flag_formed (at ws 12)
+    ∷ float_formed (at ws 13)
+    ∷ float_formed (at ws 14)
+    ∷ number_formed (at ws 15)
     ∷ []
 
-abbrev rateTests : List ℕ → List Bool
-rateTests ws = numbersFormed ws 18 16 ∷ numbersFormed ws 34 16 ∷ numbersFormed ws 54 16 ∷ []
+abbrev rate_tests : List ℕ → List Bool
+rate_tests ws = numbers_formed ws 18 16 ∷ numbers_formed ws 34 16 ∷ numbers_formed ws 54 16 ∷ []
 
-abbrev highTests : List ℕ → List Bool
-highTests ws =
-    numberFormed (at ws 16)
-    ∷ numberFormed (at ws 17)
-    ∷ momentFormed (at ws 52) (at ws 53)
-    ∷ momentFormed (at ws 72) (at ws 73)
-    ∷ numberFormed (at ws 76)
-    ∷ numberFormed (at ws 77)
-    ∷ numberFormed (at ws 78)
+abbrev high_tests : List ℕ → List Bool
+high_tests ws =
+    number_formed (at ws 16)
+    ∷ number_formed (at ws 17)
+    ∷ moment_formed (at ws 52) (at ws 53)
+    ∷ moment_formed (at ws 72) (at ws 73)
+    ∷ number_formed (at ws 76)
+    ∷ number_formed (at ws 77)
+    ∷ number_formed (at ws 78)
     ∷ []
 
 -- each part's words from the part that they say
 module _ (ws : List ℕ) (small : (i : ℕ) → at ws i < 2 ^ 64) (f : formed ws ≡ true) where
-  parts : Each (firstFormed ws ∷ lastFormed ws ∷ ratesFormed ws ∷ [])
+  parts : Each (first_formed ws ∷ last_formed ws ∷ rates_formed ws ∷ [])
   unfolding formed
-  parts = each true (firstFormed ws ∷ lastFormed ws ∷ ratesFormed ws ∷ []) f
+  parts = each true (first_formed ws ∷ last_formed ws ∷ rates_formed ws ∷ []) f
 
-  low : Each (lowTests ws)
-  low = each true (lowTests ws) parts.0
+  low : Each (low_tests ws)
+  low = each true (low_tests ws) parts.0
 
-  middle : Each (rateTests ws)
-  middle = each true (rateTests ws) parts.1.1.0
+  middle : Each (rate_tests ws)
+  middle = each true (rate_tests ws) parts.1.1.0
 
-  high : Each (highTests ws)
-  high = each true (highTests ws) parts.1.0
+  high : Each (high_tests ws)
+  high = each true (high_tests ws) parts.1.0
 
   -- a word that was tested, read as a number
-  is : (i : ℕ) → numberFormed (at ws i) ≡ true → number_of (at ws i) ≡ at ws i
+  is : (i : ℕ) → number_formed (at ws i) ≡ true → number_of (at ws i) ≡ at ws i
   is i e = number-back (at ws i) (ltb-true (at ws i) (2 ^ 32) e)
 
-  window-words : windowWords (windowOf ws) ≡ firsts 1 5 ws
+  window-words : window_words (window_of ws) ≡ firsts 1 5 ws
   window-words = rw (is 4 low.0, is 5 low.1.0)
 
-  settings-words : (number_of (at ws 6) ≡ at ws 6) × (flagWord (flagOf (at ws 7)) ≡ at ws 7)
-  settings-words = (is 6 low.1.1.0, flag_word (at ws 7) low.1.1.1.0)
+  settings-words : (number_of (at ws 6) ≡ at ws 6) × (flag_word (flag_of (at ws 7)) ≡ at ws 7)
+  settings-words = (is 6 low.1.1.0, flag-word (at ws 7) low.1.1.1.0)
 
-  clock-words : clockWords (clockOf ws) ≡ firsts 8 8 ws
+  clock-words : clock_words (clock_of ws) ≡ firsts 8 8 ws
   clock-words =
       let l = low.1.1.1.1 in
       let m = moment-words (at ws 10) (at ws 11) (small 11) l.1.0 in
       rw
-      (word_back (at ws 8) (small 8), is 9 l.0, m.0, m.1, flag_word (at ws 12) l.1.1.0, bits_back (at ws 13) (small 13) l.1.1.1.0, bits_back (at ws 14) (small 14) l.1.1.1.1.0, is 15 l.1.1.1.1.1.0)
+      (word_back (at ws 8) (small 8), is 9 l.0, m.0, m.1, flag-word (at ws 12) l.1.1.0, bits_back (at ws 13) (small 13) l.1.1.1.0, bits_back (at ws 14) (small 14) l.1.1.1.1.0, is 15 l.1.1.1.1.1.0)
 
-  rtt-words : rttWords (rttOf ws) ≡ firsts 16 2 ws
+  rtt-words : rtt_words (rtt_of ws) ≡ firsts 16 2 ws
   rtt-words = rw (is 16 high.0, is 17 high.1.0)
 
-  sixteen-words : (i : ℕ) → numbersFormed ws i 16 ≡ true → reads i 16 ws ≡ firsts i 16 ws
+  sixteen-words : (i : ℕ) → numbers_formed ws i 16 ≡ true → reads i 16 ws ≡ firsts i 16 ws
   sixteen-words i e = reads_same i 16 ws (tested-from ws i 16 e)
 
-  arrivals-words : arrivalsWords (arrivalsOf ws) ≡ firsts 18 36 ws
-  unfolding numbersWords sixteenOf
+  arrivals-words : arrivals_words (arrivals_of ws) ≡ firsts 18 36 ws
+  unfolding numbers_words sixteen_of
   arrivals-words =
       let m = moment-words (at ws 52) (at ws 53) (small 53) high.1.1.0 in
       rw (m.0, m.1)
       (ap (λ (l : List ℕ). l ++ reads 34 16 ws ++ firsts 50 4 ws) (sixteen-words 18 middle.0)
       ∙ ap (λ (l : List ℕ). firsts 18 16 ws ++ l ++ firsts 50 4 ws) (sixteen-words 34 middle.1.0))
 
-  links-words : linksWords (linksOf ws) ≡ firsts 54 20 ws
-  unfolding numbersWords sixteenOf
+  links-words : links_words (links_of ws) ≡ firsts 54 20 ws
+  unfolding numbers_words sixteen_of
   links-words =
       let m = moment-words (at ws 72) (at ws 73) (small 73) high.1.1.1.0 in
       rw (m.0, m.1) (ap (λ (l : List ℕ). l ++ firsts 70 4 ws) (sixteen-words 54 middle.1.1.0))
 
-  history-words : historyWords (historyOf ws) ≡ firsts 74 5 ws
+  history-words : history_words (history_of ws) ≡ firsts 74 5 ws
   history-words =
       let g = high.1.1.1.1 in
       rw (is 76 g.0, is 77 g.1.0, is 78 g.1.1.0)
 
-  head-words : packOf (head_of ws) ≡ firsts 0 79 ws
-  unfolding packOf head_of
+  head-words : pack_of (head_of ws) ≡ firsts 0 79 ws
+  unfolding pack_of head_of
   head-words = joined (word_back (at ws 0) (small 0)) window-words settings-words.0 settings-words.1 clock-words rtt-words arrivals-words links-words history-words
 
-  pub pack-unpack : length ws ≡ 79 → packOf (unpackOf ws) ≡ ws
-  unfolding unpackOf
+  pub pack-unpack : length ws ≡ 79 → pack_of (unpack_of ws) ≡ ws
+  unfolding unpack_of
   pack-unpack e = rw f (head-words ∙ one_by_one 79 ws e)
 
 -- the counters, with no condition but their number
-pub tally-back : (c : Counters) → countersOf (countersWords c) ≡ c
+pub tally-back : (c : Counters) → counters_of (counters_words c) ≡ c
 tally-back c = refl
 
-pub tally-words : (ws : List ℕ) → length ws ≡ 10 → countersWords (countersOf ws) ≡ ws
+pub tally-words : (ws : List ℕ) → length ws ≡ 10 → counters_words (counters_of ws) ≡ ws
 tally-words ws e = one_by_one 10 ws e

@@ -12,7 +12,7 @@ use Rattle.intervals.specs.declared.rates.Links.{Links}
 use Rattle.acks.specs.declared.rtt.Rtt.{Rtt}
 use Rattle.window.specs.declared.Window.{Window}
 use Rattle.head.specs.declared.state.Head.{Head}
-use Rattle.packing.specs.Packed.{numbersFormed}
+use Rattle.packing.specs.Packed.{numbers_formed}
 
 abbrev pub Number : ℕ → Type 0
 Number n = n < 2 ^ 32
@@ -25,7 +25,7 @@ Time Unset = Unit {0}
 Time (At t) = Whole t
 
 abbrev pub Numbers : List ℕ → Type 0
-Numbers ns = (length ns ≡ 16) × (numbersFormed ns 0 16 ≡ true)
+Numbers ns = (length ns ≡ 16) × (numbers_formed ns 0 16 ≡ true)
 
 abbrev pub Double : Float → Type 0
 Double x = T (fits binary64 x)

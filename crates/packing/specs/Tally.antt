@@ -2,8 +2,8 @@
 use Rattle.std.specs.Prelude.{List, [], ◌∷◌, ℕ, get_or}
 use Rattle.counts.specs.declared.Counters.{Counters}
 
-abbrev pub countersWords : Counters → List ℕ
-countersWords c =
+abbrev pub counters_words : Counters → List ℕ
+counters_words c =
     c.rx_data
     ∷ c.rx_bytes
     ∷ c.rx_unique_data
@@ -16,8 +16,8 @@ countersWords c =
     ∷ c.rx_clock_adjustments
     ∷ []
 
-abbrev pub countersOf : List ℕ → Counters
-countersOf ws =
+abbrev pub counters_of : List ℕ → Counters
+counters_of ws =
     record {
       rx_data = get_or ws 0 0;
       rx_bytes = get_or ws 1 0;

@@ -21,37 +21,37 @@ abbrev pub float_of : ℕ → Float
 float_of w = of_bits binary64 w
 
 -- a flag is 0 or 1
-abbrev pub flagWord : Bool → ℕ
-flagWord b = cond b 1 0
+abbrev pub flag_word : Bool → ℕ
+flag_word b = cond b 1 0
 
-abbrev pub flagOf : ℕ → Bool
-flagOf w = eqb w 1
+abbrev pub flag_of : ℕ → Bool
+flag_of w = eqb w 1
 
 -- a u32 is itself
 abbrev pub number_of : ℕ → ℕ
 number_of w = w % 2 ^ 32
 
 -- a moment is two words: 0, 0 for unset, 1 and the time for a time
-abbrev pub setWord : Moment → ℕ
-setWord Unset = 0
-setWord (At t) = 1
+abbrev pub set_word : Moment → ℕ
+set_word Unset = 0
+set_word (At t) = 1
 
-abbrev pub timeWord : Moment → ℕ
-timeWord Unset = 0
-timeWord (At t) = word_of t
+abbrev pub time_word : Moment → ℕ
+time_word Unset = 0
+time_word (At t) = word_of t
 
-abbrev pub momentOf : ℕ → ℕ → Moment
-momentOf set time = cond (eqb set 1) (At (whole_of time)) Unset
+abbrev pub moment_of : ℕ → ℕ → Moment
+moment_of set time = cond (eqb set 1) (At (whole_of time)) Unset
 
 -- a word is formed if a value of its kind is packed to it
-abbrev pub numberFormed : ℕ → Bool
-numberFormed w = ltb w (2 ^ 32)
+abbrev pub number_formed : ℕ → Bool
+number_formed w = ltb w (2 ^ 32)
 
-abbrev pub flagFormed : ℕ → Bool
-flagFormed w = ltb w 2
+abbrev pub flag_formed : ℕ → Bool
+flag_formed w = ltb w 2
 
-abbrev pub floatFormed : ℕ → Bool
-floatFormed w = not (nan_bits binary64 w) || eqb w 9221120237041090560
+abbrev pub float_formed : ℕ → Bool
+float_formed w = not (nan_bits binary64 w) || eqb w 9221120237041090560
 
-abbrev pub momentFormed : ℕ → ℕ → Bool
-momentFormed set time = eqb set 1 || eqb set 0 && eqb time 0
+abbrev pub moment_formed : ℕ → ℕ → Bool
+moment_formed set time = eqb set 1 || eqb set 0 && eqb time 0

@@ -1,8 +1,8 @@
 // A head into its words, part by part.
 ghost use Rattle.std.specs.Prelude.{◌≡◌, ◌≤◌};
-ghost use Rattle.packing.specs.Packed.{packOf, unpackOf};
+ghost use Rattle.packing.specs.Packed.{pack_of, unpack_of};
 ghost use Rattle.packing.specs.Holds.{Numbers, Whole, Number, ArrivalsHolds, LinksHolds, RttHolds, WindowHolds, HistoryHolds, BaseHolds, StatsHolds};
-ghost use Rattle.packing.specs.Puts.{putNumbers, putSettings, putWindow, putBase, putStats, putRtt, putArrivals, putLinks, putHistory};
+ghost use Rattle.packing.specs.Puts.{put_numbers, put_settings, put_window, put_base, put_stats, put_rtt, put_arrivals, put_links, put_history};
 
 use crate::words;
 use acks::history::History;
@@ -15,7 +15,7 @@ use window::Window;
 // Sixteen numbers, from word `at` on.
 fn put_sixteen(ws: &mut [u64; 79], at: usize, numbers: [u32; 16])
     requires { at ≤ 63 }
-    ensures { (ws.new ≡ putNumbers ws.old at numbers 16) × Numbers numbers }
+    ensures { (ws.new ≡ put_numbers ws.old at numbers 16) × Numbers numbers }
 {
     let mut i: usize = 0;
     while i < 16 {
@@ -25,7 +25,7 @@ fn put_sixteen(ws: &mut [u64; 79], at: usize, numbers: [u32; 16])
 }
 
 pub fn put_window(ws: &mut [u64; 79], w: Window)
-    ensures { (ws.new ≡ putWindow ws.old w) × WindowHolds w }
+    ensures { (ws.new ≡ put_window ws.old w) × WindowHolds w }
 {
     ws[1] = words::of_size(w.capacity);
     ws[2] = words::of_size(w.start);
@@ -35,7 +35,7 @@ pub fn put_window(ws: &mut [u64; 79], w: Window)
 }
 
 pub fn put_base(ws: &mut [u64; 79], k: SynchronizedRemoteClock)
-    ensures { (ws.new ≡ putBase ws.old k) × BaseHolds k }
+    ensures { (ws.new ≡ put_base ws.old k) × BaseHolds k }
 {
     let last = k.last;
     ws[8] = words::of_whole(k.base.time);
@@ -45,7 +45,7 @@ pub fn put_base(ws: &mut [u64; 79], k: SynchronizedRemoteClock)
 }
 
 pub fn put_stats(ws: &mut [u64; 79], k: SynchronizedRemoteClock)
-    ensures { (ws.new ≡ putStats ws.old k) × StatsHolds k }
+    ensures { (ws.new ≡ put_stats ws.old k) × StatsHolds k }
 {
     ws[12] = words::of_flag(k.seen);
     ws[13] = words::of_float(k.stats.mean);
@@ -54,14 +54,14 @@ pub fn put_stats(ws: &mut [u64; 79], k: SynchronizedRemoteClock)
 }
 
 fn put_rtt(ws: &mut [u64; 79], t: Rtt)
-    ensures { (ws.new ≡ putRtt ws.old t) × RttHolds t }
+    ensures { (ws.new ≡ put_rtt ws.old t) × RttHolds t }
 {
     ws[16] = words::of_number(t.mean);
     ws[17] = words::of_number(t.variance);
 }
 
 fn put_arrivals(ws: &mut [u64; 79], a: Arrivals)
-    ensures { (ws.new ≡ putArrivals ws.old a) × ArrivalsHolds a }
+    ensures { (ws.new ≡ put_arrivals ws.old a) × ArrivalsHolds a }
 {
     let last = a.last;
     let gaps = a.gaps;
@@ -75,7 +75,7 @@ fn put_arrivals(ws: &mut [u64; 79], a: Arrivals)
 }
 
 fn put_links(ws: &mut [u64; 79], l: Links)
-    ensures { (ws.new ≡ putLinks ws.old l) × LinksHolds l }
+    ensures { (ws.new ≡ put_links ws.old l) × LinksHolds l }
 {
     let probe = l.probe;
     let gaps = l.gaps;
@@ -87,7 +87,7 @@ fn put_links(ws: &mut [u64; 79], l: Links)
 }
 
 pub fn put_history(ws: &mut [u64; 79], y: History)
-    ensures { (ws.new ≡ putHistory ws.old y) × HistoryHolds y }
+    ensures { (ws.new ≡ put_history ws.old y) × HistoryHolds y }
 {
     ws[74] = words::of_size(y.start);
     ws[75] = words::of_size(y.count);
@@ -97,7 +97,7 @@ pub fn put_history(ws: &mut [u64; 79], y: History)
 }
 
 fn put_settings(ws: &mut [u64; 79], latest: i64, latency: u32, dropping: bool)
-    ensures { (ws.new ≡ putSettings ws.old latest latency dropping) × (Whole latest × Number latency) }
+    ensures { (ws.new ≡ put_settings ws.old latest latency dropping) × (Whole latest × Number latency) }
 {
     ws[0] = words::of_whole(latest);
     ws[6] = words::of_number(latency);
@@ -105,7 +105,7 @@ fn put_settings(ws: &mut [u64; 79], latest: i64, latency: u32, dropping: bool)
 }
 
 pub fn pack(h: Head) -> [u64; 79]
-    ensures { (result ≡ packOf h) × (unpackOf result ≡ h) }
+    ensures { (result ≡ pack_of h) × (unpack_of result ≡ h) }
 {
     let mut ws: [u64; 79] = [0; 79];
     put_settings(&mut ws, h.latest, h.latency, h.dropping);

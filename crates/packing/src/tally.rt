@@ -1,11 +1,11 @@
 // The ten counters as ten words, in their order: 01, "Counters follow 003".
 ghost use Rattle.std.specs.Prelude.{◌≡◌};
-ghost use Rattle.packing.specs.Tally.{countersWords, countersOf};
+ghost use Rattle.packing.specs.Tally.{counters_words, counters_of};
 
 use counts::Counters;
 
 pub fn of_counters(c: Counters) -> [u64; 10]
-    ensures { result ≡ countersWords c }
+    ensures { result ≡ counters_words c }
 {
     [
         c.rx_data,
@@ -22,7 +22,7 @@ pub fn of_counters(c: Counters) -> [u64; 10]
 }
 
 pub fn counters(words: &[u64; 10]) -> Counters
-    ensures { result ≡ countersOf words.now }
+    ensures { result ≡ counters_of words.now }
 {
     Counters {
         rx_data: words[0],

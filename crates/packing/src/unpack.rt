@@ -1,6 +1,6 @@
 // Words into the head that they say, part by part. Words that are not formed give a head that every call refuses.
 ghost use Rattle.std.specs.Prelude.{◌≡◌, ◌≤◌};
-ghost use Rattle.packing.specs.Packed.{sixteenOf, numbersFormed, windowOf, base_of, statsOf, clockOf, rttOf, arrivalsOf, linksOf, historyOf, head_of, firstFormed, ratesFormed, lastFormed, formed, nowhere, unpackOf};
+ghost use Rattle.packing.specs.Packed.{sixteen_of, numbers_formed, window_of, base_of, stats_of, clock_of, rtt_of, arrivals_of, links_of, history_of, head_of, first_formed, rates_formed, last_formed, formed, nowhere, unpack_of};
 
 use crate::words;
 use acks::history::History;
@@ -16,7 +16,7 @@ use window::Window;
 // Sixteen numbers, from word `at` on.
 fn sixteen(ws: &[u64; 79], at: usize) -> [u32; 16]
     requires { at ≤ 63 }
-    ensures { result ≡ sixteenOf ws.now at }
+    ensures { result ≡ sixteen_of ws.now at }
 {
     let mut numbers: [u32; 16] = [0; 16];
     let mut i: usize = 0;
@@ -30,7 +30,7 @@ fn sixteen(ws: &[u64; 79], at: usize) -> [u32; 16]
 // Whether those words are numbers.
 fn are_numbers(ws: &[u64; 79], at: usize) -> bool
     requires { at ≤ 63 }
-    ensures { result ≡ numbersFormed ws.now at 16 }
+    ensures { result ≡ numbers_formed ws.now at 16 }
 {
     let mut ok = true;
     let mut i: usize = 0;
@@ -42,7 +42,7 @@ fn are_numbers(ws: &[u64; 79], at: usize) -> bool
 }
 
 pub fn window(ws: &[u64; 79]) -> Window
-    ensures { result ≡ windowOf ws.now }
+    ensures { result ≡ window_of ws.now }
 {
     Window {
         capacity: words::size(ws[1]),
@@ -63,7 +63,7 @@ pub fn base(ws: &[u64; 79]) -> TimeBase
 }
 
 fn stats(ws: &[u64; 79]) -> OnlineStats
-    ensures { result ≡ statsOf ws.now }
+    ensures { result ≡ stats_of ws.now }
 {
     OnlineStats {
         mean: words::float(ws[13]),
@@ -73,7 +73,7 @@ fn stats(ws: &[u64; 79]) -> OnlineStats
 }
 
 pub fn clock(ws: &[u64; 79]) -> SynchronizedRemoteClock
-    ensures { result ≡ clockOf ws.now }
+    ensures { result ≡ clock_of ws.now }
 {
     SynchronizedRemoteClock {
         base: base(ws),
@@ -84,7 +84,7 @@ pub fn clock(ws: &[u64; 79]) -> SynchronizedRemoteClock
 }
 
 pub fn rtt(ws: &[u64; 79]) -> Rtt
-    ensures { result ≡ rttOf ws.now }
+    ensures { result ≡ rtt_of ws.now }
 {
     Rtt {
         mean: words::number(ws[16]),
@@ -93,7 +93,7 @@ pub fn rtt(ws: &[u64; 79]) -> Rtt
 }
 
 pub fn arrivals(ws: &[u64; 79]) -> Arrivals
-    ensures { result ≡ arrivalsOf ws.now }
+    ensures { result ≡ arrivals_of ws.now }
 {
     Arrivals {
         gaps: sixteen(ws, 18),
@@ -105,7 +105,7 @@ pub fn arrivals(ws: &[u64; 79]) -> Arrivals
 }
 
 pub fn links(ws: &[u64; 79]) -> Links
-    ensures { result ≡ linksOf ws.now }
+    ensures { result ≡ links_of ws.now }
 {
     Links {
         gaps: sixteen(ws, 54),
@@ -116,7 +116,7 @@ pub fn links(ws: &[u64; 79]) -> Links
 }
 
 pub fn history(ws: &[u64; 79]) -> History
-    ensures { result ≡ historyOf ws.now }
+    ensures { result ≡ history_of ws.now }
 {
     History {
         start: words::size(ws[74]),
@@ -146,7 +146,7 @@ fn head(ws: &[u64; 79]) -> Head
 
 // The words of the window, the settings and the clock.
 pub fn first_formed(ws: &[u64; 79]) -> bool
-    ensures { result ≡ firstFormed ws.now }
+    ensures { result ≡ first_formed ws.now }
 {
     (ws[4] < 0x1_0000_0000)
         & (ws[5] < 0x1_0000_0000)
@@ -162,7 +162,7 @@ pub fn first_formed(ws: &[u64; 79]) -> bool
 
 // The words of the round trip, the rates and the history.
 pub fn last_formed(ws: &[u64; 79]) -> bool
-    ensures { result ≡ lastFormed ws.now }
+    ensures { result ≡ last_formed ws.now }
 {
     (ws[16] < 0x1_0000_0000)
         & (ws[17] < 0x1_0000_0000)
@@ -174,7 +174,7 @@ pub fn last_formed(ws: &[u64; 79]) -> bool
 }
 
 pub fn rates_formed(ws: &[u64; 79]) -> bool
-    ensures { result ≡ ratesFormed ws.now }
+    ensures { result ≡ rates_formed ws.now }
 {
     are_numbers(ws, 18) & are_numbers(ws, 34) & are_numbers(ws, 54)
 }
@@ -198,7 +198,7 @@ fn nowhere() -> Head
 }
 
 pub fn unpack(ws: &[u64; 79]) -> Head
-    ensures { result ≡ unpackOf ws.now }
+    ensures { result ≡ unpack_of ws.now }
 {
     if formed(ws) {
         return head(ws);

@@ -1,7 +1,7 @@
 // One value as one word, and back.
 ghost use Rattle.std.specs.Prelude.{◌≡◌};
 ghost use Rattle.packing.specs.Holds.{Time};
-ghost use Rattle.packing.specs.Words.{word_of, whole_of, bits_of, float_of, flagWord, flagOf, number_of, setWord, timeWord, momentOf, floatFormed, momentFormed};
+ghost use Rattle.packing.specs.Words.{word_of, whole_of, bits_of, float_of, flag_word, flag_of, number_of, set_word, time_word, moment_of, float_formed, moment_formed};
 
 use numbers::instant::Moment;
 
@@ -43,19 +43,19 @@ pub fn float(w: u64) -> f64
 
 // No pattern of a NaN but the one.
 pub fn is_float(w: u64) -> bool
-    ensures { result ≡ floatFormed w }
+    ensures { result ≡ float_formed w }
 {
     (w % 0x8000_0000_0000_0000 <= 0x7ff0_0000_0000_0000) | (w == 0x7ff8_0000_0000_0000)
 }
 
 pub fn of_flag(b: bool) -> u64
-    ensures { result ≡ flagWord b }
+    ensures { result ≡ flag_word b }
 {
     b as u64
 }
 
 pub fn flag(w: u64) -> bool
-    ensures { result ≡ flagOf w }
+    ensures { result ≡ flag_of w }
 {
     w == 1
 }
@@ -86,7 +86,7 @@ pub fn number(w: u64) -> u32
 
 // A moment is two words: whether it is set, and its time.
 pub fn of_set(m: Moment) -> u64
-    ensures { result ≡ setWord m }
+    ensures { result ≡ set_word m }
 {
     let Moment::At(_) = m else {
         return 0;
@@ -95,7 +95,7 @@ pub fn of_set(m: Moment) -> u64
 }
 
 pub fn of_time(m: Moment) -> u64
-    ensures { (result ≡ timeWord m) × Time m }
+    ensures { (result ≡ time_word m) × Time m }
 {
     let Moment::At(t) = m else {
         return 0;
@@ -104,7 +104,7 @@ pub fn of_time(m: Moment) -> u64
 }
 
 pub fn moment(set: u64, time: u64) -> Moment
-    ensures { result ≡ momentOf set time }
+    ensures { result ≡ moment_of set time }
 {
     if set == 1 {
         return Moment::At(whole(time));
@@ -114,7 +114,7 @@ pub fn moment(set: u64, time: u64) -> Moment
 
 // Unset has no time beside it.
 pub fn is_moment(set: u64, time: u64) -> bool
-    ensures { result ≡ momentFormed set time }
+    ensures { result ≡ moment_formed set time }
 {
     (set == 1) | ((set == 0) & (time == 0))
 }

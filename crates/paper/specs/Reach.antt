@@ -6,8 +6,8 @@ use Rattle.receiver.specs.declared.data.DataAnswer.{DataAnswer}
 use Rattle.receiver.specs.declared.data.DataAnswer.TheVariants as datas
 
 -- making has no line in a trace; it answers a head, or refusal 15
-abbrev pub madeLine : Made → Line
-madeLine m = record { word = cond (eqb m.refusal 0) made refused; refusal = m.refusal; values = []; exact = [] }
+abbrev pub made_line : Made → Line
+made_line m = record { word = cond (eqb m.refusal 0) made refused; refusal = m.refusal; values = []; exact = [] }
 
 -- what a call can still answer once 1 to 6 cannot occur: no refusal, or one of its own, whose numbers go from one to another
 abbrev pub OnlyIn : ℕ → ℕ → Line → Type 0
@@ -18,9 +18,9 @@ abbrev pub Unrefused : Line → Type 0
 Unrefused l = l.refusal ≡ 0
 
 -- "8 PacketTooEarly .. returns both": 8 never comes without its room and need
-abbrev pub withBoth : DataAnswer → Bool
-withBoth (datas.Got lrsn recovered) = true
-withBoth (datas.Light lrsn recovered) = true
-withBoth (datas.Loss first last) = true
-withBoth (datas.Refused n) = not (eqb n 8)
-withBoth (datas.PacketTooEarly places need) = true
+abbrev pub with_both : DataAnswer → Bool
+with_both (datas.Got lrsn recovered) = true
+with_both (datas.Light lrsn recovered) = true
+with_both (datas.Loss first last) = true
+with_both (datas.Refused n) = not (eqb n 8)
+with_both (datas.PacketTooEarly places need) = true

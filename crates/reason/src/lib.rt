@@ -3,8 +3,8 @@
 ghost use Rattle.std.specs.Prelude.{◌≡◌, ◌≤◌, length};
 ghost use Rattle.head.specs.Head.{made_of};
 ghost use Rattle.dlt.specs.Bytes.{byte_at};
-ghost use Rattle.dlt.specs.Record.{leastSize};
-ghost use Rattle.reason.specs.Reason.{isMarked, formReason, settingReason, headerReason, needIn, cutReason, wrongReason, recordReason};
+ghost use Rattle.dlt.specs.Record.{least_size};
+ghost use Rattle.reason.specs.Reason.{is_marked, form_reason, setting_reason, header_reason, need_in, cut_reason, wrong_reason, record_reason};
 
 pub mod tell;
 
@@ -32,7 +32,7 @@ pub enum Reason {
 
 fn is_marked(piece: &[u8]) -> bool
     requires { 24 ≤ length piece.now }
-    ensures { result ≡ isMarked piece.now }
+    ensures { result ≡ is_marked piece.now }
 {
     (piece[0] == b'D') & (piece[1] == b'L') & (piece[2] == b'T')
 }
@@ -40,7 +40,7 @@ fn is_marked(piece: &[u8]) -> bool
 // 24 bytes that are no header.
 fn form(piece: &[u8]) -> Reason
     requires { 24 ≤ length piece.now }
-    ensures { result ≡ formReason piece.now }
+    ensures { result ≡ form_reason piece.now }
 {
     if is_marked(piece) {} else {
         return Reason::NoMark;
@@ -53,7 +53,7 @@ fn form(piece: &[u8]) -> Reason
 }
 
 fn setting(start: i64, latency: u32, dropping: bool, first: u32, capacity: usize) -> Reason
-    ensures { result ≡ settingReason (made_of start latency dropping first capacity) capacity }
+    ensures { result ≡ setting_reason (made_of start latency dropping first capacity) capacity }
 {
     if 32 < capacity {
         return Reason::Capacity { capacity };
@@ -67,7 +67,7 @@ fn setting(start: i64, latency: u32, dropping: bool, first: u32, capacity: usize
 
 // Of the bytes that a file starts with, when no more of them come.
 pub fn of_header(piece: &[u8]) -> Reason
-    ensures { result ≡ headerReason piece.now }
+    ensures { result ≡ header_reason piece.now }
 {
     match dlt::header::header(piece) {
         HeaderRead::Short => Reason::HeaderCut { have: piece.len() },
@@ -84,7 +84,7 @@ pub fn of_header(piece: &[u8]) -> Reason
 
 fn need(rest: &[u8]) -> usize
     requires { 1 ≤ length rest.now }
-    ensures { result ≡ needIn rest.now }
+    ensures { result ≡ need_in rest.now }
 {
     let kind = rest[0];
     if kind == 1 {
@@ -97,7 +97,7 @@ fn need(rest: &[u8]) -> usize
 }
 
 fn cut(rest: &[u8]) -> Reason
-    ensures { result ≡ cutReason rest.now }
+    ensures { result ≡ cut_reason rest.now }
 {
     if rest.len() < 1 {
         return Reason::Nothing;
@@ -110,8 +110,8 @@ fn cut(rest: &[u8]) -> Reason
 
 fn wrong(rest: &[u8]) -> Reason
     requires in_bounds { 1 ≤ length rest.now }
-    requires rest_in_bounds { leastSize (byte_at rest.now 0) ≤ length rest.now }
-    ensures { result ≡ wrongReason rest.now }
+    requires rest_in_bounds { least_size (byte_at rest.now 0) ≤ length rest.now }
+    ensures { result ≡ wrong_reason rest.now }
 {
     let kind = rest[0];
     if kind == 1 {
@@ -124,7 +124,7 @@ fn wrong(rest: &[u8]) -> Reason
 
 // Of the bytes from a record on, when no more of them come.
 pub fn of_record(rest: &[u8]) -> Reason
-    ensures { result ≡ recordReason rest.now }
+    ensures { result ≡ record_reason rest.now }
 {
     match dlt::record::record(rest, 0) {
         RecordRead::Short => cut(rest),

@@ -5,12 +5,12 @@ use Rattle.window.specs.declared.Window.{Window}
 use Rattle.window_pop.specs.Pop.{PopOutcome, pop_of}
 use Rattle.window_pop.specs.declared.pop.PopAnswer.{PopAnswer}
 use Rattle.window_pop.specs.declared.pop.PopAnswer.TheVariants as pops
-use Rattle.head.specs.Rules.{firstRefusal, judged, popRules}
-use Rattle.head.specs.Head.{headOk}
-use Rattle.head.specs.Parts.{withWindow, withClock, withLatest}
+use Rattle.head.specs.Rules.{first_refusal, judged, pop_rules}
+use Rattle.head.specs.Head.{head_ok}
+use Rattle.head.specs.Parts.{with_window, with_clock, with_latest}
 use Rattle.head.specs.declared.state.Head.{Head}
 use Rattle.head.specs.Paper.{Line}
-use Rattle.receiver.specs.Paper.{messageLine}
+use Rattle.receiver.specs.Paper.{message_line}
 use Rattle.receiver.specs.declared.message.Given.{Given}
 use Rattle.receiver.specs.declared.message.MessageAnswer.{MessageAnswer}
 use Rattle.receiver.specs.declared.message.MessageAnswer.TheVariants as answers
@@ -21,12 +21,12 @@ pub record MessageOutcome : Type 0 where
   pub line : Line
   pub output : List ℕ
 
-abbrev pub messageEnded : Given → List ℕ → MessageOutcome
-messageEnded r out = record { given = r; line = messageLine r.answer; output = out }
+abbrev pub message_ended : Given → List ℕ → MessageOutcome
+message_ended r out = record { given = r; line = message_line r.answer; output = out }
 
 -- the head with the window and clock after a pop, and the reading as its latest
-abbrev pub poppedOf : Head → Window → SynchronizedRemoteClock → ℤ → Head
-poppedOf h w k now = withLatest (withClock (withWindow h w) k) now
+abbrev pub popped_of : Head → Window → SynchronizedRemoteClock → ℤ → Head
+popped_of h w k now = with_latest (with_clock (with_window h w) k) now
 
 -- the window's answer as the call's
 abbrev pub answer_of : PopAnswer → MessageAnswer
@@ -36,24 +36,24 @@ answer_of (pops.Late first end delay) = answers.Late first end delay
 answer_of pops.OutShort = answers.Refused 11
 
 -- on refusal 11 the head stays
-abbrev pub headAfter : Head → Window → SynchronizedRemoteClock → PopAnswer → ℤ → Head
-headAfter h w k pops.Nothing now = poppedOf h w k now
-headAfter h w k (pops.Message time bytes packets) now = poppedOf h w k now
-headAfter h w k (pops.Late first end delay) now = poppedOf h w k now
-headAfter h w k pops.OutShort now = h
+abbrev pub head_after : Head → Window → SynchronizedRemoteClock → PopAnswer → ℤ → Head
+head_after h w k pops.Nothing now = popped_of h w k now
+head_after h w k (pops.Message time bytes packets) now = popped_of h w k now
+head_after h w k (pops.Late first end delay) now = popped_of h w k now
+head_after h w k pops.OutShort now = h
 
-abbrev pub afterPop : Head → Window → SynchronizedRemoteClock → PopAnswer → ℤ → Given
-afterPop h w k a now = record { head = headAfter h w k a now; answer = answer_of a }
+abbrev pub after_pop : Head → Window → SynchronizedRemoteClock → PopAnswer → ℤ → Given
+after_pop h w k a now = record { head = head_after h w k a now; answer = answer_of a }
 
 -- the window's outcome as the call's; on refusal 11 the window leaves the output
 abbrev pub popped : Head → ℤ → PopOutcome → MessageOutcome
-popped h now o = messageEnded (afterPop h o.popped.window o.popped.clock o.popped.answer now) o.output
+popped h now o = message_ended (after_pop h o.popped.window o.popped.clock o.popped.answer now) o.output
 
 unfoldable pub taken_of : Head → List ℕ → List ℕ → List ℕ → ℤ → MessageOutcome
 taken_of h ws bs out now = popped h now (pop_of h.clock h.latency h.dropping h.window ws now bs out)
 
-unfoldable pub popCallOf : Head → List ℕ → List ℕ → List ℕ → ℤ → MessageOutcome
-popCallOf h ws bs out now =
-    judged (firstRefusal (popRules (headOk h) h.window.capacity (length ws) (length bs) now h.latest))
+unfoldable pub pop_call_of : Head → List ℕ → List ℕ → List ℕ → ℤ → MessageOutcome
+pop_call_of h ws bs out now =
+    judged (first_refusal (pop_rules (head_ok h) h.window.capacity (length ws) (length bs) now h.latest))
     (taken_of h ws bs out now)
-    (λ n. messageEnded (record { head = h; answer = answers.Refused n }) out)
+    (λ n. message_ended (record { head = h; answer = answers.Refused n }) out)

@@ -1,8 +1,8 @@
 // A data packet comes, arq.rs `handle_data_packet`: 01, "Window" with refusals 1 to 10, and of "ACKs, RTT, rates" what a push does.
 ghost use Rattle.std.specs.Prelude.{◌≡◌, true};
-ghost use Rattle.intervals.specs.Rates.{arrivalsOk, linksOk};
+ghost use Rattle.intervals.specs.Rates.{arrivals_ok, links_ok};
 ghost use Rattle.head.specs.Ready.{PushReady};
-ghost use Rattle.receiver.specs.Data.{placed_of, pushRefused, ratedOf, ackedOf, gotOf, afterPush, taken_of, dataEnded, packet, dataCallOf};
+ghost use Rattle.receiver.specs.Data.{placed_of, push_refused, rated_of, acked_of, got_of, after_push, taken_of, data_ended, packet, data_call_of};
 
 use head::state::Head;
 use window::Window;
@@ -33,7 +33,7 @@ fn placed(h: Head, window: Window, time: i64) -> Head
 
 // The window's refusal as the call's; refusal 0 for an answer that is none.
 pub fn refused_by(answer: PushAnswer) -> DataAnswer
-    ensures { result ≡ pushRefused answer }
+    ensures { result ≡ push_refused answer }
 {
     match answer {
         PushAnswer::Got { .. } => DataAnswer::Refused(0),
@@ -47,8 +47,8 @@ pub fn refused_by(answer: PushAnswer) -> DataAnswer
 
 // Rates count appends without gap.
 fn rate(h: Head, time: i64, number: u32, size: u32) -> Head
-    requires { (arrivalsOk h.arrivals ≡ true) × (linksOk h.links ≡ true) }
-    ensures { result ≡ ratedOf h time number size }
+    requires { (arrivals_ok h.arrivals ≡ true) × (links_ok h.links ≡ true) }
+    ensures { result ≡ rated_of h time number size }
 {
     let a = h.arrivals;
     let l = h.links;
@@ -59,7 +59,7 @@ fn rate(h: Head, time: i64, number: u32, size: u32) -> Head
 
 // An append without gap or a recovery asks for a light ACK.
 fn acknowledge(h: Head, lrsn: u32, recovered: bool) -> Handled
-    ensures { result ≡ ackedOf h lrsn recovered }
+    ensures { result ≡ acked_of h lrsn recovered }
 {
     let y = h.history;
     let acked = y.next_light_ack(lrsn);
@@ -87,8 +87,8 @@ fn got(
     number: u32,
     size: u32,
 ) -> Handled
-    requires { (arrivalsOk h.arrivals ≡ true) × (linksOk h.links ≡ true) }
-    ensures { result ≡ gotOf h window lrsn recovered time number size }
+    requires { (arrivals_ok h.arrivals ≡ true) × (links_ok h.links ≡ true) }
+    ensures { result ≡ got_of h window lrsn recovered time number size }
 {
     if recovered {
         return acknowledge(placed(h, window, time), lrsn, true);
@@ -99,8 +99,8 @@ fn got(
 
 // The window's answer as the call's: a refusal leaves the head, a gap asks for no ACK.
 fn after_push(h: Head, pushed: Pushed, time: i64, number: u32, size: u32) -> Handled
-    requires { (arrivalsOk h.arrivals ≡ true) × (linksOk h.links ≡ true) }
-    ensures { result ≡ afterPush h pushed.window pushed.answer time number size }
+    requires { (arrivals_ok h.arrivals ≡ true) × (links_ok h.links ≡ true) }
+    ensures { result ≡ after_push h pushed.window pushed.answer time number size }
 {
     let window = pushed.window;
     let answer = pushed.answer;
@@ -129,7 +129,7 @@ fn take_packet(
     payload: &[u8],
 ) -> Handled
     requires { PushReady h words.old bytes.old time p payload.now }
-    ensures { dataEnded result words.new bytes.new ≡ taken_of h words.old bytes.old time p payload.now }
+    ensures { data_ended result words.new bytes.new ≡ taken_of h words.old bytes.old time p payload.now }
 {
     let w = h.window;
     let number = p.number;
@@ -149,7 +149,7 @@ pub fn handle_data_packet(
     stamp: u32,
     payload: &[u8],
 ) -> Handled
-    ensures { dataEnded result words.new bytes.new ≡ dataCallOf h words.old bytes.old time (packet number message location stamp) payload.now }
+    ensures { data_ended result words.new bytes.new ≡ data_call_of h words.old bytes.old time (packet number message location stamp) payload.now }
 {
     let p = Packet {
         number,

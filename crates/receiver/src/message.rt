@@ -1,6 +1,6 @@
 // The pop call, arq.rs `pop_next_message`: 01, "Window", with refusals 1 to 4 and 11.
 ghost use Rattle.std.specs.Prelude.{◌≡◌};
-ghost use Rattle.receiver.specs.Message.{messageEnded, poppedOf, answer_of, afterPop, taken_of, popCallOf};
+ghost use Rattle.receiver.specs.Message.{message_ended, popped_of, answer_of, after_pop, taken_of, pop_call_of};
 ghost use Rattle.window_pop.specs.Ready.{PopReady};
 
 use clock::time::SynchronizedRemoteClock;
@@ -32,7 +32,7 @@ pub struct Given {
 
 // The head with the window and clock after a pop, at a reading.
 fn popped(h: Head, window: Window, clock: SynchronizedRemoteClock, time: i64) -> Head
-    ensures { result ≡ poppedOf h window clock time }
+    ensures { result ≡ popped_of h window clock time }
 {
     let cut = h.with_window(window);
     let next = cut.with_clock(clock);
@@ -67,7 +67,7 @@ fn after_pop(
     answer: PopAnswer,
     time: i64,
 ) -> Given
-    ensures { result ≡ afterPop h window clock answer time }
+    ensures { result ≡ after_pop h window clock answer time }
 {
     let (PopAnswer::Nothing | PopAnswer::Message { .. } | PopAnswer::Late { .. }) = answer else {
         return Given {
@@ -84,7 +84,7 @@ fn after_pop(
 // The call, once nothing refuses it.
 fn release(h: Head, words: &[u64], bytes: &[u8], out: &mut [u8], time: i64) -> Given
     requires { PopReady h.clock h.latency h.window words.now bytes.now time }
-    ensures { messageEnded result out.new ≡ taken_of h words.now bytes.now out.old time }
+    ensures { message_ended result out.new ≡ taken_of h words.now bytes.now out.old time }
 {
     let w = h.window;
     let k = h.clock;
@@ -96,7 +96,7 @@ fn release(h: Head, words: &[u64], bytes: &[u8], out: &mut [u8], time: i64) -> G
 }
 
 pub fn pop_next_message(h: Head, words: &[u64], bytes: &[u8], out: &mut [u8], time: i64) -> Given
-    ensures { messageEnded result out.new ≡ popCallOf h words.now bytes.now out.old time }
+    ensures { message_ended result out.new ≡ pop_call_of h words.now bytes.now out.old time }
 {
     let n = head::refuse::pop(h, words.len(), bytes.len(), time);
     if n == 0 {

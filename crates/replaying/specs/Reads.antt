@@ -6,18 +6,18 @@ use Rattle.replaying.specs.declared.State.{State}
 use Rattle.replaying.specs.declared.Want.{Want}
 use Rattle.replaying.specs.declared.Want.TheVariants as wants
 
-abbrev pub wantingOf : State → Want → State
-wantingOf s want = record { trace = s.trace; at = s.at; end = s.end; used = s.used; last = s.last; want = want }
+abbrev pub wanting_of : State → Want → State
+wanting_of s want = record { trace = s.trace; at = s.at; end = s.end; used = s.used; last = s.last; want = want }
 
 -- an answer below zero is a read that failed
-unfoldable pub filledOf : State → Got → Want → State
-filledOf s got want =
+unfoldable pub filled_of : State → Got → Want → State
+filled_of s got want =
     cond (int_lt got.answer (pos 0))
-    (wantingOf s wants.Unread)
+    (wanting_of s wants.Unread)
     (record { trace = s.trace; at = 0; end = got.end; used = s.used; last = int_le got.answer (pos 0); want = want })
 
-unfoldable pub flushedOf : State → Bool → Want → State
-flushedOf s done want =
+unfoldable pub flushed_of : State → Bool → Want → State
+flushed_of s done want =
     cond done
     (record { trace = s.trace; at = s.at; end = s.end; used = 0; last = s.last; want = want })
-    (wantingOf s wants.Unwritten)
+    (wanting_of s wants.Unwritten)

@@ -1,8 +1,8 @@
 -- Whether two words of the command line are the same, byte by byte.
 use Rattle.std.specs.Prelude.{ℕ, Bool, true, false, ◌&&◌, List, [], ◌∷◌, ◌==◌}
 
-unfoldable pub sameBytes : List ℕ → List ℕ → Bool
-sameBytes [] [] = true
-sameBytes [] (y ∷ m) = false
-sameBytes (x ∷ l) [] = false
-sameBytes (x ∷ l) (y ∷ m) = x == y && sameBytes l m
+unfoldable pub same_bytes : List ℕ → List ℕ → Bool
+same_bytes [] [] = true
+same_bytes [] (y ∷ m) = false
+same_bytes (x ∷ l) [] = false
+same_bytes (x ∷ l) (y ∷ m) = x == y && same_bytes l m

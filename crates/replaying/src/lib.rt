@@ -3,34 +3,34 @@
 // can speak of what is read or written, so here the code only follows that loop.
 ghost use Rattle.std.specs.Prelude.{◌≡◌, ◌-◌, ◌≤◌, length};
 ghost use Rattle.io.specs.Counts.{IsPrefixLen};
-ghost use Rattle.trace.specs.Lends.{slotsLent, payloadsLent, historyLent, listLent};
-ghost use Rattle.replaying.specs.Reads.{wantingOf, filledOf, flushedOf};
-ghost use Rattle.replaying.specs.Same.{sameBytes};
+ghost use Rattle.trace.specs.Lends.{slots_lent, payloads_lent, history_lent, list_lent};
+ghost use Rattle.replaying.specs.Reads.{wanting_of, filled_of, flushed_of};
+ghost use Rattle.replaying.specs.Same.{same_bytes};
 
 use libc::{STDERR_FILENO, STDIN_FILENO, STDOUT_FILENO};
 use trace::{Begun, Opened, Status, Trace, Turned};
 
 // The areas of capacity 32. With them no record is refused by 2, 11 or 12: the theorem `replay-areas`. An output has the length of the payloads.
 fn slot_area() -> [u64; 96]
-    ensures { slotsLent ≡ length result }
+    ensures { slots_lent ≡ length result }
 {
     [0; 96]
 }
 
 fn payload_area() -> [u8; 46592]
-    ensures { payloadsLent ≡ length result }
+    ensures { payloads_lent ≡ length result }
 {
     [0; 46592]
 }
 
 fn history_area() -> [u64; 2048]
-    ensures { historyLent ≡ length result }
+    ensures { history_lent ≡ length result }
 {
     [0; 2048]
 }
 
 fn loss_words() -> [u32; 64]
-    ensures { listLent ≡ length result }
+    ensures { list_lent ≡ length result }
 {
     [0; 64]
 }
@@ -93,7 +93,7 @@ fn shift(hand: &mut [u8], at: usize, end: usize)
 }
 
 fn wanting(s: State, want: Want) -> State
-    ensures { result ≡ wantingOf s want }
+    ensures { result ≡ wanting_of s want }
 {
     let trace = s.trace;
     State {
@@ -130,7 +130,7 @@ fn read_behind(fd: i32, hand: &mut [u8], from: usize, to: usize) -> Got {
 
 // A read that gave nothing is the end of the file, and no other is.
 fn filled(s: State, got: Got, want: Want) -> State
-    ensures { result ≡ filledOf s got want }
+    ensures { result ≡ filled_of s got want }
 {
     if got.answer < 0 {
         return wanting(s, Want::Unread);
@@ -153,7 +153,7 @@ fn write_out(text: &[u8], used: usize) -> bool {
 
 // The lines were written out, or not.
 fn flushed(s: State, done: bool, want: Want) -> State
-    ensures { result ≡ flushedOf s done want }
+    ensures { result ≡ flushed_of s done want }
 {
     if done {
         let trace = s.trace;
@@ -498,7 +498,7 @@ fn replay_argument(i: usize, counting: bool) {
 
 // Whether two words are the same.
 pub fn same(a: &[u8], b: &[u8]) -> bool
-    ensures { result ≡ sameBytes a.now b.now }
+    ensures { result ≡ same_bytes a.now b.now }
 {
     if a.len() != b.len() {
         return false;

@@ -2,5 +2,5 @@
 use Rattle.std.specs.Prelude.{Bool, cond, ℕ}
 
 -- 1 or 0
-abbrev pub oneIf : Bool → ℕ
-oneIf b = cond b 1 0
+abbrev pub one_if : Bool → ℕ
+one_if b = cond b 1 0

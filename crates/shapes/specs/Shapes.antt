@@ -2,18 +2,18 @@
 -- and line ends are written (A70, A75).
 use Rattle.std.specs.Prelude.{List, [], ◌∷◌, ◌++◌, ℕ}
 use Rattle.text.specs.Bytes.{bytes}
-use Rattle.text.specs.Decimal.{decimal, signedDecimal}
+use Rattle.text.specs.Decimal.{decimal, signed_decimal}
 use Rattle.head.specs.Paper.{Value, whole, dash}
 
 -- a value: a number, or `-`
-abbrev pub valueBytes : Value → List ℕ
-valueBytes (whole z) = signedDecimal z
-valueBytes dash = bytes "-"
+abbrev pub value_bytes : Value → List ℕ
+value_bytes (whole z) = signed_decimal z
+value_bytes dash = bytes "-"
 
 -- values, each after a space
 unfoldable pub spaced : List Value → List ℕ
 spaced [] = []
-spaced (v ∷ vs) = (bytes " " ++ valueBytes v) ++ spaced vs
+spaced (v ∷ vs) = (bytes " " ++ value_bytes v) ++ spaced vs
 
 -- and the line's end
 unfoldable pub closed : List Value → List ℕ

@@ -1,7 +1,7 @@
 // Whole lines by their shape: the record's number, a word, and values. 01, "Trace, mark DLT".
 ghost use Rattle.std.specs.Prelude.{[], ◌∷◌, map, ◌+◌, ◌*◌, ◌≤◌, length, take};
 ghost use Rattle.head.specs.Paper.{whole, plain};
-ghost use Rattle.feedback.specs.Paper.{rateValue};
+ghost use Rattle.feedback.specs.Paper.{rate_value};
 ghost use Rattle.shapes.specs.Shapes.{line_of};
 ghost use Rattle.shapes.specs.Ready.{LineRoom, Wrote};
 
@@ -80,7 +80,7 @@ pub fn ack(
     link: Rate,
 ) -> usize
     requires { LineRoom out.old at word.now }
-    ensures { Wrote out.old at (line_of nth word.now (plain number ∷ plain lrsn ∷ plain mean ∷ plain variance ∷ plain room ∷ rateValue packets ∷ rateValue bytes ∷ rateValue link ∷ [])) 256 result out.new }
+    ensures { Wrote out.old at (line_of nth word.now (plain number ∷ plain lrsn ∷ plain mean ∷ plain variance ∷ plain room ∷ rate_value packets ∷ rate_value bytes ∷ rate_value link ∷ [])) 256 result out.new }
 {
     let p = open(out, at, nth, word);
     tail::ack(

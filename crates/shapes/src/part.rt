@@ -1,14 +1,14 @@
 // Parts of a line: the record's number and the word, values after spaces, the line's end. 01, "Trace, mark DLT".
 ghost use Rattle.std.specs.Prelude.{◌≡◌, [], ◌∷◌, ◌++◌, ◌+◌, ◌≤◌, length};
 ghost use Rattle.text.specs.Decimal.{decimal};
-ghost use Rattle.text.specs.Put.{putEnded, put_of};
+ghost use Rattle.text.specs.Put.{put_ended, put_of};
 ghost use Rattle.head.specs.Paper.{whole as Paper·whole, plain};
 ghost use Rattle.shapes.specs.Shapes.{spaced, closed};
-ghost use Rattle.shapes.specs.Inner.{oneIf};
+ghost use Rattle.shapes.specs.Inner.{one_if};
 ghost use Rattle.shapes.specs.Ready.{Wrote};
 
 pub fn flag(b: bool) -> u64
-    ensures { result ≡ oneIf b }
+    ensures { result ≡ one_if b }
 {
     if b {
         return 1;
@@ -36,7 +36,7 @@ pub fn whole(out: &mut [u8], at: usize, z: i64) -> usize
 // A word after a space.
 fn word(out: &mut [u8], at: usize, letters: &[u8]) -> usize
     requires { at + (1 + length letters.now) ≤ length out.old }
-    ensures { putEnded result out.new ≡ put_of out.old at (32 ∷ letters.now) }
+    ensures { put_ended result out.new ≡ put_of out.old at (32 ∷ letters.now) }
 {
     let p = text::put_byte(out, at, b' ');
     text::put_bytes(out, p, letters)

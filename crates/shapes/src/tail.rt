@@ -1,7 +1,7 @@
 // What follows a line's word: its values and the line's end. 01, "Trace, mark DLT".
 ghost use Rattle.std.specs.Prelude.{◌≡◌, [], ◌∷◌, map, ◌+◌, ◌*◌, ◌≤◌, length, take};
 ghost use Rattle.head.specs.Paper.{whole as Paper·whole, plain};
-ghost use Rattle.feedback.specs.Paper.{rateValue};
+ghost use Rattle.feedback.specs.Paper.{rate_value};
 ghost use Rattle.shapes.specs.Shapes.{spaced, closed};
 ghost use Rattle.shapes.specs.Ready.{Wrote};
 
@@ -87,7 +87,7 @@ pub fn range(out: &mut [u8], at: usize, a: u64, b: u64, z: i64) -> usize
 // The rates of an ACK: `-` for no rate.
 fn rate_value(out: &mut [u8], at: usize, a: Rate) -> usize
     requires { at + 21 ≤ length out.old }
-    ensures { Wrote out.old at (spaced (rateValue a ∷ [])) 21 result out.new }
+    ensures { Wrote out.old at (spaced (rate_value a ∷ [])) 21 result out.new }
 {
     match a {
         Rate::Unknown => text::put_bytes(out, at, b" -"),
@@ -98,7 +98,7 @@ fn rate_value(out: &mut [u8], at: usize, a: Rate) -> usize
 // One rate, two, and three.
 fn rates1(out: &mut [u8], at: usize, a: Rate) -> usize
     requires { at + 22 ≤ length out.old }
-    ensures { Wrote out.old at (closed (rateValue a ∷ [])) 22 result out.new }
+    ensures { Wrote out.old at (closed (rate_value a ∷ [])) 22 result out.new }
 {
     let p = rate_value(out, at, a);
     newline(out, p)
@@ -106,7 +106,7 @@ fn rates1(out: &mut [u8], at: usize, a: Rate) -> usize
 
 fn rates2(out: &mut [u8], at: usize, a: Rate, b: Rate) -> usize
     requires { at + 43 ≤ length out.old }
-    ensures { Wrote out.old at (closed (rateValue a ∷ rateValue b ∷ [])) 43 result out.new }
+    ensures { Wrote out.old at (closed (rate_value a ∷ rate_value b ∷ [])) 43 result out.new }
 {
     let p = rate_value(out, at, a);
     rates1(out, p, b)
@@ -114,7 +114,7 @@ fn rates2(out: &mut [u8], at: usize, a: Rate, b: Rate) -> usize
 
 fn rates3(out: &mut [u8], at: usize, a: Rate, b: Rate, c: Rate) -> usize
     requires { at + 64 ≤ length out.old }
-    ensures { Wrote out.old at (closed (rateValue a ∷ rateValue b ∷ rateValue c ∷ [])) 64 result out.new }
+    ensures { Wrote out.old at (closed (rate_value a ∷ rate_value b ∷ rate_value c ∷ [])) 64 result out.new }
 {
     let p = rate_value(out, at, a);
     rates2(out, p, b, c)
@@ -122,7 +122,7 @@ fn rates3(out: &mut [u8], at: usize, a: Rate, b: Rate, c: Rate) -> usize
 
 fn room_rates(out: &mut [u8], at: usize, room: u64, a: Rate, b: Rate, c: Rate) -> usize
     requires { at + 85 ≤ length out.old }
-    ensures { Wrote out.old at (closed (plain room ∷ rateValue a ∷ rateValue b ∷ rateValue c ∷ [])) 85 result out.new }
+    ensures { Wrote out.old at (closed (plain room ∷ rate_value a ∷ rate_value b ∷ rate_value c ∷ [])) 85 result out.new }
 {
     let p = number(out, at, room);
     rates3(out, p, a, b, c)
@@ -139,7 +139,7 @@ fn figures(
     link: Rate,
 ) -> usize
     requires { at + 127 ≤ length out.old }
-    ensures { Wrote out.old at (closed (plain mean ∷ plain variance ∷ plain room ∷ rateValue packets ∷ rateValue bytes ∷ rateValue link ∷ [])) 127 result out.new }
+    ensures { Wrote out.old at (closed (plain mean ∷ plain variance ∷ plain room ∷ rate_value packets ∷ rate_value bytes ∷ rate_value link ∷ [])) 127 result out.new }
 {
     let p = pair(out, at, mean, variance);
     room_rates(out, p, room, packets, bytes, link)
@@ -158,7 +158,7 @@ pub fn ack(
     link: Rate,
 ) -> usize
     requires { at + 169 ≤ length out.old }
-    ensures { Wrote out.old at (closed (plain number ∷ plain lrsn ∷ plain mean ∷ plain variance ∷ plain room ∷ rateValue packets ∷ rateValue bytes ∷ rateValue link ∷ [])) 169 result out.new }
+    ensures { Wrote out.old at (closed (plain number ∷ plain lrsn ∷ plain mean ∷ plain variance ∷ plain room ∷ rate_value packets ∷ rate_value bytes ∷ rate_value link ∷ [])) 169 result out.new }
 {
     let p = pair(out, at, number, lrsn);
     figures(out, p, mean, variance, room, packets, bytes, link)

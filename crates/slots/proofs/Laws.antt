@@ -11,20 +11,20 @@ use lib.Dec.{eqb}
 use lib.ListN.{length, get_or, set, take, drop, length-set, length-drop, take-append-drop}
 use lib.Seq.{get_or-set_same, get_or-set_other, length-paste, length-take-le, take-length, take_at, drop_at, drop-drop, drop-paste, take-append-le, drop-append-le, drop-set-lt}
 use Rattle.numbers.proofs.Flags.{impossible, by-test, by-order}
-use Rattle.slots.specs.Words.{mark_of, entry_of, words_of, isLost, entry_at, writeAt, writeReport, lengthIn}
+use Rattle.slots.specs.Words.{mark_of, entry_of, words_of, is_lost, entry_at, write_at, write_report, length_in}
 use Rattle.slots.specs.Ready.{Fit}
-use Rattle.slots.specs.Ring.{slot_of, payloadAt, withPayload}
-use Rattle.slots.specs.Inner.{nextSlot}
+use Rattle.slots.specs.Ring.{slot_of, payload_at, with_payload}
+use Rattle.slots.specs.Inner.{next_slot}
 use Rattle.slots.specs.declared.entry.Entry.{Entry}
 use Rattle.slots.specs.declared.entry.Entry.TheVariants.{Lost, Received, GivenUp}
 
 -- the words keep their number
-pub length-write : (ws : List ℕ) (s : ℕ) (e : Entry) → length (writeAt ws s e) ≡ length ws
-unfolding writeAt
+pub length-write : (ws : List ℕ) (s : ℕ) (e : Entry) → length (write_at ws s e) ≡ length ws
+unfolding write_at
 length-write ws s e = simp length-set
 
-pub length-report : (ws : List ℕ) (s k f : ℕ) → length (writeReport ws s k f) ≡ length ws
-unfolding writeReport
+pub length-report : (ws : List ℕ) (s k f : ℕ) → length (write_report ws s k f) ≡ length ws
+unfolding write_report
 length-report ws s k f = simp length-set
 
 -- a field of m values above c smaller ones
@@ -61,25 +61,25 @@ pub received-fit : (ws : List ℕ) (s : ℕ) {n l m t : ℕ} {e : Entry} → e �
 received-fit ws s p q = omega (arith, subst Fit (sym p ∙ q) (entry-fit ws s))
 
 -- a payload is at most 1,456 bytes
-length_most : (e : Entry) → Fit e → lengthIn e ≤ 1456
+length_most : (e : Entry) → Fit e → length_in e ≤ 1456
 length_most (Lost k f) h = omega arith
 length_most (Received n l m t) h = omega arith
 length_most GivenUp h = omega arith
 
-pub length-read : (ws : List ℕ) (s : ℕ) → lengthIn (entry_at ws s) ≤ 1456
+pub length-read : (ws : List ℕ) (s : ℕ) → length_in (entry_at ws s) ≤ 1456
 length-read ws s = length_most (entry_at ws s) (entry-fit ws s)
 
-lost-mark : (a b c : ℕ) → isLost (entry_of a b c) ≡ true → a % 4 ≡ 0
+lost-mark : (a b c : ℕ) → is_lost (entry_of a b c) ≡ true → a % 4 ≡ 0
 unfolding entry_of
 lost-mark a b c =
-    by-test (λ (e : Entry). isLost e ≡ true → a % 4 ≡ 0) (eqb (mark_of a) 0) _ _
+    by-test (λ (e : Entry). is_lost e ≡ true → a % 4 ≡ 0) (eqb (mark_of a) 0) _ _
     (λ t e. eqb-true (a % 4) 0 t)
-    (λ t. by-test (λ (e : Entry). isLost e ≡ true → a % 4 ≡ 0) (eqb (mark_of a) 1) _ _ (λ u e. impossible (sym e)) (λ u e. impossible (sym e)))
+    (λ t. by-test (λ (e : Entry). is_lost e ≡ true → a % 4 ≡ 0) (eqb (mark_of a) 1) _ _ (λ u e. impossible (sym e)) (λ u e. impossible (sym e)))
 
 module _ (ws : List ℕ) (s : ℕ) where
   -- write, then read the same slot
-  pub read_same : (e : Entry) → 3 * s + 3 ≤ length ws → Fit e → entry_at (writeAt ws s e) s ≡ e
-  unfolding entry_at writeAt
+  pub read_same : (e : Entry) → 3 * s + 3 ≤ length ws → Fit e → entry_at (write_at ws s e) s ≡ e
+  unfolding entry_at write_at
   read_same e h f =
       let n01 : (3 * s ≡ 3 * s + 1 → ⊥) = omega arith in
       let n02 : (3 * s ≡ 3 * s + 2 → ⊥) = omega arith in
@@ -90,8 +90,8 @@ module _ (ws : List ℕ) (s : ℕ) where
       simp (get_or-set_same, get_or-set_other) (entry-words e f)
 
   -- a report of a lost entry: the same entry, with the new k and feedback time
-  pub read-report : (k f : ℕ) → 3 * s + 3 ≤ length ws → isLost (entry_at ws s) ≡ true → k < 2 ^ 16 → f < 2 ^ 60 → entry_at (writeReport ws s k f) s ≡ Lost k f
-  unfolding entry_at entry_of writeReport
+  pub read-report : (k f : ℕ) → 3 * s + 3 ≤ length ws → is_lost (entry_at ws s) ≡ true → k < 2 ^ 16 → f < 2 ^ 60 → entry_at (write_report ws s k f) s ≡ Lost k f
+  unfolding entry_at entry_of write_report
   read-report k f h e hk hf =
       let n01 : (3 * s ≡ 3 * s + 1 → ⊥) = omega arith in
       let n02 : (3 * s ≡ 3 * s + 2 → ⊥) = omega arith in
@@ -104,17 +104,17 @@ module _ (ws : List ℕ) (s : ℕ) where
       simp (get_or-set_same, get_or-set_other, m, a, b)
 
   -- the words of no other slot change
-  write-stays : (e : Entry) (i : ℕ) → (i ≡ 3 * s → ⊥) → (i ≡ 3 * s + 1 → ⊥) → (i ≡ 3 * s + 2 → ⊥) → get_or (writeAt ws s e) i 0 ≡ get_or ws i 0
-  unfolding writeAt
+  write-stays : (e : Entry) (i : ℕ) → (i ≡ 3 * s → ⊥) → (i ≡ 3 * s + 1 → ⊥) → (i ≡ 3 * s + 2 → ⊥) → get_or (write_at ws s e) i 0 ≡ get_or ws i 0
+  unfolding write_at
   write-stays e i a b c = simp get_or-set_other
 
-  report-stays : (k f i : ℕ) → (i ≡ 3 * s + 1 → ⊥) → (i ≡ 3 * s + 2 → ⊥) → get_or (writeReport ws s k f) i 0 ≡ get_or ws i 0
-  unfolding writeReport
+  report-stays : (k f i : ℕ) → (i ≡ 3 * s + 1 → ⊥) → (i ≡ 3 * s + 2 → ⊥) → get_or (write_report ws s k f) i 0 ≡ get_or ws i 0
+  unfolding write_report
   report-stays k f i a b = simp get_or-set_other
 
   -- write, then read another slot
   module _ (t : ℕ) (h : t ≡ s → ⊥) where
-    pub read-other : (e : Entry) → entry_at (writeAt ws s e) t ≡ entry_at ws t
+    pub read-other : (e : Entry) → entry_at (write_at ws s e) t ≡ entry_at ws t
     unfolding entry_at
     read-other e =
         let a = write-stays e (3 * t) (omega (arith, h)) (omega arith) (omega arith) in
@@ -122,7 +122,7 @@ module _ (ws : List ℕ) (s : ℕ) where
         let c = write-stays e (3 * t + 2) (omega arith) (omega arith) (omega (arith, h)) in
         simp (a, b, c)
 
-    pub report-other : (k f : ℕ) → entry_at (writeReport ws s k f) t ≡ entry_at ws t
+    pub report-other : (k f : ℕ) → entry_at (write_report ws s k f) t ≡ entry_at ws t
     unfolding entry_at
     report-other k f =
         let a = report-stays k f (3 * t) (omega arith) (omega arith) in
@@ -158,7 +158,7 @@ module _ (capacity start : ℕ) (hs : start < capacity) where
       g (rw (mod-eq-sub-mod h, mod-eq_of_lt l) (omega arith)))
 
   -- a walk goes from slot to slot
-  pub slot_next : (i : ℕ) → i < capacity → slot_of capacity start (i + 1) ≡ nextSlot capacity (slot_of capacity start i)
+  pub slot_next : (i : ℕ) → i < capacity → slot_of capacity start (i + 1) ≡ next_slot capacity (slot_of capacity start i)
   slot_next i hi =
       let one = slot_lt capacity start (i + 1) (omega arith) in
       let two = slot_lt capacity start i (omega arith) in
@@ -199,27 +199,27 @@ in-front xs ys a n h =
 
 -- a payload in slot s: the area keeps its length, the slot shows the payload, and every other slot what it had
 module _ (bs : List ℕ) (s : ℕ) (p : List ℕ) (hp : length p ≤ 1456) (hs : 1456 * s + 1456 ≤ length bs) where
-  pub length-payload : length (withPayload bs s p) ≡ length bs
+  pub length-payload : length (with_payload bs s p) ≡ length bs
   length-payload = length-paste bs (1456 * s) p (length p) (omega arith) (omega arith)
 
   head-long : length (take (1456 * s) bs) ≡ 1456 * s
   head-long = length-take-le (1456 * s) bs (omega arith)
 
-  pub payload_same : payloadAt (withPayload bs s p) s (length p) ≡ p
+  pub payload_same : payload_at (with_payload bs s p) s (length p) ≡ p
   payload_same =
       let a : take (length p) p ≡ p = take-length p in
       rw (a, append_assoc, drop_at (take (1456 * s) bs) (p ++ drop (1456 * s + length p) bs) (1456 * s) head-long, take_at p (drop (1456 * s + length p) bs) (length p) refl)
 
-  past : (a : ℕ) → 1456 * s + length p ≤ a → drop a (withPayload bs s p) ≡ drop a bs
+  past : (a : ℕ) → 1456 * s + length p ≤ a → drop a (with_payload bs s p) ≡ drop a bs
   past a h =
       let e : 1456 * s + length p + (a - (1456 * s + length p)) ≡ a = omega arith in
-      ap (λ (x : ℕ). drop x (withPayload bs s p)) (sym e)
-      ∙ sym (drop-drop (a - (1456 * s + length p)) (1456 * s + length p) (withPayload bs s p))
+      ap (λ (x : ℕ). drop x (with_payload bs s p)) (sym e)
+      ∙ sym (drop-drop (a - (1456 * s + length p)) (1456 * s + length p) (with_payload bs s p))
       ∙ ap (drop (a - (1456 * s + length p))) (drop-paste bs (1456 * s) p (length p) (omega arith) (omega arith))
       ∙ drop-drop (a - (1456 * s + length p)) (1456 * s + length p) bs
       ∙ ap (λ (x : ℕ). drop x bs) e
 
-  pub payload-other : (t n : ℕ) → (t ≡ s → ⊥) → n ≤ 1456 → payloadAt (withPayload bs s p) t n ≡ payloadAt bs t n
+  pub payload-other : (t n : ℕ) → (t ≡ s → ⊥) → n ≤ 1456 → payload_at (with_payload bs s p) t n ≡ payload_at bs t n
   payload-other t n ne hn =
       by-order t s
       (λ h.
@@ -230,22 +230,22 @@ module _ (bs : List ℕ) (s : ℕ) (p : List ℕ) (hp : length p ≤ 1456) (hs :
       (λ h. ap (take n) (past (1456 * t) (omega (arith, ne))))
 
   -- bytes past the used part of the area stay
-  pub payload-outside : (capacity : ℕ) → s < capacity → drop (1456 * capacity) (withPayload bs s p) ≡ drop (1456 * capacity) bs
+  pub payload-outside : (capacity : ℕ) → s < capacity → drop (1456 * capacity) (with_payload bs s p) ≡ drop (1456 * capacity) bs
   payload-outside capacity h =
       past (1456 * capacity) (omega arith)
 
 -- words past the used part of the area stay
 module _ (ws : List ℕ) (s capacity : ℕ) (h : s < capacity) where
-  pub words-outside : (e : Entry) → drop (3 * capacity) (writeAt ws s e) ≡ drop (3 * capacity) ws
-  unfolding writeAt
+  pub words-outside : (e : Entry) → drop (3 * capacity) (write_at ws s e) ≡ drop (3 * capacity) ws
+  unfolding write_at
   words-outside e =
       let a : 3 * s < 3 * capacity = omega arith in
       let b : 3 * s + 1 < 3 * capacity = omega arith in
       let c : 3 * s + 2 < 3 * capacity = omega arith in
       simp drop-set-lt
 
-  pub report-outside : (k f : ℕ) → drop (3 * capacity) (writeReport ws s k f) ≡ drop (3 * capacity) ws
-  unfolding writeReport
+  pub report-outside : (k f : ℕ) → drop (3 * capacity) (write_report ws s k f) ≡ drop (3 * capacity) ws
+  unfolding write_report
   report-outside k f =
       let b : 3 * s + 1 < 3 * capacity = omega arith in
       let c : 3 * s + 2 < 3 * capacity = omega arith in

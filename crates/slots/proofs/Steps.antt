@@ -8,9 +8,9 @@ use borrow.Author.Rules.{rules}
 use borrow.Author.Tests.{eq-eqb, ne_eqb, lt-ltb, le-ltb}
 use lib.Dec.{eqb, leb}
 use lib.ListN.{length, get_or, set, length-set}
-use Rattle.slots.specs.Words.{lengthRead, entry_of, words_of, entry_at, writeAt, writeReport, isFirst, is_last, inMessage}
+use Rattle.slots.specs.Words.{length_read, entry_of, words_of, entry_at, write_at, write_report, is_first, is_last, in_message}
 use Rattle.slots.specs.Ring.{slot_of}
-use Rattle.slots.specs.Inner.{nextSlot}
+use Rattle.slots.specs.Inner.{next_slot}
 use Rattle.slots.specs.declared.entry.Entry.{Entry}
 use Rattle.slots.specs.declared.entry.Entry.TheVariants.{Lost, Received, GivenUp}
 use Rattle.slots.specs.declared.entry.Words.{Words}
@@ -21,7 +21,7 @@ module _ (a b c : ℕ) where
   unfolding entry_of
   lost-words h = rw (eq-eqb _ _ h)
 
-  pub received-words : {n : ℕ} → (a % 4 ≡ 0 → ⊥) → a % 4 ≡ 1 → n ≡ lengthRead (a / 4 % 2048) → Received n (a / 8192 % 4) (a / 32768 % 2 ^ 26) (b % 2 ^ 32) ≡ entry_of a b c
+  pub received-words : {n : ℕ} → (a % 4 ≡ 0 → ⊥) → a % 4 ≡ 1 → n ≡ length_read (a / 4 % 2048) → Received n (a / 8192 % 4) (a / 32768 % 2 ^ 26) (b % 2 ^ 32) ≡ entry_of a b c
   unfolding entry_of
   received-words h k e = rw (ne_eqb _ _ h, eq-eqb _ _ k, e)
 
@@ -31,13 +31,13 @@ module _ (a b c : ℕ) where
 
 -- is_first, is_last, in_message
 module _ {e : Entry} {n l m t : ℕ} (h : e ≡ Received n l m t) where
-  pub first-flag : leb 2 l ≡ isFirst e
+  pub first-flag : leb 2 l ≡ is_first e
   first-flag = rw h
 
   pub last-flag : eqb (l % 2) 1 ≡ is_last e
   last-flag = rw h
 
-  pub message-flag : (message : ℕ) → eqb m message ≡ inMessage message e
+  pub message-flag : (message : ℕ) → eqb m message ≡ in_message message e
   message-flag message = rw h
 
 -- read_at
@@ -46,12 +46,12 @@ unfolding entry_at
 reads ws s p = p
 
 -- write_at, write_report
-pub writes : (ws : List ℕ) (s : ℕ) (e : Entry) {w : Words} → w ≡ words_of e → set (set (set ws (3 * s) w.a) (3 * s + 1) w.b) (3 * s + 2) w.c ≡ writeAt ws s e
-unfolding writeAt
+pub writes : (ws : List ℕ) (s : ℕ) (e : Entry) {w : Words} → w ≡ words_of e → set (set (set ws (3 * s) w.a) (3 * s + 1) w.b) (3 * s + 2) w.c ≡ write_at ws s e
+unfolding write_at
 writes ws s e p = rw p
 
-pub writes-report : (ws : List ℕ) (s k f : ℕ) → set (set ws (3 * s + 1) k) (3 * s + 2) f ≡ writeReport ws s k f
-unfolding writeReport
+pub writes-report : (ws : List ℕ) (s k f : ℕ) → set (set ws (3 * s + 1) k) (3 * s + 2) f ≡ write_report ws s k f
+unfolding write_report
 writes-report ws s k f = refl
 
 pub second-in : (ws : List ℕ) (s i v : ℕ) → 3 * s + 3 ≤ length ws → 3 * s + 1 < length (set ws i v)
@@ -74,10 +74,10 @@ slot-high capacity start i a b h =
     let l : start + i - capacity < capacity = omega arith in
     rw (mod-eq-sub-mod h, mod-eq_of_lt l)
 
-pub next_low : (capacity s : ℕ) → s + 1 < capacity → s + 1 ≡ nextSlot capacity s
+pub next_low : (capacity s : ℕ) → s + 1 < capacity → s + 1 ≡ next_slot capacity s
 next_low capacity s h = rw (lt-ltb _ _ h)
 
-pub next-high : (capacity s : ℕ) → capacity ≤ s + 1 → 0 ≡ nextSlot capacity s
+pub next-high : (capacity s : ℕ) → capacity ≤ s + 1 → 0 ≡ next_slot capacity s
 next-high capacity s h = rw (le-ltb _ _ h)
 
 pub ruleset steps = (

@@ -2,5 +2,5 @@
 use Rattle.std.specs.Prelude.{cond, ℕ, ◌+◌, ltb}
 
 -- the slot of the next entry, without a division
-abbrev pub nextSlot : ℕ → ℕ → ℕ
-nextSlot capacity s = cond (ltb (s + 1) capacity) (s + 1) 0
+abbrev pub next_slot : ℕ → ℕ → ℕ
+next_slot capacity s = cond (ltb (s + 1) capacity) (s + 1) 0

@@ -8,11 +8,11 @@ unfoldable pub slot_of : ℕ → ℕ → ℕ → ℕ
 slot_of capacity start i = place_in capacity start i
 
 -- the payload area has 1,456 bytes a slot
-abbrev pub payloadStart : ℕ → ℕ
-payloadStart s = 1456 * s
+abbrev pub payload_start : ℕ → ℕ
+payload_start s = 1456 * s
 
-abbrev pub payloadAt : List ℕ → ℕ → ℕ → List ℕ
-payloadAt bs s n = take n (drop (payloadStart s) bs)
+abbrev pub payload_at : List ℕ → ℕ → ℕ → List ℕ
+payload_at bs s n = take n (drop (payload_start s) bs)
 
-abbrev pub withPayload : List ℕ → ℕ → List ℕ → List ℕ
-withPayload bs s p = paste bs (payloadStart s) p (length p)
+abbrev pub with_payload : List ℕ → ℕ → List ℕ → List ℕ
+with_payload bs s p = paste bs (payload_start s) p (length p)

@@ -1,6 +1,6 @@
 // An entry of the window as three words of a lent slice: 01, "Head and lent areas".
 ghost use Rattle.std.specs.Prelude.{◌≡◌, ◌+◌, ◌*◌, ◌<◌, ◌≤◌, length};
-ghost use Rattle.slots.specs.Words.{isLost, isReceived, entry_of, entry_at, writeAt, writeReport, words_of, lengthRead, lengthIn, stampIn, messageIn, isFirst, is_last, inMessage};
+ghost use Rattle.slots.specs.Words.{is_lost, is_received, entry_of, entry_at, write_at, write_report, words_of, length_read, length_in, stamp_in, message_in, is_first, is_last, in_message};
 ghost use Rattle.slots.specs.Ready.{Fit};
 
 #[derive(Drop)]
@@ -26,7 +26,7 @@ pub struct Words {
 }
 
 pub fn is_lost(e: Entry) -> bool
-    ensures { result ≡ isLost e }
+    ensures { result ≡ is_lost e }
 {
     match e {
         Entry::Lost { k: _, feedback: _ } => true,
@@ -41,7 +41,7 @@ pub fn is_lost(e: Entry) -> bool
 }
 
 pub fn is_received(e: Entry) -> bool
-    ensures { result ≡ isReceived e }
+    ensures { result ≡ is_received e }
 {
     match e {
         Entry::Lost { k: _, feedback: _ } => false,
@@ -57,7 +57,7 @@ pub fn is_received(e: Entry) -> bool
 
 // A length above 1,456 is read as 1,456.
 fn read_length(n: usize) -> usize
-    ensures { result ≡ lengthRead n }
+    ensures { result ≡ length_read n }
 {
     if n < 1456 { n } else { 1456 }
 }
@@ -121,7 +121,7 @@ pub fn read_at(words: &[u64], s: usize) -> Entry
 // Puts an entry into slot s; every other word stays.
 pub fn write_at(words: &mut [u64], s: usize, e: Entry)
     requires { (3 * s + 3 ≤ length words.old) × Fit e }
-    ensures { words.new ≡ writeAt words.old s e }
+    ensures { words.new ≡ write_at words.old s e }
 {
     let i = 3 * s;
     let w = pack(e);
@@ -133,7 +133,7 @@ pub fn write_at(words: &mut [u64], s: usize, e: Entry)
 // Puts k and the feedback time of a reported entry into slot s; its first word stays, since no rule names it.
 pub fn write_report(words: &mut [u64], s: usize, k: u32, feedback: u64)
     requires { 3 * s + 3 ≤ length words.old }
-    ensures { words.new ≡ writeReport words.old s k feedback }
+    ensures { words.new ≡ write_report words.old s k feedback }
 {
     let i = 3 * s;
     words[i + 1] = k as u64;
@@ -142,7 +142,7 @@ pub fn write_report(words: &mut [u64], s: usize, k: u32, feedback: u64)
 
 // What an entry holds, if it is received.
 pub fn length_in(e: Entry) -> usize
-    ensures { result ≡ lengthIn e }
+    ensures { result ≡ length_in e }
 {
     match e {
         Entry::Lost { k: _, feedback: _ } => 0,
@@ -157,7 +157,7 @@ pub fn length_in(e: Entry) -> usize
 }
 
 pub fn stamp_in(e: Entry) -> u32
-    ensures { result ≡ stampIn e }
+    ensures { result ≡ stamp_in e }
 {
     match e {
         Entry::Lost { k: _, feedback: _ } => 0,
@@ -172,7 +172,7 @@ pub fn stamp_in(e: Entry) -> u32
 }
 
 pub fn message_in(e: Entry) -> u32
-    ensures { result ≡ messageIn e }
+    ensures { result ≡ message_in e }
 {
     match e {
         Entry::Lost { k: _, feedback: _ } => 0,
@@ -187,7 +187,7 @@ pub fn message_in(e: Entry) -> u32
 }
 
 pub fn is_first(e: Entry) -> bool
-    ensures { result ≡ isFirst e }
+    ensures { result ≡ is_first e }
 {
     match e {
         Entry::Lost { k: _, feedback: _ } => false,
@@ -217,7 +217,7 @@ pub fn is_last(e: Entry) -> bool
 }
 
 pub fn in_message(number: u32, e: Entry) -> bool
-    ensures { result ≡ inMessage number e }
+    ensures { result ≡ in_message number e }
 {
     match e {
         Entry::Lost { k: _, feedback: _ } => false,

@@ -12,19 +12,19 @@ use lib.Dec.{ltb, leb}
 use lib.IntN.{pos}
 use Rattle.numbers.proofs.Flags.{and_left, and_right}
 use Rattle.numbers.proofs.Signs.{signed_low}
-use Rattle.numbers.specs.Instants.{isReading}
-use Rattle.clock.specs.Base.{inReference}
-use Rattle.clock.specs.Ranges.{lastOk, clockOk}
-use Rattle.acks.specs.Rtt.{rttOk}
-use Rattle.intervals.specs.Rates.{timeOk}
-use Rattle.acks.specs.History.{historyOk}
-use Rattle.window.specs.Window.{windowOk}
-use Rattle.head.specs.Head.{headOk}
-use Rattle.packing.specs.Words.{whole_of, number_of, momentOf, floatFormed, momentFormed}
-use Rattle.packing.specs.Packed.{at, windowOf, clockOf, rttOf, historyOf, firstFormed, lastFormed, unpackOf}
+use Rattle.numbers.specs.Instants.{is_reading}
+use Rattle.clock.specs.Base.{in_reference}
+use Rattle.clock.specs.Ranges.{last_ok, clock_ok}
+use Rattle.acks.specs.Rtt.{rtt_ok}
+use Rattle.intervals.specs.Rates.{time_ok}
+use Rattle.acks.specs.History.{history_ok}
+use Rattle.window.specs.Window.{window_ok}
+use Rattle.head.specs.Head.{head_ok}
+use Rattle.packing.specs.Words.{whole_of, number_of, moment_of, float_formed, moment_formed}
+use Rattle.packing.specs.Packed.{at, window_of, clock_of, rtt_of, history_of, first_formed, last_formed, unpack_of}
 use Rattle.packing.proofs.Floats.{nan-low}
-use Rattle.sound.proofs.Sounds.{or_left, or_right, placesOk, partsOk, sound-quick, sound-slow}
-use Rattle.sound.specs.Sound.{sizesSmall, intervalsSmall, fewBits, beside, besideAll, finite, windowSmall, countsSmall, quickly}
+use Rattle.sound.proofs.Sounds.{or_left, or_right, places_ok, parts_ok, sound-quick, sound-slow}
+use Rattle.sound.specs.Sound.{sizes_small, intervals_small, few_bits, beside, beside_all, finite, window_small, counts_small, quickly}
 
 -- the parts of a test, however many
 abbrev conj : Bool → List Bool → Bool
@@ -50,7 +50,7 @@ right-under a b n h = let k = or_right a b in omega arith
 abbrev Beside : ℕ → ℕ → Type 0
 Beside s t = t ≤ s % 2 * 1152921504606846975
 
-beside-formed : (s t : ℕ) → s < 2 → Beside s t → momentFormed s t ≡ true
+beside-formed : (s t : ℕ) → s < 2 → Beside s t → moment_formed s t ≡ true
 beside-formed zero t h k = let e : t ≡ 0 = omega arith in rw e
 beside-formed (suc zero) t h k = refl
 beside-formed (suc (suc s)) t h k = absurd (omega arith)
@@ -59,23 +59,23 @@ beside-formed (suc (suc s)) t h k = absurd (omega arith)
 low : (w : ℕ) → w < 2 ^ 63 → whole_of w ≡ pos w
 low w h = signed_low 64 w h
 
-reads : (w : ℕ) → w < 2 ^ 60 → isReading (whole_of w) ≡ true
+reads : (w : ℕ) → w < 2 ^ 60 → is_reading (whole_of w) ≡ true
 reads w h = rw (low w (omega arith), le-leb 0 w (omega arith), lt-ltb w (2 ^ 60) h)
 
-beside-time : (s t : ℕ) → s < 2 → Beside s t → timeOk (momentOf s t) ≡ true
+beside-time : (s t : ℕ) → s < 2 → Beside s t → time_ok (moment_of s t) ≡ true
 beside-time zero t h k = refl
 beside-time (suc zero) t h k = reads t (omega arith)
 beside-time (suc (suc s)) t h k = absurd (omega arith)
 
-beside-last : (s t : ℕ) → s < 2 → Beside s t → lastOk (momentOf s t) ≡ true
+beside-last : (s t : ℕ) → s < 2 → Beside s t → last_ok (moment_of s t) ≡ true
 beside-last zero t h k = refl
 beside-last (suc zero) t h k = rw (low t (omega arith), le-leb t (2 ^ 61 + 2 ^ 31) (omega arith))
 beside-last (suc (suc s)) t h k = absurd (omega arith)
 
-in-reference : (w : ℕ) → w < 2 ^ 60 → inReference (whole_of w) ≡ true
+in-reference : (w : ℕ) → w < 2 ^ 60 → in_reference (whole_of w) ≡ true
 in-reference w h = rw (low w (omega arith), le-leb w (2 ^ 61) (omega arith))
 
-is_finite : (w : ℕ) → w % 2 ^ 63 + 2 ^ 52 < 2 ^ 63 → floatFormed w ≡ true
+is_finite : (w : ℕ) → w % 2 ^ 63 + 2 ^ 52 < 2 ^ 63 → float_formed w ≡ true
 is_finite w h = rw (nan-low w (omega arith))
 
 -- a number under 2^32 is read as itself
@@ -121,7 +121,7 @@ record Found (ws : List ℕ) : Type 0 where
 
 found : (ws : List ℕ) → quickly ws ≡ true → Found ws
 found ws e =
-    let all = parts (fewBits ws) (besideAll ws ∷ finite ws ∷ windowSmall ws ∷ countsSmall ws ∷ []) e in
+    let all = parts (few_bits ws) (beside_all ws ∷ finite ws ∷ window_small ws ∷ counts_small ws ∷ []) e in
     let x1 = bit_or (at ws 4) (at ws 5) in
     let x2 = bit_or x1 (at ws 16) in
     let x3 = bit_or x2 (at ws 17) in
@@ -184,7 +184,7 @@ found ws e =
     }
 
 module _ (ws : List ℕ) (q : Found ws) where
-  quick-first : firstFormed ws ≡ true
+  quick-first : first_formed ws ≡ true
   quick-first =
       rw (
         lt-ltb (at ws 4) (2 ^ 32) (omega (arith, q.seqno0)),
@@ -199,7 +199,7 @@ module _ (ws : List ℕ) (q : Found ws) where
         lt-ltb (at ws 15) (2 ^ 32) (omega (arith, q.samples)),
       )
 
-  quick-last : lastFormed ws ≡ true
+  quick-last : last_formed ws ≡ true
   quick-last =
       rw (
         lt-ltb (at ws 16) (2 ^ 32) (omega (arith, q.rtt)),
@@ -211,7 +211,7 @@ module _ (ws : List ℕ) (q : Found ws) where
         lt-ltb (at ws 78) (2 ^ 32) (omega (arith, q.lastack)),
       )
 
-  quick-places : placesOk ws ≡ true
+  quick-places : places_ok ws ≡ true
   quick-places =
       rw (
         le-leb (at ws 51) 16 q.count,
@@ -222,7 +222,7 @@ module _ (ws : List ℕ) (q : Found ws) where
         beside-time (at ws 72) (at ws 73) q.probed q.probe,
       )
 
-  quick-window : windowOk (windowOf ws) ≡ true
+  quick-window : window_ok (window_of ws) ≡ true
   quick-window =
       rw (
         itself (at ws 4) (2 ^ 31) q.seqno0 (omega arith),
@@ -235,8 +235,8 @@ module _ (ws : List ℕ) (q : Found ws) where
         lt-ltb (at ws 5) (2 ^ 31) q.lrsn,
       )
 
-  quick-clock : clockOk (clockOf ws) ≡ true
-  unfolding clockOk
+  quick-clock : clock_ok (clock_of ws) ≡ true
+  unfolding clock_ok
   quick-clock =
       rw (
         in-reference (at ws 8) q.base,
@@ -245,8 +245,8 @@ module _ (ws : List ℕ) (q : Found ws) where
         le-leb (at ws 15) 999 q.samples,
       )
 
-  quick-rtt : rttOk (rttOf ws) ≡ true
-  unfolding rttOk
+  quick-rtt : rtt_ok (rtt_of ws) ≡ true
+  unfolding rtt_ok
   quick-rtt =
       rw (
         itself (at ws 16) (2 ^ 31) q.rtt (omega arith),
@@ -255,8 +255,8 @@ module _ (ws : List ℕ) (q : Found ws) where
         lt-ltb (at ws 17) (2 ^ 31) q.variance,
       )
 
-  quick-history : historyOk (historyOf ws) ≡ true
-  unfolding historyOk
+  quick-history : history_ok (history_of ws) ≡ true
+  unfolding history_ok
   quick-history =
       let k : at ws 75 % 2048 ≡ at ws 75 = mod-eq_of_lt (omega (arith, q.acks)) in
       let e = itself (at ws 76) (2 ^ 32) q.number (omega arith) in
@@ -273,7 +273,7 @@ module _ (ws : List ℕ) (q : Found ws) where
         lt-ltb (at ws 78) (2 ^ 31) q.lastack,
       )
 
-  quick-parts : partsOk ws ≡ true
+  quick-parts : parts_ok ws ≡ true
   quick-parts =
       rw (
         quick-window,
@@ -286,14 +286,14 @@ module _ (ws : List ℕ) (q : Found ws) where
       )
 
 -- beside_all, quickly: each is its parts
-pub beside-by : (ws : List ℕ) {a b c : Bool} → a ≡ beside (at ws 10) (at ws 11) → b ≡ beside (at ws 52) (at ws 53) → c ≡ beside (at ws 72) (at ws 73) → (a && b && c) ≡ besideAll ws
+pub beside-by : (ws : List ℕ) {a b c : Bool} → a ≡ beside (at ws 10) (at ws 11) → b ≡ beside (at ws 52) (at ws 53) → c ≡ beside (at ws 72) (at ws 73) → (a && b && c) ≡ beside_all ws
 beside-by ws e f g = rw (e, f, g)
 
-pub quickly-by : (ws : List ℕ) {a b c d e : Bool} → a ≡ fewBits ws → b ≡ besideAll ws → c ≡ finite ws → d ≡ windowSmall ws → e ≡ countsSmall ws → (a && b && c && d && e) ≡ quickly ws
+pub quickly-by : (ws : List ℕ) {a b c d e : Bool} → a ≡ few_bits ws → b ≡ beside_all ws → c ≡ finite ws → d ≡ window_small ws → e ≡ counts_small ws → (a && b && c && d && e) ≡ quickly ws
 quickly-by ws e f g h k = rw (e, f, g, h, k)
 
 -- sound
-pub sound-quickly : (ws : List ℕ) {i b s : Bool} → i ≡ intervalsSmall ws → i ≡ true → b ≡ quickly ws → b ≡ true → s ≡ sizesSmall ws → s ≡ true → true ≡ headOk (unpackOf ws)
+pub sound-quickly : (ws : List ℕ) {i b s : Bool} → i ≡ intervals_small ws → i ≡ true → b ≡ quickly ws → b ≡ true → s ≡ sizes_small ws → s ≡ true → true ≡ head_ok (unpack_of ws)
 sound-quickly ws e f g h k l =
     let q = found ws (sym g ∙ h) in
     sound-quick ws (sym e ∙ f) (sym k ∙ l) (sym (quick-first ws q)) (sym (quick-last ws q)) (sym (quick-places ws q)) (sym (quick-parts ws q))

@@ -1,8 +1,8 @@
 // Refusal 1, from the words themselves: 01, "Head and lent areas".
 ghost use Rattle.std.specs.Prelude.{◌≡◌, ◌≤◌};
-ghost use Rattle.head.specs.Head.{headOk};
-ghost use Rattle.packing.specs.Packed.{unpackOf};
-ghost use Rattle.sound.specs.Sound.{Typed, bitsTo, raisedTo, sizesSmall, intervalsSmall, fewBits, beside, besideAll, finite, windowSmall, countsSmall, quickly};
+ghost use Rattle.head.specs.Head.{head_ok};
+ghost use Rattle.packing.specs.Packed.{unpack_of};
+ghost use Rattle.sound.specs.Sound.{Typed, bits_to, raised_to, sizes_small, intervals_small, few_bits, beside, beside_all, finite, window_small, counts_small, quickly};
 
 use packing::unpack;
 
@@ -21,7 +21,7 @@ pub fn typed(ws: &[u64; 79])
 // The bits of sixteen words, from word `at` on, all together.
 fn bits(ws: &[u64; 79], at: usize) -> u64
     requires { at ≤ 63 }
-    ensures { result ≡ bitsTo ws.now at 16 }
+    ensures { result ≡ bits_to ws.now at 16 }
 {
     let mut all: u64 = 0;
     let mut i: usize = 0;
@@ -34,7 +34,7 @@ fn bits(ws: &[u64; 79], at: usize) -> u64
 
 // The same of the sizes, each raised so that one over 1,456 comes to 2,048.
 fn raised_bits(ws: &[u64; 79]) -> u64
-    ensures { result ≡ raisedTo ws.now 16 }
+    ensures { result ≡ raised_to ws.now 16 }
 {
     let mut all: u64 = 0;
     let mut i: usize = 0;
@@ -47,7 +47,7 @@ fn raised_bits(ws: &[u64; 79]) -> u64
 
 // Packets of one size, or of sizes with few bits, are found small by the bits that they have together.
 fn sizes_small(ws: &[u64; 79]) -> bool
-    ensures { result ≡ sizesSmall ws.now }
+    ensures { result ≡ sizes_small ws.now }
 {
     let together = bits(ws, 34);
     if together <= 1456 {
@@ -58,14 +58,14 @@ fn sizes_small(ws: &[u64; 79]) -> bool
 
 // Whether every interval is in its range, in a window or not: so it is of every head that calls have left, and so are the sizes.
 fn intervals_small(ws: &[u64; 79]) -> bool
-    ensures { result ≡ intervalsSmall ws.now }
+    ensures { result ≡ intervals_small ws.now }
 {
     (bits(ws, 18) | bits(ws, 54)) < 0x8000_0000
 }
 
 // Values with one bound, by the bits that they have together.
 fn few_bits(ws: &[u64; 79]) -> bool
-    ensures { result ≡ fewBits ws.now }
+    ensures { result ≡ few_bits ws.now }
 {
     ((ws[4] | ws[5] | ws[16] | ws[17] | ws[77] | ws[78]) < 0x8000_0000)
         & ((ws[7] | ws[10] | ws[12] | ws[52] | ws[72]) < 2)
@@ -82,7 +82,7 @@ fn beside(set: u64, time: u64) -> bool
 }
 
 fn beside_all(ws: &[u64; 79]) -> bool
-    ensures { result ≡ besideAll ws.now }
+    ensures { result ≡ beside_all ws.now }
 {
     beside(ws[10], ws[11]) & beside(ws[52], ws[53]) & beside(ws[72], ws[73])
 }
@@ -97,13 +97,13 @@ fn finite(ws: &[u64; 79]) -> bool
 }
 
 fn window_small(ws: &[u64; 79]) -> bool
-    ensures { result ≡ windowSmall ws.now }
+    ensures { result ≡ window_small ws.now }
 {
     (1 <= ws[1]) & (ws[1] <= 8192) & (ws[2] < ws[1]) & (ws[3] <= ws[1]) & (ws[6] <= 65535000)
 }
 
 fn counts_small(ws: &[u64; 79]) -> bool
-    ensures { result ≡ countsSmall ws.now }
+    ensures { result ≡ counts_small ws.now }
 {
     (ws[15] <= 999)
         & (ws[51] <= 16)
@@ -124,7 +124,7 @@ fn quickly(ws: &[u64; 79]) -> bool
 // Only the intervals in a window have to be in range, and a time may lie before 0: a head that is not found in range quickly is unpacked and asked. The sizes come last,
 // since their second pass would keep the registers of all that is read before it.
 pub fn sound(ws: &[u64; 79]) -> bool
-    ensures { result ≡ headOk (unpackOf ws.now) }
+    ensures { result ≡ head_ok (unpack_of ws.now) }
 {
     if intervals_small(ws) {
         if quickly(ws) {

@@ -2,16 +2,16 @@
 use Rattle.std.specs.Prelude.{List, [], ℕ, ℤ}
 use Rattle.window.specs.declared.push.Packet.{Packet}
 use Rattle.head.specs.declared.state.Head.{Head}
-use Rattle.feedback.specs.Acking.{ack2CallOf, fullAckCallOf}
-use Rattle.receiver.specs.Data.{packet, dataCallOf}
-use Rattle.feedback.specs.Loss.{reportCallOf}
-use Rattle.receiver.specs.Message.{popCallOf}
-use Rattle.upkeep.specs.Request.{dropCallOf, clearCallOf}
+use Rattle.feedback.specs.Acking.{ack2_call_of, full_ack_call_of}
+use Rattle.receiver.specs.Data.{packet, data_call_of}
+use Rattle.feedback.specs.Loss.{report_call_of}
+use Rattle.receiver.specs.Message.{pop_call_of}
+use Rattle.upkeep.specs.Request.{drop_call_of, clear_call_of}
 use Rattle.head.specs.Paper.{Line}
-use Rattle.receiver.specs.Paper.{dataLine, messageLine}
-use Rattle.feedback.specs.Paper.{lossLine, clockLine, fullAckLine, rttLine}
-use Rattle.upkeep.specs.Paper.{dropLine, clearLine}
-use Rattle.feedback.specs.Sync.{clockCallOf}
+use Rattle.receiver.specs.Paper.{data_line, message_line}
+use Rattle.feedback.specs.Paper.{loss_line, clock_line, full_ack_line, rtt_line}
+use Rattle.upkeep.specs.Paper.{drop_line, clear_line}
+use Rattle.feedback.specs.Sync.{clock_call_of}
 use Rattle.step.specs.declared.Call.{Call}
 use Rattle.step.specs.declared.Call.TheVariants as calls
 use Rattle.step.specs.declared.Answer.{Answer}
@@ -34,25 +34,25 @@ pub record Lent : Type 0 where
   pub output : List ℕ
   pub list : List ℕ
 
-abbrev pub lentFor : List ℕ → List ℕ → List ℕ → Lent
-lentFor payload out list = record { payload = payload; output = out; list = list }
+abbrev pub lent_for : List ℕ → List ℕ → List ℕ → Lent
+lent_for payload out list = record { payload = payload; output = out; list = list }
 
 -- what one call leaves: head and answer, and the areas that it was lent to write, in its own order
 pub record CallLeft : Type 0 where
   pub stepped : Stepped
-  pub firstArea : List ℕ
-  pub secondArea : List ℕ
+  pub first_area : List ℕ
+  pub second_area : List ℕ
 
-abbrev pub callLeft : Stepped → List ℕ → List ℕ → CallLeft
-callLeft r xs ys = record { stepped = r; firstArea = xs; secondArea = ys }
+abbrev pub call_left : Stepped → List ℕ → List ℕ → CallLeft
+call_left r xs ys = record { stepped = r; first_area = xs; second_area = ys }
 
 abbrev pub stepped : Head → Answer → Stepped
 stepped h a = record { head = h; answer = a }
 
-abbrev pub dataLeft : Head → List ℕ → List ℕ → ℤ → Packet → List ℕ → CallLeft
-dataLeft h ws bs now p payload =
-    let o = dataCallOf h ws bs now p payload in
-    callLeft (stepped o.handled.head (answers.Data o.handled.answer)) o.slots o.payloads
+abbrev pub data_left : Head → List ℕ → List ℕ → ℤ → Packet → List ℕ → CallLeft
+data_left h ws bs now p payload =
+    let o = data_call_of h ws bs now p payload in
+    call_left (stepped o.handled.head (answers.Data o.handled.answer)) o.slots o.payloads
 
 -- of a pop, with the two areas that it only reads
 pub record PopLeft : Type 0 where
@@ -61,42 +61,42 @@ pub record PopLeft : Type 0 where
   pub payloads : List ℕ
   pub output : List ℕ
 
-abbrev pub popCallLeft : Stepped → List ℕ → List ℕ → List ℕ → PopLeft
-popCallLeft r ws bs out = record { stepped = r; slots = ws; payloads = bs; output = out }
+abbrev pub pop_call_left : Stepped → List ℕ → List ℕ → List ℕ → PopLeft
+pop_call_left r ws bs out = record { stepped = r; slots = ws; payloads = bs; output = out }
 
-abbrev pub popLeft : Head → List ℕ → List ℕ → List ℕ → ℤ → PopLeft
-popLeft h ws bs out now =
-    let o = popCallOf h ws bs out now in
-    popCallLeft (stepped o.given.head (answers.Pop o.given.answer)) ws bs o.output
+abbrev pub pop_left : Head → List ℕ → List ℕ → List ℕ → ℤ → PopLeft
+pop_left h ws bs out now =
+    let o = pop_call_of h ws bs out now in
+    pop_call_left (stepped o.given.head (answers.Pop o.given.answer)) ws bs o.output
 
-abbrev pub reportLeft : Head → List ℕ → List ℕ → ℤ → CallLeft
-reportLeft h ws list now = let o = reportCallOf h ws list now in callLeft (stepped o.reported.head (answers.Report o.reported.answer)) o.slots o.list
+abbrev pub report_left : Head → List ℕ → List ℕ → ℤ → CallLeft
+report_left h ws list now = let o = report_call_of h ws list now in call_left (stepped o.reported.head (answers.Report o.reported.answer)) o.slots o.list
 
-abbrev pub fullAckLeft : Head → List ℕ → ℤ → CallLeft
-fullAckLeft h a now = let o = fullAckCallOf h a now in callLeft (stepped o.acked.head (answers.FullAck o.acked.answer)) o.area []
+abbrev pub full_ack_left : Head → List ℕ → ℤ → CallLeft
+full_ack_left h a now = let o = full_ack_call_of h a now in call_left (stepped o.acked.head (answers.FullAck o.acked.answer)) o.area []
 
-abbrev pub ack2Left : Head → List ℕ → ℤ → ℕ → CallLeft
-ack2Left h a now number = let o = ack2CallOf h a now number in callLeft (stepped o.acked2.head (answers.Ack2 o.acked2.answer)) [] []
+abbrev pub ack2_left : Head → List ℕ → ℤ → ℕ → CallLeft
+ack2_left h a now number = let o = ack2_call_of h a now number in call_left (stepped o.acked2.head (answers.Ack2 o.acked2.answer)) [] []
 
-abbrev pub dropLeft : Head → List ℕ → ℕ → ℕ → CallLeft
-dropLeft h ws first last = let o = dropCallOf h ws first last in callLeft (stepped h (answers.Drop o.answer)) o.slots []
+abbrev pub drop_left : Head → List ℕ → ℕ → ℕ → CallLeft
+drop_left h ws first last = let o = drop_call_of h ws first last in call_left (stepped h (answers.Drop o.answer)) o.slots []
 
-abbrev pub clockLeft : Head → ℤ → ℕ → CallLeft
-clockLeft h now stamp = let o = clockCallOf h now stamp in callLeft (stepped o.clocked.head (answers.Clock o.clocked.answer)) [] []
+abbrev pub clock_left : Head → ℤ → ℕ → CallLeft
+clock_left h now stamp = let o = clock_call_of h now stamp in call_left (stepped o.clocked.head (answers.Clock o.clocked.answer)) [] []
 
-abbrev pub clearLeft : Head → CallLeft
-clearLeft h = let o = clearCallOf h in callLeft (stepped o.cleared.head (answers.Clear o.cleared.answer)) [] []
+abbrev pub clear_left : Head → CallLeft
+clear_left h = let o = clear_call_of h in call_left (stepped o.cleared.head (answers.Clear o.cleared.answer)) [] []
 
 -- an answer on paper; the words of a report are the first of the list
 abbrev pub line_of : Answer → List ℕ → Line
-line_of (answers.Data a) list = dataLine a
-line_of (answers.Pop a) list = messageLine a
-line_of (answers.Report a) list = lossLine a list
-line_of (answers.FullAck a) list = fullAckLine a
-line_of (answers.Ack2 a) list = rttLine a
-line_of (answers.Drop a) list = dropLine a
-line_of (answers.Clock a) list = clockLine a
-line_of (answers.Clear a) list = clearLine a
+line_of (answers.Data a) list = data_line a
+line_of (answers.Pop a) list = message_line a
+line_of (answers.Report a) list = loss_line a list
+line_of (answers.FullAck a) list = full_ack_line a
+line_of (answers.Ack2 a) list = rtt_line a
+line_of (answers.Drop a) list = drop_line a
+line_of (answers.Clock a) list = clock_line a
+line_of (answers.Clear a) list = clear_line a
 
 -- all that a step leaves: its answer and that answer's line, the state, and the output and the words
 pub record Ended : Type 0 where
@@ -113,23 +113,23 @@ ended r ws bs a out list = record { answer = r.answer; line = line_of r.answer l
 module _ (s : State) (l : Lent) where
   abbrev pub step_of : Call → Ended
   step_of (calls.Data time number message location stamp) =
-      let t = dataLeft s.head s.slots s.payloads time (packet number message location stamp) l.payload in
-      ended t.stepped t.firstArea t.secondArea s.history l.output l.list
+      let t = data_left s.head s.slots s.payloads time (packet number message location stamp) l.payload in
+      ended t.stepped t.first_area t.second_area s.history l.output l.list
   step_of (calls.Pop time) =
-      let t = popLeft s.head s.slots s.payloads l.output time in
+      let t = pop_left s.head s.slots s.payloads l.output time in
       ended t.stepped t.slots t.payloads s.history t.output l.list
   step_of (calls.Report time) =
-      let t = reportLeft s.head s.slots l.list time in
-      ended t.stepped t.firstArea s.payloads s.history l.output t.secondArea
+      let t = report_left s.head s.slots l.list time in
+      ended t.stepped t.first_area s.payloads s.history l.output t.second_area
   step_of (calls.FullAck time) =
-      let t = fullAckLeft s.head s.history time in
-      ended t.stepped s.slots s.payloads t.firstArea l.output l.list
+      let t = full_ack_left s.head s.history time in
+      ended t.stepped s.slots s.payloads t.first_area l.output l.list
   step_of (calls.Ack2 time number) =
-      ended (ack2Left s.head s.history time number).stepped s.slots s.payloads s.history l.output l.list
+      ended (ack2_left s.head s.history time number).stepped s.slots s.payloads s.history l.output l.list
   step_of (calls.Drop first last) =
-      let t = dropLeft s.head s.slots first last in
-      ended t.stepped t.firstArea s.payloads s.history l.output l.list
+      let t = drop_left s.head s.slots first last in
+      ended t.stepped t.first_area s.payloads s.history l.output l.list
   step_of (calls.Clock time stamp) =
-      ended (clockLeft s.head time stamp).stepped s.slots s.payloads s.history l.output l.list
+      ended (clock_left s.head time stamp).stepped s.slots s.payloads s.history l.output l.list
   step_of calls.Clear =
-      ended (clearLeft s.head).stepped s.slots s.payloads s.history l.output l.list
+      ended (clear_left s.head).stepped s.slots s.payloads s.history l.output l.list

@@ -1,7 +1,7 @@
 // One call of the receiver and its answer as values, so that a list of calls can be spoken of and a trace replayed: 01, "Trace, mark DLT".
 ghost use Rattle.std.specs.Prelude.{◌≡◌, []};
 ghost use Rattle.receiver.specs.Data.{packet};
-ghost use Rattle.step.specs.Step.{callLeft, popCallLeft, dataLeft, popLeft, reportLeft, fullAckLeft, ack2Left, dropLeft, clockLeft, clearLeft, state_of, lentFor, ended, step_of};
+ghost use Rattle.step.specs.Step.{call_left, pop_call_left, data_left, pop_left, report_left, full_ack_left, ack2_left, drop_left, clock_left, clear_left, state_of, lent_for, ended, step_of};
 
 use feedback::acking::{FullAckAnswer, RttAnswer};
 use feedback::loss::LossAnswer;
@@ -76,7 +76,7 @@ fn data(
     stamp: u32,
     payload: &[u8],
 ) -> Stepped
-    ensures { callLeft result words.new bytes.new ≡ dataLeft h words.old bytes.old time (packet number message location stamp) payload.now }
+    ensures { call_left result words.new bytes.new ≡ data_left h words.old bytes.old time (packet number message location stamp) payload.now }
 {
     let r = receiver::data::handle_data_packet(
         h, words, bytes, time, number, message, location, stamp, payload,
@@ -90,7 +90,7 @@ fn data(
 }
 
 fn pop(h: Head, words: &mut [u64], bytes: &mut [u8], out: &mut [u8], time: i64) -> Stepped
-    ensures { popCallLeft result words.new bytes.new out.new ≡ popLeft h words.old bytes.old out.old time }
+    ensures { pop_call_left result words.new bytes.new out.new ≡ pop_left h words.old bytes.old out.old time }
 {
     let r = receiver::message::pop_next_message(h, words, bytes, out, time);
     let head = r.head;
@@ -102,7 +102,7 @@ fn pop(h: Head, words: &mut [u64], bytes: &mut [u8], out: &mut [u8], time: i64) 
 }
 
 fn report(h: Head, words: &mut [u64], list: &mut [u32], time: i64) -> Stepped
-    ensures { callLeft result words.new list.new ≡ reportLeft h words.old list.old time }
+    ensures { call_left result words.new list.new ≡ report_left h words.old list.old time }
 {
     let r = feedback::loss::on_nak_event(h, words, list, time);
     let head = r.head;
@@ -114,7 +114,7 @@ fn report(h: Head, words: &mut [u64], list: &mut [u32], time: i64) -> Stepped
 }
 
 fn full_ack(h: Head, area: &mut [u64], time: i64) -> Stepped
-    ensures { callLeft result area.new [] ≡ fullAckLeft h area.old time }
+    ensures { call_left result area.new [] ≡ full_ack_left h area.old time }
 {
     let r = feedback::acking::on_full_ack_event(h, area, time);
     let head = r.head;
@@ -126,7 +126,7 @@ fn full_ack(h: Head, area: &mut [u64], time: i64) -> Stepped
 }
 
 fn ack2(h: Head, area: &[u64], time: i64, number: u32) -> Stepped
-    ensures { callLeft result [] [] ≡ ack2Left h area.now time number }
+    ensures { call_left result [] [] ≡ ack2_left h area.now time number }
 {
     let r = feedback::acking::handle_ack2_packet(h, area, time, number);
     let head = r.head;
@@ -138,7 +138,7 @@ fn ack2(h: Head, area: &[u64], time: i64, number: u32) -> Stepped
 }
 
 fn drop_request(h: Head, words: &mut [u64], first: u32, last: u32) -> Stepped
-    ensures { callLeft result words.new [] ≡ dropLeft h words.old first last }
+    ensures { call_left result words.new [] ≡ drop_left h words.old first last }
 {
     let answer = upkeep::request::handle_drop_request(h, words, first, last);
     Stepped {
@@ -148,7 +148,7 @@ fn drop_request(h: Head, words: &mut [u64], first: u32, last: u32) -> Stepped
 }
 
 fn clock(h: Head, time: i64, stamp: u32) -> Stepped
-    ensures { callLeft result [] [] ≡ clockLeft h time stamp }
+    ensures { call_left result [] [] ≡ clock_left h time stamp }
 {
     let r = feedback::sync::synchronize_clock(h, time, stamp);
     let head = r.head;
@@ -160,7 +160,7 @@ fn clock(h: Head, time: i64, stamp: u32) -> Stepped
 }
 
 fn clear(h: Head) -> Stepped
-    ensures { callLeft result [] [] ≡ clearLeft h }
+    ensures { call_left result [] [] ≡ clear_left h }
 {
     let r = upkeep::request::clear(h);
     let head = r.head;
@@ -181,7 +181,7 @@ pub fn step(
     call: Call,
     payload: &[u8],
 ) -> Stepped
-    ensures { ended result words.new bytes.new area.new out.new list.new ≡ step_of (state_of h words.old bytes.old area.old) (lentFor payload.now out.old list.old) call }
+    ensures { ended result words.new bytes.new area.new out.new list.new ≡ step_of (state_of h words.old bytes.old area.old) (lent_for payload.now out.old list.old) call }
 {
     match call {
         Call::Data {

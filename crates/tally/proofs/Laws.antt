@@ -8,25 +8,25 @@ use borrow.Author.Rules.{rules}
 use lib.ListN.{length}
 use Rattle.text.specs.Bytes.{bytes}
 use Rattle.text.specs.Decimal.{decimal}
-use Rattle.text.specs.Put.{putEnded, put_of}
+use Rattle.text.specs.Put.{put_ended, put_of}
 use Rattle.text.proofs.Numerals.{decimal-short}
 use Rattle.text.proofs.Puts.{put-cursor, put_then, puts, put-none, put-room}
 use Rattle.shapes.specs.Ready.{Wrote}
 use Rattle.counts.specs.Counts.{fresh}
 use Rattle.counts.specs.declared.Counters.{Counters}
 use Rattle.step.specs.declared.Answer.{Answer}
-use Rattle.tally.specs.Tally.{freshTally, countedOf, tally_of, tallied, named, packetBytes, lossBytes, otherBytes, all_bytes, countersBytes, tallyBytes}
+use Rattle.tally.specs.Tally.{fresh_tally, counted_of, tally_of, tallied, named, packet_bytes, loss_bytes, other_bytes, all_bytes, counters_bytes, tally_bytes}
 use Rattle.tally.specs.declared.Tally.{Tally}
 
 -- fresh, counted, after
-pub fresh-is : (asked : Bool) {c : Counters} → c ≡ fresh → tally_of asked c ≡ freshTally asked
+pub fresh-is : (asked : Bool) {c : Counters} → c ≡ fresh → tally_of asked c ≡ fresh_tally asked
 fresh-is asked e = rw e
 
-pub counted-case : (c : Counters) (size : ℕ) (a b : Answer) {x : Counters} → a ≡ b → x ≡ countedOf c size b → x ≡ countedOf c size a
+pub counted-case : (c : Counters) (size : ℕ) (a b : Answer) {x : Counters} → a ≡ b → x ≡ counted_of c size b → x ≡ counted_of c size a
 counted-case c size a b h e = rw h e
 
 module _ (t : Tally) (size : ℕ) (a : Answer) where
-  pub after-asked : {c : Counters} → t.asked ≡ true → c ≡ countedOf t.counters size a → tally_of true c ≡ tallied t size a
+  pub after-asked : {c : Counters} → t.asked ≡ true → c ≡ counted_of t.counters size a → tally_of true c ≡ tallied t size a
   unfolding tallied
   after-asked h e = rw (h, e)
 
@@ -36,13 +36,13 @@ module _ (t : Tally) (size : ℕ) (a : Answer) where
 
 -- one put after the other
 two-puts : (out : List ℕ) (at : ℕ) (a b : List ℕ) {p q : ℕ} {o₁ o₂ : List ℕ}
-    → putEnded p o₁ ≡ put_of out at a → putEnded q o₂ ≡ put_of o₁ p b → p ≤ length out → putEnded q o₂ ≡ put_of out at (a ++ b)
+    → put_ended p o₁ ≡ put_of out at a → put_ended q o₂ ≡ put_of o₁ p b → p ≤ length out → put_ended q o₂ ≡ put_of out at (a ++ b)
 two-puts out at a b e f h = put_then out at a b e f (let k = put-cursor out at a e in omega arith)
 
 -- put_named
 module _ (out : List ℕ) (at : ℕ) (name : List ℕ) (n : ℕ) {p q s r : ℕ} {o₁ o₂ o₃ o₄ : List ℕ} where
-  pub named-bytes : putEnded p o₁ ≡ put_of out at (32 ∷ []) → putEnded q o₂ ≡ put_of o₁ p name → putEnded s o₃ ≡ put_of o₂ q (61 ∷ []) → putEnded r o₄ ≡ put_of o₃ s (decimal n)
-      → at + 42 ≤ length out → length name ≤ 20 → putEnded r o₄ ≡ put_of out at (named name n)
+  pub named-bytes : put_ended p o₁ ≡ put_of out at (32 ∷ []) → put_ended q o₂ ≡ put_of o₁ p name → put_ended s o₃ ≡ put_of o₂ q (61 ∷ []) → put_ended r o₄ ≡ put_of o₃ s (decimal n)
+      → at + 42 ≤ length out → length name ≤ 20 → put_ended r o₄ ≡ put_of out at (named name n)
   unfolding named
   named-bytes e f g h room short =
       let a = put-cursor out at (32 ∷ []) e in
@@ -53,7 +53,7 @@ module _ (out : List ℕ) (at : ℕ) (name : List ℕ) (n : ℕ) {p q s r : ℕ}
       two-puts out at ((32 ∷ name) ++ (61 ∷ [])) (decimal n) second h (omega arith)
       ∙ ap (put_of out at) (append_assoc (32 ∷ name) (61 ∷ []) (decimal n))
 
-  pub named-within : putEnded p o₁ ≡ put_of out at (32 ∷ []) → putEnded q o₂ ≡ put_of o₁ p name → putEnded s o₃ ≡ put_of o₂ q (61 ∷ []) → putEnded r o₄ ≡ put_of o₃ s (decimal n)
+  pub named-within : put_ended p o₁ ≡ put_of out at (32 ∷ []) → put_ended q o₂ ≡ put_of o₁ p name → put_ended s o₃ ≡ put_of o₂ q (61 ∷ []) → put_ended r o₄ ≡ put_of o₃ s (decimal n)
       → n < 2 ^ 64 → length name ≤ 20 → r ≤ at + 42
   named-within e f g h small short =
       let a = put-cursor out at (32 ∷ []) e in
@@ -62,23 +62,23 @@ module _ (out : List ℕ) (at : ℕ) (name : List ℕ) (n : ℕ) {p q s r : ℕ}
       let d = put-cursor o₃ s (decimal n) h in
       omega (arith, decimal-short n small)
 
-module _ (out : List ℕ) (at : ℕ) (name : List ℕ) {p : ℕ} {o₁ : List ℕ} (e : putEnded p o₁ ≡ put_of out at (32 ∷ [])) (room : at + 42 ≤ length out) (short : length name ≤ 20) where
+module _ (out : List ℕ) (at : ℕ) (name : List ℕ) {p : ℕ} {o₁ : List ℕ} (e : put_ended p o₁ ≡ put_of out at (32 ∷ [])) (room : at + 42 ≤ length out) (short : length name ≤ 20) where
   pub name-room : p + length name ≤ length o₁
   name-room = put-room out at (32 ∷ []) (length name) e (omega arith)
 
   behind-space : p + 41 ≤ length o₁
   behind-space = put-room out at (32 ∷ []) 41 e (omega arith)
 
-  behind-name : {q : ℕ} {o₂ : List ℕ} → putEnded q o₂ ≡ put_of o₁ p name → q + 21 ≤ length o₂
+  behind-name : {q : ℕ} {o₂ : List ℕ} → put_ended q o₂ ≡ put_of o₁ p name → q + 21 ≤ length o₂
   behind-name f = put-room o₁ p name 21 f (let k = behind-space in omega arith)
 
-  pub equals-room : {q : ℕ} {o₂ : List ℕ} → putEnded q o₂ ≡ put_of o₁ p name → q < length o₂
+  pub equals-room : {q : ℕ} {o₂ : List ℕ} → put_ended q o₂ ≡ put_of o₁ p name → q < length o₂
   equals-room f = let k = behind-name f in omega arith
 
-  pub count_room : {q s : ℕ} {o₂ o₃ : List ℕ} → putEnded q o₂ ≡ put_of o₁ p name → putEnded s o₃ ≡ put_of o₂ q (61 ∷ []) → s + 20 ≤ length o₃
+  pub count_room : {q s : ℕ} {o₂ o₃ : List ℕ} → put_ended q o₂ ≡ put_of o₁ p name → put_ended s o₃ ≡ put_of o₂ q (61 ∷ []) → s + 20 ≤ length o₃
   count_room {q} {s} {o₂} f g = put-room o₂ q (61 ∷ []) 20 g (let k = behind-name f in omega arith)
 
-pub after-byte : (out : List ℕ) (at b : ℕ) {p : ℕ} {o₁ : List ℕ} → putEnded p o₁ ≡ put_of out at (b ∷ []) → p ≤ at + 1
+pub after-byte : (out : List ℕ) (at b : ℕ) {p : ℕ} {o₁ : List ℕ} → put_ended p o₁ ≡ put_of out at (b ∷ []) → p ≤ at + 1
 after-byte out at b e = omega (arith, put-cursor out at (b ∷ []) e)
 
 -- put_packets, put_losses, put_others
@@ -91,43 +91,43 @@ wrote_then out at a b m n e f h =
 
 module _ (out : List ℕ) (at : ℕ) (c : Counters) where
   pub packets-wrote : {p q s r : ℕ} {o₁ o₂ o₃ o₄ : List ℕ} → at + 168 ≤ length out → Wrote out at (named (bytes "rx_data") c.rx_data) 42 p o₁ → Wrote o₁ p (named (bytes "rx_bytes") c.rx_bytes) 42 q o₂
-      → Wrote o₂ q (named (bytes "rx_unique_data") c.rx_unique_data) 42 s o₃ → Wrote o₃ s (named (bytes "rx_unique_bytes") c.rx_unique_bytes) 42 r o₄ → Wrote out at (packetBytes c) 168 r o₄
-  unfolding packetBytes
+      → Wrote o₂ q (named (bytes "rx_unique_data") c.rx_unique_data) 42 s o₃ → Wrote o₃ s (named (bytes "rx_unique_bytes") c.rx_unique_bytes) 42 r o₄ → Wrote out at (packet_bytes c) 168 r o₄
+  unfolding packet_bytes
   packets-wrote room e f g h = wrote_then out at _ _ 126 42 (wrote_then out at _ _ 84 42 (wrote_then out at _ _ 42 42 e f (omega arith)) g (omega arith)) h (omega arith)
 
   pub losses-wrote : {p q r : ℕ} {o₁ o₂ o₃ : List ℕ} → at + 126 ≤ length out → Wrote out at (named (bytes "rx_retransmit_data") c.rx_retransmit_data) 42 p o₁
-      → Wrote o₁ p (named (bytes "rx_dropped_data") c.rx_dropped_data) 42 q o₂ → Wrote o₂ q (named (bytes "rx_dropped_bytes") c.rx_dropped_bytes) 42 r o₃ → Wrote out at (lossBytes c) 126 r o₃
-  unfolding lossBytes
+      → Wrote o₁ p (named (bytes "rx_dropped_data") c.rx_dropped_data) 42 q o₂ → Wrote o₂ q (named (bytes "rx_dropped_bytes") c.rx_dropped_bytes) 42 r o₃ → Wrote out at (loss_bytes c) 126 r o₃
+  unfolding loss_bytes
   losses-wrote room e f g = wrote_then out at _ _ 84 42 (wrote_then out at _ _ 42 42 e f (omega arith)) g (omega arith)
 
   pub others-wrote : {p q r : ℕ} {o₁ o₂ o₃ : List ℕ} → at + 126 ≤ length out → Wrote out at (named (bytes "rx_ack2") c.rx_ack2) 42 p o₁
-      → Wrote o₁ p (named (bytes "rx_ack2_errors") c.rx_ack2_errors) 42 q o₂ → Wrote o₂ q (named (bytes "rx_clock_adjustments") c.rx_clock_adjustments) 42 r o₃ → Wrote out at (otherBytes c) 126 r o₃
-  unfolding otherBytes
+      → Wrote o₁ p (named (bytes "rx_ack2_errors") c.rx_ack2_errors) 42 q o₂ → Wrote o₂ q (named (bytes "rx_clock_adjustments") c.rx_clock_adjustments) 42 r o₃ → Wrote out at (other_bytes c) 126 r o₃
+  unfolding other_bytes
   others-wrote room e f g = wrote_then out at _ _ 84 42 (wrote_then out at _ _ 42 42 e f (omega arith)) g (omega arith)
 
 -- put_counters, line
-wrote_of : (out : List ℕ) (at : ℕ) (bs : List ℕ) (m : ℕ) {p : ℕ} {o₁ : List ℕ} → putEnded p o₁ ≡ put_of out at bs → length bs ≤ m → Wrote out at bs m p o₁
+wrote_of : (out : List ℕ) (at : ℕ) (bs : List ℕ) (m : ℕ) {p : ℕ} {o₁ : List ℕ} → put_ended p o₁ ≡ put_of out at bs → length bs ≤ m → Wrote out at bs m p o₁
 wrote_of out at bs m e h = record { bytes = e; within = let k = put-cursor out at bs e in omega arith }
 
 module _ (out : List ℕ) (at : ℕ) (c : Counters) where
   pub all-wrote : {p q r : ℕ} {o₁ o₂ o₃ : List ℕ} → at + 420 ≤ length out
-      → Wrote out at (packetBytes c) 168 p o₁ → Wrote o₁ p (lossBytes c) 126 q o₂ → Wrote o₂ q (otherBytes c) 126 r o₃ → Wrote out at (all_bytes c) 420 r o₃
+      → Wrote out at (packet_bytes c) 168 p o₁ → Wrote o₁ p (loss_bytes c) 126 q o₂ → Wrote o₂ q (other_bytes c) 126 r o₃ → Wrote out at (all_bytes c) 420 r o₃
   unfolding all_bytes
   all-wrote room e f g = wrote_then out at _ _ 294 126 (wrote_then out at _ _ 168 126 e f (omega arith)) g (omega arith)
 
   pub counters-wrote : {p q r : ℕ} {o₁ o₂ o₃ : List ℕ} → at + 429 ≤ length out → Wrote out at (bytes "counters") 8 p o₁
-      → Wrote o₁ p (all_bytes c) 420 q o₂ → putEnded r o₃ ≡ put_of o₂ q (10 ∷ []) → Wrote out at (countersBytes c) 429 r o₃
-  unfolding countersBytes
+      → Wrote o₁ p (all_bytes c) 420 q o₂ → put_ended r o₃ ≡ put_of o₂ q (10 ∷ []) → Wrote out at (counters_bytes c) 429 r o₃
+  unfolding counters_bytes
   counters-wrote room e f g =
       wrote_then out at _ _ 428 1 (wrote_then out at _ _ 8 420 e f (omega arith)) (wrote_of _ _ (10 ∷ []) 1 g (omega arith)) (omega arith)
 
 module _ (out : List ℕ) (at : ℕ) (t : Tally) where
-  pub line-asked : {r : ℕ} {o₁ : List ℕ} → t.asked ≡ true → Wrote out at (countersBytes t.counters) 429 r o₁ → Wrote out at (tallyBytes t) 429 r o₁
-  unfolding tallyBytes
+  pub line-asked : {r : ℕ} {o₁ : List ℕ} → t.asked ≡ true → Wrote out at (counters_bytes t.counters) 429 r o₁ → Wrote out at (tally_bytes t) 429 r o₁
+  unfolding tally_bytes
   line-asked h e = rw h e
 
-  pub line-not : t.asked ≡ false → Wrote out at (tallyBytes t) 429 at out
-  unfolding tallyBytes
+  pub line-not : t.asked ≡ false → Wrote out at (tally_bytes t) 429 at out
+  unfolding tally_bytes
   line-not h = rw h (wrote_of out at [] 429 (puts out at [] (omega arith) (put-none out at)) (omega arith))
 
 pub ruleset tallies = (fresh-is, counted-case, after-asked, after-not, rules)

@@ -3,52 +3,52 @@
 use Rattle.std.specs.Prelude.{Bool, cond, true, List, [], ◌++◌, ℕ}
 use Rattle.text.specs.Bytes.{bytes}
 use Rattle.text.specs.Decimal.{decimal}
-use Rattle.counts.specs.Counts.{fresh, dataCounts, ack2Counts, dropCounts, clockCounts}
+use Rattle.counts.specs.Counts.{fresh, data_counts, ack2_counts, drop_counts, clock_counts}
 use Rattle.counts.specs.declared.Counters.{Counters}
 use Rattle.step.specs.declared.Answer.{Answer}
 use Rattle.step.specs.declared.Answer.TheVariants as answers
 use Rattle.tally.specs.declared.Tally.{Tally}
 
 -- what an answer raises; size is the length of a data packet's payload
-abbrev pub countedOf : Counters → ℕ → Answer → Counters
-countedOf c size (answers.Data a) = dataCounts c size a
-countedOf c size (answers.Pop a) = c
-countedOf c size (answers.Report a) = c
-countedOf c size (answers.FullAck a) = c
-countedOf c size (answers.Ack2 a) = ack2Counts c a
-countedOf c size (answers.Drop a) = dropCounts c a
-countedOf c size (answers.Clock a) = clockCounts c a
-countedOf c size (answers.Clear a) = c
+abbrev pub counted_of : Counters → ℕ → Answer → Counters
+counted_of c size (answers.Data a) = data_counts c size a
+counted_of c size (answers.Pop a) = c
+counted_of c size (answers.Report a) = c
+counted_of c size (answers.FullAck a) = c
+counted_of c size (answers.Ack2 a) = ack2_counts c a
+counted_of c size (answers.Drop a) = drop_counts c a
+counted_of c size (answers.Clock a) = clock_counts c a
+counted_of c size (answers.Clear a) = c
 
 abbrev pub tally_of : Bool → Counters → Tally
 tally_of asked c = record { asked = asked; counters = c }
 
-abbrev pub freshTally : Bool → Tally
-freshTally asked = tally_of asked fresh
+abbrev pub fresh_tally : Bool → Tally
+fresh_tally asked = tally_of asked fresh
 
 -- only if they are asked for
 unfoldable pub tallied : Tally → ℕ → Answer → Tally
-tallied t size a = cond t.asked (tally_of true (countedOf t.counters size a)) t
+tallied t size a = cond t.asked (tally_of true (counted_of t.counters size a)) t
 
 -- a space, a name, `=` and its count
 unfoldable pub named : List ℕ → ℕ → List ℕ
 named name n = (bytes " " ++ name) ++ (bytes "=" ++ decimal n)
 
-unfoldable pub packetBytes : Counters → List ℕ
-packetBytes c = named (bytes "rx_data") c.rx_data ++ named (bytes "rx_bytes") c.rx_bytes ++ named (bytes "rx_unique_data") c.rx_unique_data ++ named (bytes "rx_unique_bytes") c.rx_unique_bytes
+unfoldable pub packet_bytes : Counters → List ℕ
+packet_bytes c = named (bytes "rx_data") c.rx_data ++ named (bytes "rx_bytes") c.rx_bytes ++ named (bytes "rx_unique_data") c.rx_unique_data ++ named (bytes "rx_unique_bytes") c.rx_unique_bytes
 
-unfoldable pub lossBytes : Counters → List ℕ
-lossBytes c = named (bytes "rx_retransmit_data") c.rx_retransmit_data ++ named (bytes "rx_dropped_data") c.rx_dropped_data ++ named (bytes "rx_dropped_bytes") c.rx_dropped_bytes
+unfoldable pub loss_bytes : Counters → List ℕ
+loss_bytes c = named (bytes "rx_retransmit_data") c.rx_retransmit_data ++ named (bytes "rx_dropped_data") c.rx_dropped_data ++ named (bytes "rx_dropped_bytes") c.rx_dropped_bytes
 
-unfoldable pub otherBytes : Counters → List ℕ
-otherBytes c = named (bytes "rx_ack2") c.rx_ack2 ++ named (bytes "rx_ack2_errors") c.rx_ack2_errors ++ named (bytes "rx_clock_adjustments") c.rx_clock_adjustments
+unfoldable pub other_bytes : Counters → List ℕ
+other_bytes c = named (bytes "rx_ack2") c.rx_ack2 ++ named (bytes "rx_ack2_errors") c.rx_ack2_errors ++ named (bytes "rx_clock_adjustments") c.rx_clock_adjustments
 
 unfoldable pub all_bytes : Counters → List ℕ
-all_bytes c = packetBytes c ++ lossBytes c ++ otherBytes c
+all_bytes c = packet_bytes c ++ loss_bytes c ++ other_bytes c
 
 -- the whole line: `counters`, the ten, and the line's end
-unfoldable pub countersBytes : Counters → List ℕ
-countersBytes c = bytes "counters" ++ all_bytes c ++ bytes "\n"
+unfoldable pub counters_bytes : Counters → List ℕ
+counters_bytes c = bytes "counters" ++ all_bytes c ++ bytes "\n"
 
-unfoldable pub tallyBytes : Tally → List ℕ
-tallyBytes t = cond t.asked (countersBytes t.counters) []
+unfoldable pub tally_bytes : Tally → List ℕ
+tally_bytes t = cond t.asked (counters_bytes t.counters) []

@@ -1,7 +1,7 @@
 // The counters of a replay: what the answer of a step raises, and the line that `--counters` adds behind the end line. 01, "Counters follow 003".
 ghost use Rattle.std.specs.Prelude.{◌≡◌, ◌+◌, ◌≤◌, length};
 ghost use Rattle.shapes.specs.Ready.{Wrote};
-ghost use Rattle.tally.specs.Tally.{freshTally, countedOf, tallied, named, packetBytes, lossBytes, otherBytes, all_bytes, countersBytes, tallyBytes};
+ghost use Rattle.tally.specs.Tally.{fresh_tally, counted_of, tallied, named, packet_bytes, loss_bytes, other_bytes, all_bytes, counters_bytes, tally_bytes};
 
 use counts::Counters;
 use counts::after::{after_ack2, after_clock, after_data, after_drop};
@@ -15,7 +15,7 @@ pub struct Tally {
 }
 
 pub fn fresh(asked: bool) -> Tally
-    ensures { result ≡ freshTally asked }
+    ensures { result ≡ fresh_tally asked }
 {
     Tally {
         asked,
@@ -25,7 +25,7 @@ pub fn fresh(asked: bool) -> Tally
 
 // By the answer; `size` is the length of a data packet's payload.
 fn counted(c: Counters, size: usize, answer: Answer) -> Counters
-    ensures { result ≡ countedOf c size answer }
+    ensures { result ≡ counted_of c size answer }
 {
     match answer {
         Answer::Data(a) => after_data(c, size, a),
@@ -66,7 +66,7 @@ fn put_named(out: &mut [u8], at: usize, name: &[u8], n: u64) -> usize
 
 fn put_packets(out: &mut [u8], at: usize, c: Counters) -> usize
     requires { at + 168 ≤ length out.old }
-    ensures { Wrote out.old at (packetBytes c) 168 result out.new }
+    ensures { Wrote out.old at (packet_bytes c) 168 result out.new }
 {
     let p = put_named(out, at, b"rx_data", c.rx_data);
     let q = put_named(out, p, b"rx_bytes", c.rx_bytes);
@@ -76,7 +76,7 @@ fn put_packets(out: &mut [u8], at: usize, c: Counters) -> usize
 
 fn put_losses(out: &mut [u8], at: usize, c: Counters) -> usize
     requires { at + 126 ≤ length out.old }
-    ensures { Wrote out.old at (lossBytes c) 126 result out.new }
+    ensures { Wrote out.old at (loss_bytes c) 126 result out.new }
 {
     let p = put_named(out, at, b"rx_retransmit_data", c.rx_retransmit_data);
     let q = put_named(out, p, b"rx_dropped_data", c.rx_dropped_data);
@@ -85,7 +85,7 @@ fn put_losses(out: &mut [u8], at: usize, c: Counters) -> usize
 
 fn put_others(out: &mut [u8], at: usize, c: Counters) -> usize
     requires { at + 126 ≤ length out.old }
-    ensures { Wrote out.old at (otherBytes c) 126 result out.new }
+    ensures { Wrote out.old at (other_bytes c) 126 result out.new }
 {
     let p = put_named(out, at, b"rx_ack2", c.rx_ack2);
     let q = put_named(out, p, b"rx_ack2_errors", c.rx_ack2_errors);
@@ -103,7 +103,7 @@ fn put_all(out: &mut [u8], at: usize, c: Counters) -> usize
 
 fn put_counters(out: &mut [u8], at: usize, c: Counters) -> usize
     requires { at + 429 ≤ length out.old }
-    ensures { Wrote out.old at (countersBytes c) 429 result out.new }
+    ensures { Wrote out.old at (counters_bytes c) 429 result out.new }
 {
     let p = shapes::part::start(out, at, b"counters");
     let q = put_all(out, p, c);
@@ -113,7 +113,7 @@ fn put_counters(out: &mut [u8], at: usize, c: Counters) -> usize
 // The line, if it is asked for.
 pub fn line(out: &mut [u8], at: usize, t: Tally) -> usize
     requires { at + 429 ≤ length out.old }
-    ensures { Wrote out.old at (tallyBytes t) 429 result out.new }
+    ensures { Wrote out.old at (tally_bytes t) 429 result out.new }
 {
     if t.asked {
         let c = t.counters;

@@ -2,7 +2,7 @@
 use mathlib.Core.Path.{◌≡◌, refl}
 use mathlib.Core.List.{[], ◌∷◌}
 use lib.IntN.{negsuc}
-use Rattle.text.specs.Decimal.{digits, decimal, signedDecimal}
+use Rattle.text.specs.Decimal.{digits, decimal, signed_decimal}
 use Rattle.text.specs.Put.{put}
 
 zero-digits : decimal 0 ≡ 48 ∷ []
@@ -15,8 +15,8 @@ unfolding decimal digits
 most-digits = refl
 
 -- A36's delay, -150
-below-zero : signedDecimal (negsuc 149) ≡ 45 ∷ 49 ∷ 53 ∷ 48 ∷ []
-unfolding signedDecimal decimal digits
+below-zero : signed_decimal (negsuc 149) ≡ 45 ∷ 49 ∷ 53 ∷ 48 ∷ []
+unfolding signed_decimal decimal digits
 below-zero = refl
 
 in-the-middle : put (1 ∷ 2 ∷ 3 ∷ 4 ∷ []) 1 (8 ∷ 9 ∷ []) ≡ 1 ∷ 8 ∷ 9 ∷ 4 ∷ []

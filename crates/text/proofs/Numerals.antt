@@ -65,17 +65,17 @@ pub decimal-short : (n : ℕ) → n < 2 ^ 64 → length (decimal n) ≤ 20
 decimal-short n h = decimal-within 19 n (omega arith)
 
 -- read back
-valueFrom : ℕ → List ℕ → ℕ
-valueFrom n [] = n
-valueFrom n (b ∷ bs) = valueFrom (10 * n + (b - 48)) bs
+value_from : ℕ → List ℕ → ℕ
+value_from n [] = n
+value_from n (b ∷ bs) = value_from (10 * n + (b - 48)) bs
 
-value-behind : (n : ℕ) (p q : List ℕ) → valueFrom n (p ++ q) ≡ valueFrom (valueFrom n p) q
-unfolding valueFrom
+value-behind : (n : ℕ) (p q : List ℕ) → value_from n (p ++ q) ≡ value_from (value_from n p) q
+unfolding value_from
 value-behind n [] q = refl
 value-behind n (b ∷ p) q = value-behind (10 * n + (b - 48)) p q
 
-digits-back : (k n : ℕ) → n < k → valueFrom 0 (digits k n) ≡ n
-unfolding valueFrom
+digits-back : (k n : ℕ) → n < k → value_from 0 (digits k n) ≡ n
+unfolding value_from
 digits-back zero n h = absurd (omega arith)
 digits-back (suc k) n h =
     by-order n 10
@@ -87,4 +87,4 @@ digits-back (suc k) n h =
 
 pub decimal_injective : (m n : ℕ) → decimal m ≡ decimal n → m ≡ n
 unfolding decimal
-decimal_injective m n e = sym (digits-back (suc m) m (omega arith)) ∙ ap (valueFrom 0) e ∙ digits-back (suc n) n (omega arith)
+decimal_injective m n e = sym (digits-back (suc m) m (omega arith)) ∙ ap (value_from 0) e ∙ digits-back (suc n) n (omega arith)

@@ -6,7 +6,7 @@ use native.Mathlib.Nat.{add_assoc}
 use native.Mathlib.Omega.{arith}
 use lib.ListN.{length, take, drop, length-append, length-drop}
 use lib.Seq.{length-take-le, take_at, drop_at, drop-drop, paste-zero}
-use Rattle.text.specs.Put.{Put, put, putEnded, put_of}
+use Rattle.text.specs.Put.{Put, put, put_ended, put_of}
 
 module _ (out : List ℕ) (at : ℕ) (bs : List ℕ) (room : at + length bs ≤ length out) where
   head-length : length (take at out ++ bs) ≡ at + length bs
@@ -42,7 +42,7 @@ put-put out at bs cs room =
     ∙ ap (λ (l : List ℕ). l ++ drop (at + length bs + length cs) out) (append_assoc (take at out) bs cs)
     ∙ ap (λ (n : ℕ). take at out ++ (bs ++ cs) ++ drop n out) (add_assoc at (length bs) (length cs) ∙ ap (λ (n : ℕ). at + n) (sym (length-append bs cs)))
 
-module _ (out : List ℕ) (at : ℕ) (bs : List ℕ) {r : ℕ} {out₁ : List ℕ} (e : putEnded r out₁ ≡ put_of out at bs) where
+module _ (out : List ℕ) (at : ℕ) (bs : List ℕ) {r : ℕ} {out₁ : List ℕ} (e : put_ended r out₁ ≡ put_of out at bs) where
   pub put-cursor : r ≡ at + length bs
   unfolding put_of
   put-cursor = ap (λ (p : Put). p.cursor) e
@@ -51,14 +51,14 @@ module _ (out : List ℕ) (at : ℕ) (bs : List ℕ) {r : ℕ} {out₁ : List �
   unfolding put_of
   put-area = ap (λ (p : Put). p.area) e
 
-pub puts : (out : List ℕ) (at : ℕ) (bs : List ℕ) {r : ℕ} {out₁ : List ℕ} → r ≡ at + length bs → out₁ ≡ put out at bs → putEnded r out₁ ≡ put_of out at bs
+pub puts : (out : List ℕ) (at : ℕ) (bs : List ℕ) {r : ℕ} {out₁ : List ℕ} → r ≡ at + length bs → out₁ ≡ put out at bs → put_ended r out₁ ≡ put_of out at bs
 unfolding put_of
 puts out at bs e f = rw (e, f)
 
 -- the same of two calls, the second at the cursor that the first gives
 pub put_then : (out : List ℕ) (at : ℕ) (bs cs : List ℕ) {r s : ℕ} {out₁ out₂ : List ℕ}
-    → putEnded r out₁ ≡ put_of out at bs → putEnded s out₂ ≡ put_of out₁ r cs → at + length bs ≤ length out
-    → putEnded s out₂ ≡ put_of out at (bs ++ cs)
+    → put_ended r out₁ ≡ put_of out at bs → put_ended s out₂ ≡ put_of out₁ r cs → at + length bs ≤ length out
+    → put_ended s out₂ ≡ put_of out at (bs ++ cs)
 put_then out at bs cs {r} {s} {out₁} {out₂} e f room =
     let p = put-cursor out at bs e in
     let q = put-cursor out₁ r cs f in
@@ -68,7 +68,7 @@ put_then out at bs cs {r} {s} {out₁} {out₂} e f room =
 
 -- the room that a put leaves
 pub put-room : (out : List ℕ) (at : ℕ) (bs : List ℕ) (k : ℕ) {r : ℕ} {out₁ : List ℕ}
-    → putEnded r out₁ ≡ put_of out at bs → at + (length bs + k) ≤ length out → r + k ≤ length out₁
+    → put_ended r out₁ ≡ put_of out at bs → at + (length bs + k) ≤ length out → r + k ≤ length out₁
 put-room out at bs k {r} {out₁} e room =
     let p = put-cursor out at bs e in
     let q = length-put out at bs (omega arith) in

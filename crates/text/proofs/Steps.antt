@@ -15,20 +15,20 @@ use mir.Syntax.{w8, w64}
 use mir.Val.{Fits}
 use lib.Seq.{paste, take-length, take_all, set_split, drop-cons, get_or-set_same, drop-set-lt, append_snoc}
 use Rattle.numbers.proofs.Flags.{impossible}
-use Rattle.text.specs.Decimal.{decimal, signedDecimal}
-use Rattle.text.specs.Put.{put, putEnded, put_of}
+use Rattle.text.specs.Decimal.{decimal, signed_decimal}
+use Rattle.text.specs.Put.{put, put_ended, put_of}
 use Rattle.text.proofs.Numerals.{decimal-one, decimal-more, length_more, decimal-some, decimal-short}
 use Rattle.text.proofs.Puts.{put_then, puts, put-room}
 
 -- put_byte
-pub byte_put : (out : List ℕ) (at b : ℕ) → at < length out → putEnded (at + 1) (set out at b) ≡ put_of out at (b ∷ [])
+pub byte_put : (out : List ℕ) (at b : ℕ) → at < length out → put_ended (at + 1) (set out at b) ≡ put_of out at (b ∷ [])
 unfolding put
 byte_put out at b h =
     puts out at (b ∷ []) refl
     (set_split out at b h ∙ rw (← add-one at) (sym (append_assoc (take at out) (b ∷ []) (drop (at + 1) out))))
 
 -- put_bytes
-pub bytes-put : (out : List ℕ) (at : ℕ) (text : List ℕ) {out₁ : List ℕ} → out₁ ≡ paste out at text (length text) → putEnded (at + length text) out₁ ≡ put_of out at text
+pub bytes-put : (out : List ℕ) (at : ℕ) (text : List ℕ) {out₁ : List ℕ} → out₁ ≡ paste out at text (length text) → put_ended (at + length text) out₁ ≡ put_of out at text
 unfolding put
 bytes-put out at text e =
     puts out at text refl
@@ -85,28 +85,28 @@ spell-long area₀ area j x e f = length-set area j x ∙ e ∙ sym f
 
 -- put_decimal: the digits are the area from where they start to its end
 pub decimal-put : (out : List ℕ) (at : ℕ) (area : List ℕ) (i n : ℕ) {r : ℕ} {out₁ : List ℕ}
-    → putEnded r out₁ ≡ put_of out at (take (20 - i) (drop i area)) → length area ≡ 20 → drop i area ≡ decimal n
-    → putEnded r out₁ ≡ put_of out at (decimal n)
+    → put_ended r out₁ ≡ put_of out at (take (20 - i) (drop i area)) → length area ≡ 20 → drop i area ≡ decimal n
+    → put_ended r out₁ ≡ put_of out at (decimal n)
 decimal-put out at area i n e len d =
     e ∙ ap (put_of out at) (take_all (20 - i) (drop i area) (rw (length-drop i area) (omega arith)) ∙ d)
 
 -- put_signed; z₁ and z₂ are z as the machine reads it back
 pub signed_above : (out : List ℕ) (at : ℕ) (z : ℤ) {z₁ z₂ : ℤ} {n r : ℕ} {out₁ : List ℕ}
     → n ≡ nat_abs z₁ → z₁ ≡ z → le_z (pos 0) z₂ ≡ true → z₂ ≡ z
-    → putEnded r out₁ ≡ put_of out at (decimal n) → putEnded r out₁ ≡ put_of out at (signedDecimal z)
-unfolding signedDecimal
+    → put_ended r out₁ ≡ put_of out at (decimal n) → put_ended r out₁ ≡ put_of out at (signed_decimal z)
+unfolding signed_decimal
 signed_above out at (pos m) size p h q e = e ∙ ap (λ (k : ℕ). put_of out at (decimal k)) (size ∙ ap nat_abs p)
 signed_above out at (negsuc m) size p h q e = impossible (sym (rw q at h))
 
 pub signed_below : (out : List ℕ) (at : ℕ) (z : ℤ) {z₁ z₂ : ℤ} {n r s : ℕ} {out₁ out₂ : List ℕ}
     → n ≡ nat_abs z₁ → z₁ ≡ z → le_z (pos 0) z₂ ≡ false → z₂ ≡ z → at + 21 ≤ length out
-    → putEnded r out₁ ≡ put_of out at (45 ∷ []) → putEnded s out₂ ≡ put_of out₁ r (decimal n) → putEnded s out₂ ≡ put_of out at (signedDecimal z)
-unfolding signedDecimal
+    → put_ended r out₁ ≡ put_of out at (45 ∷ []) → put_ended s out₂ ≡ put_of out₁ r (decimal n) → put_ended s out₂ ≡ put_of out at (signed_decimal z)
+unfolding signed_decimal
 signed_below out at (pos m) size p h q room e f = impossible (sym (leb-zero m) ∙ rw q at h)
 signed_below out at (negsuc m) {r = r} {out₁ = out₁} size p h q room e f =
     put_then out at (45 ∷ []) (decimal (suc m)) e (f ∙ ap (λ (k : ℕ). put_of out₁ r (decimal k)) (size ∙ ap nat_abs p)) (omega arith)
 
-pub sign-room : (out : List ℕ) (at b : ℕ) {r : ℕ} {out₁ : List ℕ} → putEnded r out₁ ≡ put_of out at (b ∷ []) → at + 21 ≤ length out → r + 20 ≤ length out₁
+pub sign-room : (out : List ℕ) (at b : ℕ) {r : ℕ} {out₁ : List ℕ} → put_ended r out₁ ≡ put_of out at (b ∷ []) → at + 21 ≤ length out → r + 20 ≤ length out₁
 sign-room out at b e h = put-room out at (b ∷ []) 20 e h
 
 pub ruleset spelling = (spell-long, spell-start, spell-again, spell-done, decimal-short, spell-some, spell-less, spell-index, digit-fits, digit-wide, quotient-less, rules)

@@ -11,6 +11,6 @@ digits (suc k) n = let more = digits k (n / 10) ++ ((48 + n % 10) ∷ []) in con
 unfoldable pub decimal : ℕ → List ℕ
 decimal n = digits (suc n) n
 
-unfoldable pub signedDecimal : ℤ → List ℕ
-signedDecimal (pos n) = decimal n
-signedDecimal (negsuc n) = bytes "-" ++ decimal (suc n)
+unfoldable pub signed_decimal : ℤ → List ℕ
+signed_decimal (pos n) = decimal n
+signed_decimal (negsuc n) = bytes "-" ++ decimal (suc n)

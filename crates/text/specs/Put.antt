@@ -9,8 +9,8 @@ pub record Put : Type 0 where
   pub cursor : ℕ
   pub area : List ℕ
 
-abbrev pub putEnded : ℕ → List ℕ → Put
-putEnded cursor out = record { cursor = cursor; area = out }
+abbrev pub put_ended : ℕ → List ℕ → Put
+put_ended cursor out = record { cursor = cursor; area = out }
 
 unfoldable pub put_of : List ℕ → ℕ → List ℕ → Put
-put_of out at bs = putEnded (at + length bs) (put out at bs)
+put_of out at bs = put_ended (at + length bs) (put out at bs)

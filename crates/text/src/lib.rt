@@ -1,12 +1,12 @@
 // Writing the lines of a trace as bytes, piece by piece, into a lent output at a cursor: 01, "Trace, mark DLT". Each function needs room
 // for what it writes, writes nothing else, and answers the cursor behind it.
 ghost use Rattle.std.specs.Prelude.{◌≡◌, [], ◌∷◌, ◌+◌, ◌<◌, ◌≤◌, length, drop};
-ghost use Rattle.text.specs.Decimal.{decimal, signedDecimal};
-ghost use Rattle.text.specs.Put.{putEnded, put_of};
+ghost use Rattle.text.specs.Decimal.{decimal, signed_decimal};
+ghost use Rattle.text.specs.Put.{put_ended, put_of};
 
 pub fn put_byte(out: &mut [u8], at: usize, b: u8) -> usize
     requires { at < length out.old }
-    ensures { putEnded result out.new ≡ put_of out.old at (b ∷ []) }
+    ensures { put_ended result out.new ≡ put_of out.old at (b ∷ []) }
 {
     out[at] = b;
     at + 1
@@ -14,7 +14,7 @@ pub fn put_byte(out: &mut [u8], at: usize, b: u8) -> usize
 
 pub fn put_bytes(out: &mut [u8], at: usize, text: &[u8]) -> usize
     requires { at + length text.now ≤ length out.old }
-    ensures { putEnded result out.new ≡ put_of out.old at text.now }
+    ensures { put_ended result out.new ≡ put_of out.old at text.now }
 {
     copy::put(out, at, text);
     at + text.len()
@@ -39,7 +39,7 @@ fn spell(area: &mut [u8], n: u64) -> usize
 
 pub fn put_decimal(out: &mut [u8], at: usize, n: u64) -> usize
     requires { at + 20 ≤ length out.old }
-    ensures { putEnded result out.new ≡ put_of out.old at (decimal n) }
+    ensures { put_ended result out.new ≡ put_of out.old at (decimal n) }
 {
     let mut area = [0u8; 20];
     let i = spell(&mut area, n);
@@ -48,7 +48,7 @@ pub fn put_decimal(out: &mut [u8], at: usize, n: u64) -> usize
 
 pub fn put_signed(out: &mut [u8], at: usize, z: i64) -> usize
     requires { at + 21 ≤ length out.old }
-    ensures { putEnded result out.new ≡ put_of out.old at (signedDecimal z) }
+    ensures { put_ended result out.new ≡ put_of out.old at (signed_decimal z) }
 {
     let n = numbers::instant::size(z);
     if 0 <= z {

@@ -18,14 +18,14 @@ use Rattle.window_pop.specs.Pop as pops
 use Rattle.head.specs.Head as heads
 use Rattle.head.specs.Head.{made_of}
 use Rattle.head.specs.Rules as rules
-use Rattle.receiver.specs.Data.{packet, dataCallOf}
-use Rattle.receiver.specs.Message.{taken_of, popCallOf}
-use Rattle.receiver.specs.Paper.{dataLine}
+use Rattle.receiver.specs.Data.{packet, data_call_of}
+use Rattle.receiver.specs.Message.{taken_of, pop_call_of}
+use Rattle.receiver.specs.Paper.{data_line}
 use Rattle.receiver.specs.declared.data.DataAnswer.{DataAnswer}
 use Rattle.receiver.specs.declared.data.DataAnswer.TheVariants as datas
 use Rattle.counts.specs.Counts as counting
-use Rattle.packing.specs.Packed.{unpackOf}
-use Rattle.packing.specs.Tally.{countersWords}
+use Rattle.packing.specs.Packed.{unpack_of}
+use Rattle.packing.specs.Tally.{counters_words}
 use Rattle.step.specs.Step.{State, Lent}
 use Rattle.step.specs.declared.Call.TheVariants as calls
 use Rattle.thm_collector.specs.Collector.{Kept, Back, plain, counted, Gives}
@@ -35,15 +35,15 @@ use Rattle.thm_collector.proofs.Collects.{either-call, either-counts}
 abbrev at_start : List ℕ → Kept
 at_start ws = record { words = ws; slots = replicate 3 0; payloads = replicate 1456 0; history = []; counts = replicate 10 0 }
 
-pop-moves : (out : List ℕ) → (popCallOf (made_of (pos 0) 0 true 0 1).head (replicate 3 0) (replicate 1456 0) out (pos 1)).given.head.latest ≡ pos 1
-unfolding popCallOf taken_of heads.headOk heads.freshHead made_of rules.thenOf bases.freshBase clocks.clockOk samples.noSamples syncs.freshClock histories.freshHistory histories.historyOk rtts.freshRtt rtts.rttOk rates.freshArrivals rates.freshLinks rates.arrivalsOk rates.linksOk rates.allUnder rates.windowOf pops.pop_of pops.lateOf pops.discarded pops.walkFrom pops.limitOf
+pop-moves : (out : List ℕ) → (pop_call_of (made_of (pos 0) 0 true 0 1).head (replicate 3 0) (replicate 1456 0) out (pos 1)).given.head.latest ≡ pos 1
+unfolding pop_call_of taken_of heads.head_ok heads.fresh_head made_of rules.then_of bases.fresh_base clocks.clock_ok samples.no_samples syncs.fresh_clock histories.fresh_history histories.history_ok rtts.fresh_rtt rtts.rtt_ok rates.fresh_arrivals rates.fresh_links rates.arrivals_ok rates.links_ok rates.all_under rates.window_of pops.pop_of pops.late_of pops.discarded pops.walk_from pops.limit_of
 pop-moves out = refl
 
 starts-at-zero : (made_of (pos 0) 0 true 0 1).head.latest ≡ pos 0
-unfolding made_of heads.freshHead rules.thenOf
+unfolding made_of heads.fresh_head rules.then_of
 starts-at-zero = refl
 
-pub old-words : (ws : List ℕ) (t : Lent) (r : Back) → unpackOf ws ≡ (made_of (pos 0) 0 true 0 1).head → Gives (at_start ws) t r plain (calls.Pop (pos 1)) → r.kept.words ≡ ws → ⊥
+pub old-words : (ws : List ℕ) (t : Lent) (r : Back) → unpack_of ws ≡ (made_of (pos 0) 0 true 0 1).head → Gives (at_start ws) t r plain (calls.Pop (pos 1)) → r.kept.words ≡ ws → ⊥
 old-words ws t r made g old =
     let a = ap (λ (s : State). s.head.latest) (either-call (at_start ws) t r plain (calls.Pop (pos 1)) g).state in
     let b = rw (old, made, pop-moves t.output, starts-at-zero) at a in
@@ -51,7 +51,7 @@ old-words ws t r made g old =
     omega arith
 
 -- it counts with the words of before though a duplicate was handed in: 7 to 10 still count
-counts-duplicate : (a : DataAnswer) (size : ℕ) → (dataLine a).refusal ≡ 10 → get_or (countersWords (counting.dataCounts counting.fresh size a)) 0 0 ≡ 1
+counts-duplicate : (a : DataAnswer) (size : ℕ) → (data_line a).refusal ≡ 10 → get_or (counters_words (counting.data_counts counting.fresh size a)) 0 0 ≡ 1
 unfolding counting.raised sum
 counts-duplicate (datas.Got lrsn recovered) size e = absurd (omega arith)
 counts-duplicate (datas.Light lrsn recovered) size e = absurd (omega arith)
@@ -65,7 +65,7 @@ duplicate-uncounted x t r time number message location stamp g ten zeroed same =
     let c = calls.Data time number message location stamp in
     let s = (either-call x t r counted c g).returned in
     let a = either-counts x t r counted c counting.fresh g zeroed in
-    let o = dataCallOf (unpackOf x.words) x.slots x.payloads time (packet number message location stamp) t.payload in
+    let o = data_call_of (unpack_of x.words) x.slots x.payloads time (packet number message location stamp) t.payload in
     let one = counts-duplicate o.handled.answer (length t.payload) (sym s ∙ ten) in
     let z : ◌≡◌ {A = ℕ} 0 1 = ap (λ (ws : List ℕ). get_or ws 0 0) (sym same ∙ a) ∙ one in
     omega arith

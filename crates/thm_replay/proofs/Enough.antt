@@ -11,7 +11,7 @@ use lib.IntN.{ℤ}
 use lib.ListN.{length}
 use lib.Signed.{lt_z}
 use Rattle.numbers.proofs.Flags.{by-test, impossible}
-use Rattle.acks.specs.History.{ack2Of, fullAckOf, lightAckOf}
+use Rattle.acks.specs.History.{ack2_of, full_ack_of, light_ack_of}
 use Rattle.acks.specs.declared.history.History.{History}
 use Rattle.acks.specs.declared.history.AckAnswer.{AckAnswer}
 use Rattle.acks.specs.declared.history.AckAnswer.TheVariants as acks
@@ -22,64 +22,64 @@ use Rattle.clock.specs.Sync.{synchronized}
 use Rattle.clock.specs.declared.time.SynchronizedRemoteClock.{SynchronizedRemoteClock}
 use Rattle.clock.specs.declared.time.Synchronized.{Synchronized}
 use Rattle.clock.specs.declared.time.Synchronized.TheVariants as clocks
-use Rattle.slots.specs.Words.{isReceived, entry_at, lengthIn, stampIn, messageIn, isFirst, is_last, inMessage}
+use Rattle.slots.specs.Words.{is_received, entry_at, length_in, stamp_in, message_in, is_first, is_last, in_message}
 use Rattle.slots.specs.Ring.{slot_of}
 use Rattle.slots.proofs.Laws.{length-read}
-use Rattle.window.specs.Window.{entryIn, roomOf}
-use Rattle.window.specs.Push.{PushOutcome, recoveredOf, pushOf}
+use Rattle.window.specs.Window.{entry_in, room_of}
+use Rattle.window.specs.Push.{PushOutcome, recovered_of, push_of}
 use Rattle.window.specs.declared.Window.{Window}
 use Rattle.window.specs.declared.push.Packet.{Packet}
 use Rattle.window.specs.declared.push.PushAnswer.{PushAnswer}
 use Rattle.window.specs.declared.push.PushAnswer.TheVariants as pushes
 use Rattle.window.proofs.Ranges.{in_window}
-use Rattle.window_pop.specs.Pop.{PopOutcome, popEnded, run_from, messageOf, dueOf, releasedOf, frontOf, pop_of}
+use Rattle.window_pop.specs.Pop.{PopOutcome, pop_ended, run_from, message_of, due_of, released_of, front_of, pop_of}
 use Rattle.window_pop.specs.declared.pop.Message.{Message}
 use Rattle.window_pop.specs.declared.pop.Popped.{Popped}
 use Rattle.window_pop.proofs.PopLaws.{late-cases, pop-length}
-use Rattle.window_report.specs.Report.{ReportOutcome, needed, reportOf}
+use Rattle.window_report.specs.Report.{ReportOutcome, needed, report_of}
 use Rattle.window_report.proofs.ReportLaws.{needed-held, list-keeps}
-use Rattle.head.specs.Rules.{Rule, thenOf, firstFrom, firstRefusal, pushRules, popRules, timedRules, dropRules, clockRules, headRules}
-use Rattle.head.specs.Head.{headOk}
+use Rattle.head.specs.Rules.{Rule, then_of, first_from, first_refusal, push_rules, pop_rules, timed_rules, drop_rules, clock_rules, head_rules}
+use Rattle.head.specs.Head.{head_ok}
 use Rattle.head.specs.declared.state.Head.{Head}
 use Rattle.head.proofs.Ready.{timed-ready, pop-ready}
 use Rattle.receiver.specs.Data as receiving
-use Rattle.receiver.specs.Data.{packet, dataCallOf}
+use Rattle.receiver.specs.Data.{packet, data_call_of}
 use Rattle.receiver.specs.Message as message
-use Rattle.receiver.specs.Message.{popCallOf}
-use Rattle.receiver.specs.Paper.{dataLine, messageLine}
+use Rattle.receiver.specs.Message.{pop_call_of}
+use Rattle.receiver.specs.Paper.{data_line, message_line}
 use Rattle.feedback.specs.Acking as acking
-use Rattle.feedback.specs.Acking.{fullAckCallOf, ack2CallOf}
+use Rattle.feedback.specs.Acking.{full_ack_call_of, ack2_call_of}
 use Rattle.feedback.specs.Loss as loss
-use Rattle.feedback.specs.Loss.{reportCallOf}
-use Rattle.feedback.specs.Paper.{lossLine, clockLine, fullAckLine, rttLine}
+use Rattle.feedback.specs.Loss.{report_call_of}
+use Rattle.feedback.specs.Paper.{loss_line, clock_line, full_ack_line, rtt_line}
 use Rattle.feedback.specs.Sync as sync
-use Rattle.feedback.specs.Sync.{clockCallOf}
-use Rattle.upkeep.specs.Paper.{dropLine, clearLine}
+use Rattle.feedback.specs.Sync.{clock_call_of}
+use Rattle.upkeep.specs.Paper.{drop_line, clear_line}
 use Rattle.upkeep.specs.Request as request
-use Rattle.upkeep.specs.Request.{dropCallOf, clearCallOf}
+use Rattle.upkeep.specs.Request.{drop_call_of, clear_call_of}
 use Rattle.step.specs.Step.{State, Lent, step_of}
 use Rattle.step.specs.declared.Call.{Call}
 use Rattle.step.specs.declared.Call.TheVariants as calls
-use Rattle.trace.specs.Lends.{mostCapacity, AreasLent}
+use Rattle.trace.specs.Lends.{most_capacity, AreasLent}
 use Rattle.ledger.proofs.Moves.{by-refusal, push-cases}
 use Rattle.ledger.proofs.Knows.{data-long, pop-capacity, pop-long, report-same, list-long, drop-long, full-ack-same, ack2-same, clock-same}
-use Rattle.thm_replay.specs.Short.{saysShort, lentIn, leftIn}
+use Rattle.thm_replay.specs.Short.{says_short, lent_in, left_in}
 
 -- the first refusal of a list is 0 or the number of a test that holds
 abbrev Enough : ℕ → Type 0
-Enough n = saysShort n ≡ false
+Enough n = says_short n ≡ false
 
 abbrev Rules : List Rule → Type 0
 Rules [] = Unit {0}
 Rules (r ∷ rs) = (r.bad ≡ true → Enough r.number) × Rules rs
 
-then-enough : (k : ℕ) (bad : Bool) (n : ℕ) → Enough k → (bad ≡ true → Enough n) → Enough (thenOf k bad n)
-unfolding thenOf
+then-enough : (k : ℕ) (bad : Bool) (n : ℕ) → Enough k → (bad ≡ true → Enough n) → Enough (then_of k bad n)
+unfolding then_of
 then-enough k bad n a f = by-test Enough (eqb k 0) _ _ (λ t. by-test Enough bad _ _ f (λ u. refl)) (λ t. a)
 
-first-enough : (k : ℕ) (rs : List Rule) → Enough k → Rules rs → Enough (firstFrom k rs)
+first-enough : (k : ℕ) (rs : List Rule) → Enough k → Rules rs → Enough (first_from k rs)
 first-enough k [] a f = a
-first-enough k (r ∷ rs) a f = first-enough (thenOf k r.bad r.number) rs (then-enough k r.bad r.number a f.0) f.1
+first-enough k (r ∷ rs) a f = first-enough (then_of k r.bad r.number) rs (then-enough k r.bad r.number a f.0) f.1
 
 -- an area that is long enough is not short
 long-enough : (len need : ℕ) → need ≤ len → ltb len need ≡ true → Enough 2
@@ -87,29 +87,29 @@ long-enough len need h e = impossible (sym e ∙ le-ltb len need h)
 
 -- a data packet
 module _ (h : Head) (ws bs : List ℕ) (now : ℤ) (p : Packet) (payload : List ℕ) where
-  abbrev pushTests : List Rule
-  pushTests = pushRules (headOk h) h.window.capacity (length ws) (length bs) now h.latest p (length payload)
+  abbrev push_tests : List Rule
+  push_tests = push_rules (head_ok h) h.window.capacity (length ws) (length bs) now h.latest p (length payload)
 
-  got-enough : (light : Bool) (lrsn : ℕ) (recovered : Bool) → Enough (dataLine (receiving.gotAnswer light lrsn recovered)).refusal
+  got-enough : (light : Bool) (lrsn : ℕ) (recovered : Bool) → Enough (data_line (receiving.got_answer light lrsn recovered)).refusal
   got-enough true lrsn recovered = refl
   got-enough false lrsn recovered = refl
 
-  push-enough : (w : Window) (a : PushAnswer) (number size : ℕ) → Enough (dataLine (receiving.afterPush h w a now number size).answer).refusal
-  unfolding receiving.gotOf receiving.ackedOf
+  push-enough : (w : Window) (a : PushAnswer) (number size : ℕ) → Enough (data_line (receiving.after_push h w a now number size).answer).refusal
+  unfolding receiving.got_of receiving.acked_of
   push-enough w (pushes.Got lrsn recovered) number size =
-      got-enough (lightAckOf (receiving.placed_of (cond recovered h (receiving.ratedOf h now number size)) w now).history lrsn).light lrsn recovered
+      got-enough (light_ack_of (receiving.placed_of (cond recovered h (receiving.rated_of h now number size)) w now).history lrsn).light lrsn recovered
   push-enough w (pushes.Loss first last) number size = refl
   push-enough w pushes.BufferFull number size = refl
   push-enough w (pushes.PacketTooEarly places need) number size = refl
   push-enough w pushes.PacketTooLate number size = refl
   push-enough w pushes.DiscardedDuplicate number size = refl
 
-  data-enough : 3 * h.window.capacity ≤ length ws → 1456 * h.window.capacity ≤ length bs → Enough (dataLine (dataCallOf h ws bs now p payload).handled.answer).refusal
-  unfolding dataCallOf receiving.taken_of
+  data-enough : 3 * h.window.capacity ≤ length ws → 1456 * h.window.capacity ≤ length bs → Enough (data_line (data_call_of h ws bs now p payload).handled.answer).refusal
+  unfolding data_call_of receiving.taken_of
   data-enough a b =
-      by-refusal (λ (o : receiving.DataOutcome). Enough (dataLine o.handled.answer).refusal) (firstRefusal pushTests) _ _
-      (λ z. let o = pushOf h.window ws bs now p payload in push-enough o.pushed.window o.pushed.answer p.number (length payload))
-      (λ z. first-enough 0 pushTests refl (
+      by-refusal (λ (o : receiving.DataOutcome). Enough (data_line o.handled.answer).refusal) (first_refusal push_tests) _ _
+      (λ z. let o = push_of h.window ws bs now p payload in push-enough o.pushed.window o.pushed.answer p.number (length payload))
+      (λ z. first-enough 0 push_tests refl (
         λ e. refl,
         (
           long-enough (length ws) (3 * h.window.capacity) a,
@@ -120,13 +120,13 @@ module _ (h : Head) (ws bs : List ℕ) (now : ℤ) (p : Packet) (payload : List 
         ),
       ))
 
-  data-capacity : (dataCallOf h ws bs now p payload).handled.head.window.capacity ≡ h.window.capacity
-  unfolding dataCallOf receiving.taken_of receiving.gotOf receiving.ackedOf recoveredOf
+  data-capacity : (data_call_of h ws bs now p payload).handled.head.window.capacity ≡ h.window.capacity
+  unfolding data_call_of receiving.taken_of receiving.got_of receiving.acked_of recovered_of
   data-capacity =
-      by-refusal (λ (o : receiving.DataOutcome). o.handled.head.window.capacity ≡ h.window.capacity) (firstRefusal pushTests) _ _
+      by-refusal (λ (o : receiving.DataOutcome). o.handled.head.window.capacity ≡ h.window.capacity) (first_refusal push_tests) _ _
       (λ z.
       push-cases h.window ws bs now p payload
-      (λ (o : PushOutcome). (receiving.afterPush h o.pushed.window o.pushed.answer now p.number (length payload)).head.window.capacity ≡ h.window.capacity)
+      (λ (o : PushOutcome). (receiving.after_push h o.pushed.window o.pushed.answer now p.number (length payload)).head.window.capacity ≡ h.window.capacity)
       (λ q c. refl)
       (λ q. refl)
       (λ q c. refl)
@@ -143,150 +143,150 @@ run-most capacity start ws m i total zero = omega arith
 run-most capacity start ws m i total (suc n) =
     let e = entry_at ws (slot_of capacity start i) in
     let l = length-read ws (slot_of capacity start i) in
-    by-test (λ (x : Message). x.bytes ≤ total + 1456 * suc n) (inMessage m e) _ _
+    by-test (λ (x : Message). x.bytes ≤ total + 1456 * suc n) (in_message m e) _ _
     (λ t.
     by-test (λ (x : Message). x.bytes ≤ total + 1456 * suc n) (is_last e) _ _
     (λ u. omega arith)
-    (λ u. let r = run-most capacity start ws m (i + 1) (total + lengthIn e) n in omega arith))
+    (λ u. let r = run-most capacity start ws m (i + 1) (total + length_in e) n in omega arith))
     (λ t. omega arith)
 
-message-most : (w : Window) (ws : List ℕ) → (messageOf w ws).bytes ≤ 1456 * w.held
-unfolding messageOf
+message-most : (w : Window) (ws : List ℕ) → (message_of w ws).bytes ≤ 1456 * w.held
+unfolding message_of
 message-most w ws =
-    by-test (λ (x : Message). x.bytes ≤ 1456 * w.held) (isFirst (entryIn w ws 0)) _ _
-    (λ t. let r = run-most w.capacity w.start ws (messageIn (entryIn w ws 0)) 0 0 w.held in omega arith)
+    by-test (λ (x : Message). x.bytes ≤ 1456 * w.held) (is_first (entry_in w ws 0)) _ _
+    (λ t. let r = run-most w.capacity w.start ws (message_in (entry_in w ws 0)) 0 0 w.held in omega arith)
     (λ t. omega arith)
 
 module _ (h : Head) (ws bs out : List ℕ) (now : ℤ) where
-  abbrev popTests : List Rule
-  popTests = popRules (headOk h) h.window.capacity (length ws) (length bs) now h.latest
+  abbrev pop_tests : List Rule
+  pop_tests = pop_rules (head_ok h) h.window.capacity (length ws) (length bs) now h.latest
 
   abbrev PopEnough : PopOutcome → Type 0
-  PopEnough x = Enough (messageLine (message.answer_of x.popped.answer)).refusal
+  PopEnough x = Enough (message_line (message.answer_of x.popped.answer)).refusal
 
-  pop-fits : (messageOf h.window ws).bytes ≤ length out → PopEnough (pop_of h.clock h.latency h.dropping h.window ws now bs out)
-  unfolding pop_of frontOf releasedOf
+  pop-fits : (message_of h.window ws).bytes ≤ length out → PopEnough (pop_of h.clock h.latency h.dropping h.window ws now bs out)
+  unfolding pop_of front_of released_of
   pop-fits fits =
       let w = h.window in
-      let late = late-cases h.clock h.latency h.dropping w ws now (λ (r : Popped). PopEnough (popEnded r out)) refl (λ n stamp some held. refl) in
-      by-test PopEnough (ltb 0 w.held && isReceived (entryIn w ws 0)) _ _
+      let late = late-cases h.clock h.latency h.dropping w ws now (λ (r : Popped). PopEnough (pop_ended r out)) refl (λ n stamp some held. refl) in
+      by-test PopEnough (ltb 0 w.held && is_received (entry_in w ws 0)) _ _
       (λ t.
-      by-test PopEnough (lt_z now (dueOf h.clock.base h.latency (stampIn (entryIn w ws 0)))) _ _
+      by-test PopEnough (lt_z now (due_of h.clock.base h.latency (stamp_in (entry_in w ws 0)))) _ _
       (λ u. refl)
-      (λ u. by-test PopEnough (ltb 0 (messageOf w ws).packets) _ _ (λ x. rw (le-ltb _ _ fits)) (λ x. late)))
+      (λ u. by-test PopEnough (ltb 0 (message_of w ws).packets) _ _ (λ x. rw (le-ltb _ _ fits)) (λ x. late)))
       (λ t. late)
 
-  pop-enough : h.window.capacity ≤ mostCapacity → 3 * h.window.capacity ≤ length ws → 1456 * h.window.capacity ≤ length bs → 1456 * mostCapacity ≤ length out
-      → Enough (messageLine (popCallOf h ws bs out now).given.answer).refusal
-  unfolding popCallOf message.taken_of
+  pop-enough : h.window.capacity ≤ most_capacity → 3 * h.window.capacity ≤ length ws → 1456 * h.window.capacity ≤ length bs → 1456 * most_capacity ≤ length out
+      → Enough (message_line (pop_call_of h ws bs out now).given.answer).refusal
+  unfolding pop_call_of message.taken_of
   pop-enough small a b c =
-      by-refusal (λ (o : message.MessageOutcome). Enough (messageLine o.given.answer).refusal) (firstRefusal popTests) _ _
+      by-refusal (λ (o : message.MessageOutcome). Enough (message_line o.given.answer).refusal) (first_refusal pop_tests) _ _
       (λ z. let r = pop-ready h now ws bs z in let holds = r.good.ranges.holds in pop-fits (omega (arith, message-most h.window ws)))
-      (λ z. first-enough 0 popTests refl (
+      (λ z. first-enough 0 pop_tests refl (
         λ e. refl,
         (long-enough (length ws) (3 * h.window.capacity) a, (long-enough (length bs) (1456 * h.window.capacity) b, (λ e. refl, (λ e. refl, tt)))),
       ))
 
 -- a loss report: at most a word for each entry held
 module _ (h : Head) (ws list : List ℕ) (now : ℤ) where
-  abbrev reportTests : List Rule
-  reportTests = timedRules (headOk h) (length ws) (3 * h.window.capacity) now h.latest
+  abbrev report_tests : List Rule
+  report_tests = timed_rules (head_ok h) (length ws) (3 * h.window.capacity) now h.latest
 
   abbrev ReportEnough : ReportOutcome → Type 0
-  ReportEnough x = Enough (lossLine (loss.answer_of x.answer) x.list).refusal
+  ReportEnough x = Enough (loss_line (loss.answer_of x.answer) x.list).refusal
 
-  report-fits : h.window.held ≤ length list → ReportEnough (reportOf h.window ws now h.rtt.mean list)
-  unfolding reportOf
+  report-fits : h.window.held ≤ length list → ReportEnough (report_of h.window ws now h.rtt.mean list)
+  unfolding report_of
   report-fits fits =
       let w = h.window in
       let n = needed w ws now h.rtt.mean in
       let most : n ≤ length list = omega (arith, needed-held w ws now h.rtt.mean) in
       by-test ReportEnough (eqb n 0) _ _ (λ t. refl) (λ t. rw (le-ltb _ _ most))
 
-  report-enough : h.window.capacity ≤ length list → 3 * h.window.capacity ≤ length ws → Enough (lossLine (reportCallOf h ws list now).reported.answer (reportCallOf h ws list now).list).refusal
-  unfolding reportCallOf loss.reportedOf
+  report-enough : h.window.capacity ≤ length list → 3 * h.window.capacity ≤ length ws → Enough (loss_line (report_call_of h ws list now).reported.answer (report_call_of h ws list now).list).refusal
+  unfolding report_call_of loss.reported_of
   report-enough small a =
-      by-refusal (λ (o : loss.LossOutcome). Enough (lossLine o.reported.answer o.list).refusal) (firstRefusal reportTests) _ _
+      by-refusal (λ (o : loss.LossOutcome). Enough (loss_line o.reported.answer o.list).refusal) (first_refusal report_tests) _ _
       (λ z.
       let r = (timed-ready h now (length ws) (3 * h.window.capacity) z).0.head in
       let holds = (in_window h.window r.window).holds in
       report-fits (omega arith))
-      (λ z. first-enough 0 reportTests refl (λ e. refl, (long-enough (length ws) (3 * h.window.capacity) a, (λ e. refl, (λ e. refl, tt)))))
+      (λ z. first-enough 0 report_tests refl (λ e. refl, (long-enough (length ws) (3 * h.window.capacity) a, (λ e. refl, (λ e. refl, tt)))))
 
 -- ACKs
 module _ (h : Head) (a : List ℕ) (now : ℤ) where
-  abbrev ackTests : List Rule
-  ackTests = timedRules (headOk h) (length a) 2048 now h.latest
+  abbrev ack_tests : List Rule
+  ack_tests = timed_rules (head_ok h) (length a) 2048 now h.latest
 
-  ack-tests : 2048 ≤ length a → Enough (firstRefusal ackTests)
-  ack-tests l = first-enough 0 ackTests refl (λ e. refl, (long-enough (length a) 2048 l, (λ e. refl, (λ e. refl, tt))))
+  ack-tests : 2048 ≤ length a → Enough (first_refusal ack_tests)
+  ack-tests l = first-enough 0 ack_tests refl (λ e. refl, (long-enough (length a) 2048 l, (λ e. refl, (λ e. refl, tt))))
 
-  after-ack : (y : History) (x : AckAnswer) → Enough (fullAckLine (acking.afterAck h y x now).answer).refusal
+  after-ack : (y : History) (x : AckAnswer) → Enough (full_ack_line (acking.after_ack h y x now).answer).refusal
   after-ack y acks.Nothing = refl
   after-ack y acks.Worn = refl
   after-ack y (acks.Ack n) = refl
 
   abbrev AckEnough : acking.FullAckOutcome → Type 0
-  AckEnough o = Enough (fullAckLine o.acked.answer).refusal
+  AckEnough o = Enough (full_ack_line o.acked.answer).refusal
 
-  full-ack-enough : 2048 ≤ length a → AckEnough (fullAckCallOf h a now)
-  unfolding fullAckCallOf acking.dueAck acking.roomyAck
+  full-ack-enough : 2048 ≤ length a → AckEnough (full_ack_call_of h a now)
+  unfolding full_ack_call_of acking.due_ack acking.roomy_ack
   full-ack-enough l =
-      by-refusal AckEnough (firstRefusal ackTests) _ _
+      by-refusal AckEnough (first_refusal ack_tests) _ _
       (λ z.
-      let o = fullAckOf h.history a now h.rtt.mean h.latency h.window.lrsn in
-      by-test AckEnough (eqb (roomOf h.window) 0) _ _ (λ t. refl) (λ t. after-ack o.acked.history o.acked.answer))
+      let o = full_ack_of h.history a now h.rtt.mean h.latency h.window.lrsn in
+      by-test AckEnough (eqb (room_of h.window) 0) _ _ (λ t. refl) (λ t. after-ack o.acked.history o.acked.answer))
       (λ z. ack-tests l)
 
-  after-ack2 : (y : History) (x : Ack2Answer) → Enough (rttLine (acking.afterAck2 h y x now).answer).refusal
+  after-ack2 : (y : History) (x : Ack2Answer) → Enough (rtt_line (acking.after_ack2 h y x now).answer).refusal
   after-ack2 y acks2.NotHeld = refl
   after-ack2 y (acks2.Held r) = refl
 
-  ack2-enough : (number : ℕ) → 2048 ≤ length a → Enough (rttLine (ack2CallOf h a now number).acked2.answer).refusal
-  unfolding ack2CallOf acking.heldAck2
+  ack2-enough : (number : ℕ) → 2048 ≤ length a → Enough (rtt_line (ack2_call_of h a now number).acked2.answer).refusal
+  unfolding ack2_call_of acking.held_ack2
   ack2-enough number l =
-      by-refusal (λ (o : acking.Ack2Outcome). Enough (rttLine o.acked2.answer).refusal) (firstRefusal ackTests) _ _
-      (λ z. let k = ack2Of h.history a now number in after-ack2 k.history k.answer)
+      by-refusal (λ (o : acking.Ack2Outcome). Enough (rtt_line o.acked2.answer).refusal) (first_refusal ack_tests) _ _
+      (λ z. let k = ack2_of h.history a now number in after-ack2 k.history k.answer)
       (λ z. ack-tests l)
 
 -- a drop request, a clock sample and a clear
-drop-enough : (h : Head) (ws : List ℕ) (first last : ℕ) → 3 * h.window.capacity ≤ length ws → Enough (dropLine (dropCallOf h ws first last).answer).refusal
-unfolding dropCallOf
+drop-enough : (h : Head) (ws : List ℕ) (first last : ℕ) → 3 * h.window.capacity ≤ length ws → Enough (drop_line (drop_call_of h ws first last).answer).refusal
+unfolding drop_call_of
 drop-enough h ws first last a =
-    let tests = dropRules (headOk h) h.window.capacity (length ws) first last in
-    by-refusal (λ (o : request.DropOutcome). Enough (dropLine o.answer).refusal) (firstRefusal tests) _ _
+    let tests = drop_rules (head_ok h) h.window.capacity (length ws) first last in
+    by-refusal (λ (o : request.DropOutcome). Enough (drop_line o.answer).refusal) (first_refusal tests) _ _
     (λ z. refl)
     (λ z. first-enough 0 tests refl (λ e. refl, (long-enough (length ws) (3 * h.window.capacity) a, (λ e. refl, (λ e. refl, tt)))))
 
 module _ (h : Head) (now : ℤ) (stamp : ℕ) where
-  after-sync : (k : SynchronizedRemoteClock) (x : Synchronized) → Enough (clockLine (sync.afterSync h k x now).answer).refusal
+  after-sync : (k : SynchronizedRemoteClock) (x : Synchronized) → Enough (clock_line (sync.after_sync h k x now).answer).refusal
   after-sync k clocks.Nothing = refl
   after-sync k (clocks.Adjusted mean deviation) = refl
   after-sync k (clocks.Unsteady deviation v) = refl
   after-sync k clocks.DriftRange = refl
 
-  clock-enough : Enough (clockLine (clockCallOf h now stamp).clocked.answer).refusal
-  unfolding clockCallOf sync.syncOf
+  clock-enough : Enough (clock_line (clock_call_of h now stamp).clocked.answer).refusal
+  unfolding clock_call_of sync.sync_of
   clock-enough =
-      let tests = clockRules (headOk h) now h.latest in
-      by-refusal (λ (o : sync.ClockOutcome). Enough (clockLine o.clocked.answer).refusal) (firstRefusal tests) _ _
+      let tests = clock_rules (head_ok h) now h.latest in
+      by-refusal (λ (o : sync.ClockOutcome). Enough (clock_line o.clocked.answer).refusal) (first_refusal tests) _ _
       (λ z. let k = synchronized h.clock now stamp in after-sync k.clock k.answer)
       (λ z. first-enough 0 tests refl (λ e. refl, (λ e. refl, (λ e. refl, tt))))
 
-clear-enough : (h : Head) → Enough (clearLine (clearCallOf h).cleared.answer).refusal
-unfolding clearCallOf
+clear-enough : (h : Head) → Enough (clear_line (clear_call_of h).cleared.answer).refusal
+unfolding clear_call_of
 clear-enough h =
-    by-refusal (λ (o : request.ClearOutcome). Enough (clearLine o.cleared.answer).refusal) (firstRefusal (headRules (headOk h))) _ _
+    by-refusal (λ (o : request.ClearOutcome). Enough (clear_line o.cleared.answer).refusal) (first_refusal (head_rules (head_ok h))) _ _
     (λ z. refl)
-    (λ z. first-enough 0 (headRules (headOk h)) refl (λ e. refl, tt))
+    (λ z. first-enough 0 (head_rules (head_ok h)) refl (λ e. refl, tt))
 
-clear-capacity : (h : Head) → (clearCallOf h).cleared.head.window.capacity ≡ h.window.capacity
-unfolding clearCallOf request.clearedOf
+clear-capacity : (h : Head) → (clear_call_of h).cleared.head.window.capacity ≡ h.window.capacity
+unfolding clear_call_of request.cleared_of
 clear-capacity h =
-    by-refusal (λ (o : request.ClearOutcome). o.cleared.head.window.capacity ≡ h.window.capacity) (firstRefusal (headRules (headOk h))) _ _ (λ z. refl) (λ z. refl)
+    by-refusal (λ (o : request.ClearOutcome). o.cleared.head.window.capacity ≡ h.window.capacity) (first_refusal (head_rules (head_ok h))) _ _ (λ z. refl) (λ z. refl)
 
 -- any call
-module _ (s : State) (l : Lent) (small : s.head.window.capacity ≤ mostCapacity) (lent : AreasLent (lentIn s l)) where
+module _ (s : State) (l : Lent) (small : s.head.window.capacity ≤ most_capacity) (lent : AreasLent (lent_in s l)) where
   abbrev ws : List ℕ
   ws = s.slots
 
@@ -299,7 +299,7 @@ module _ (s : State) (l : Lent) (small : s.head.window.capacity ≤ mostCapacity
   bytes : 1456 * s.head.window.capacity ≤ length bs
   bytes = omega (arith, lent.payloads)
 
-  pub step-enough : (c : Call) → saysShort (step_of s l c).line.refusal ≡ false
+  pub step-enough : (c : Call) → says_short (step_of s l c).line.refusal ≡ false
   step-enough (calls.Data time number message location stamp) = data-enough s.head ws bs time (packet number message location stamp) l.payload words bytes
   step-enough (calls.Pop time) = pop-enough s.head ws bs l.output time small words bytes (omega (arith, lent.output))
   step-enough (calls.Report time) = report-enough s.head ws l.list time (omega (arith, lent.list)) words
@@ -325,7 +325,7 @@ module _ (s : State) (l : Lent) (small : s.head.window.capacity ≤ mostCapacity
   lent_still ws₁ bs₁ a₁ out₁ list₁ p q r t u =
       record { slots = p ∙ lent.slots; payloads = q ∙ lent.payloads; history = r ∙ lent.history; output = t ∙ lent.output; list = u ∙ lent.list }
 
-  pub step-lent : (c : Call) → AreasLent (leftIn (step_of s l c))
+  pub step-lent : (c : Call) → AreasLent (left_in (step_of s l c))
   step-lent (calls.Data time number message location stamp) =
       let x = data-long s.head ws bs time (packet number message location stamp) l.payload in lent_still _ _ _ _ _ x.0 x.1 refl refl refl
   step-lent (calls.Pop time) = lent_still _ _ _ _ _ refl refl refl (pop-long s.head ws bs l.output time) refl

@@ -5,12 +5,12 @@ use mathlib.Core.List.{List, [], ◌∷◌}
 use Prim.Native.Nat.{ℕ}
 use lib.IntN.{pos}
 use Rattle.numbers.specs.Circular.{signed}
-use Rattle.dlt.specs.Bytes.{big, bigFrom, field, timeAt}
-use Rattle.dlt.specs.Header.{isHeader, headerOf}
-use Rattle.dlt.specs.Record.{leastSize, data_of, fields_of, recordOf}
+use Rattle.dlt.specs.Bytes.{big, big_from, field, time_at}
+use Rattle.dlt.specs.Header.{is_header, header_of}
+use Rattle.dlt.specs.Record.{least_size, data_of, fields_of, record_of}
 use Rattle.head.specs.Head.{made_of}
-use Rattle.head.specs.Rules.{thenOf}
-use Rattle.thm_replay.specs.Replay.{Accepted, restAfter, SoundTo, NoClearTo}
+use Rattle.head.specs.Rules.{then_of}
+use Rattle.thm_replay.specs.Replay.{Accepted, rest_after, SoundTo, NoClearTo}
 
 -- DLT, version 1, start 0, latency 0, late-drop 1, first 0, capacity 4; then kind 2 and eight bytes of reading
 abbrev file : List ℕ
@@ -18,9 +18,9 @@ file =
     68 ∷ 76 ∷ 84 ∷ 0 ∷ 1 ∷ 0 ∷ 0 ∷ 0 ∷ 0 ∷ 0 ∷ 0 ∷ 0 ∷ 0 ∷ 0 ∷ 0 ∷ 0 ∷ 0 ∷ 1 ∷ 0 ∷ 0 ∷ 0 ∷ 0 ∷ 0 ∷ 4 ∷ 2 ∷ 0 ∷ 0 ∷ 0 ∷ 0 ∷ 0 ∷ 0 ∷ 0 ∷ 0 ∷ []
 
 pub accepted : Accepted file
-unfolding headerOf isHeader field big bigFrom timeAt signed made_of thenOf
+unfolding header_of is_header field big big_from time_at signed made_of then_of
 accepted = record { start = pos 0; latency = 0; dropping = true; first = 0; capacity = 4; header = refl; taken = refl }
 
 pub sound : SoundTo file 1 × NoClearTo file 1
-unfolding restAfter recordOf leastSize fields_of data_of field big bigFrom timeAt signed
+unfolding rest_after record_of least_size fields_of data_of field big big_from time_at signed
 sound = ((refl, tt), (refl, tt))

@@ -2,15 +2,15 @@
 use Rattle.std.specs.Prelude.{Bool, ◌||◌, ℕ, eqb}
 use Rattle.step.specs.Step.{State, Lent, Ended}
 use Rattle.trace.specs.Trace.{Areas}
-use Rattle.trace.specs.Turn.{areasOf}
+use Rattle.trace.specs.Turn.{areas_of}
 
 -- 2 AreaShort, 11 OutShort, 12 ListShort
-abbrev pub saysShort : (refusal : ℕ) → Bool
-saysShort n = eqb n 2 || eqb n 11 || eqb n 12
+abbrev pub says_short : (refusal : ℕ) → Bool
+says_short n = eqb n 2 || eqb n 11 || eqb n 12
 
 -- the areas that a call is lent, and those that it leaves
-abbrev pub lentIn : State → Lent → Areas
-lentIn s l = areasOf s.slots s.payloads s.history l.output l.list
+abbrev pub lent_in : State → Lent → Areas
+lent_in s l = areas_of s.slots s.payloads s.history l.output l.list
 
-abbrev pub leftIn : Ended → Areas
-leftIn e = areasOf e.state.slots e.state.payloads e.state.history e.output e.list
+abbrev pub left_in : Ended → Areas
+left_in e = areas_of e.state.slots e.state.payloads e.state.history e.output e.list

@@ -6,13 +6,13 @@ use Rattle.window.specs.Window.{number_in}
 use Rattle.window.specs.declared.Window.{Window}
 
 -- n numbers from the first on, consecutive mod 2^31
-unfoldable pub numbersFrom : ℕ → ℕ → List ℕ
-numbersFrom first zero = []
-numbersFrom first (suc n) = numbersFrom first n ++ (sum 31 first n ∷ [])
+unfoldable pub numbers_from : ℕ → ℕ → List ℕ
+numbers_from first zero = []
+numbers_from first (suc n) = numbers_from first n ++ (sum 31 first n ∷ [])
 
 -- a run: all numbers from first to last
 abbrev pub through : ℕ → ℕ → List ℕ
-through first last = numbersFrom first (distance 31 last first + 1)
+through first last = numbers_from first (distance 31 last first + 1)
 
 -- after the first word of a run its last is still to come
 pub data Pending : Type 0 where
@@ -20,16 +20,16 @@ pub data Pending : Type 0 where
   run : ℕ → Pending
 
 -- a word below 2^31 is itself; a word with bit 31 set and the next one are a run
-unfoldable pub numbersAfter : Pending → List ℕ → List ℕ
-numbersAfter p [] = []
-numbersAfter none (a ∷ ws) = cond (ltb a (2 ^ 31)) (a ∷ numbersAfter none ws) (numbersAfter (run (a - 2 ^ 31)) ws)
-numbersAfter (run first) (a ∷ ws) = through first a ++ numbersAfter none ws
+unfoldable pub numbers_after : Pending → List ℕ → List ℕ
+numbers_after p [] = []
+numbers_after none (a ∷ ws) = cond (ltb a (2 ^ 31)) (a ∷ numbers_after none ws) (numbers_after (run (a - 2 ^ 31)) ws)
+numbers_after (run first) (a ∷ ws) = through first a ++ numbers_after none ws
 
 -- the numbers that words name, in order
-abbrev pub numbersIn : List ℕ → List ℕ
-numbersIn ws = numbersAfter none ws
+abbrev pub numbers_in : List ℕ → List ℕ
+numbers_in ws = numbers_after none ws
 
 -- the numbers of those of the first n entries that are due, in order
-unfoldable pub dueNumbers : Window → (ℕ → Bool) → ℕ → List ℕ
-dueNumbers w due zero = []
-dueNumbers w due (suc i) = dueNumbers w due i ++ cond (due i) (number_in w i ∷ []) []
+unfoldable pub due_numbers : Window → (ℕ → Bool) → ℕ → List ℕ
+due_numbers w due zero = []
+due_numbers w due (suc i) = due_numbers w due i ++ cond (due i) (number_in w i ∷ []) []

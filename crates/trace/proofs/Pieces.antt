@@ -2,18 +2,18 @@
 -- Assumes nothing.
 use Rattle.std.proofs.Common.{◌≡◌, ℕ, zero, suc, ◌+◌, ◌<◌, Bool, true, false, cond, not, ◌&&◌, eqb, List, [], ◌∷◌, ◌++◌, length, drop, sym, refl, ◌∙◌, subst, append_assoc, append-nil, arith, length-append, length-drop}
 use Rattle.numbers.proofs.Flags.{by_bool, and_left, and_right, impossible}
-use Rattle.dlt.specs.Header.{headerOf}
-use Rattle.dlt.specs.Record.{recordOf, size_of, longestRecord}
+use Rattle.dlt.specs.Header.{header_of}
+use Rattle.dlt.specs.Record.{record_of, size_of, longest_record}
 use Rattle.dlt.specs.declared.header.HeaderRead.{HeaderRead}
 use Rattle.dlt.specs.declared.header.HeaderRead.TheVariants as headers
 use Rattle.dlt.specs.declared.record.RecordRead.{RecordRead}
 use Rattle.dlt.specs.declared.record.RecordRead.TheVariants as records
 use Rattle.dlt.proofs.Laws.{header-cut, record-cut, size-within}
 use Rattle.head.specs.Head.{made_of}
-use Rattle.lines.specs.Lines.{badBytes}
-use Rattle.trace.specs.Trace.{Areas, call_in, payloadIn, is_refused, outputOf}
-use Rattle.trace.specs.Turn.{beginOf, begunBy, isShort, stays, ends_with, TurnLeft, turnLeft, advances, turn_of}
-use Rattle.trace.specs.Loop.{wroteIn, Writes, record-line, end_line, bad-line, Replays, cut, refused, ready, joined, Turns, asks, learns, flushes, goes_on, ends, fails, Loops, asks-header, cut-header, bad-header, turns}
+use Rattle.lines.specs.Lines.{bad_bytes}
+use Rattle.trace.specs.Trace.{Areas, call_in, payload_in, is_refused, output_of}
+use Rattle.trace.specs.Turn.{begin_of, begun_by, is_short, stays, ends_with, TurnLeft, turn_left, advances, turn_of}
+use Rattle.trace.specs.Loop.{wrote_in, Writes, record-line, end_line, bad-line, Replays, cut, refused, ready, joined, Turns, asks, learns, flushes, goes_on, ends, fails, Loops, asks-header, cut-header, bad-header, turns}
 use Rattle.trace.specs.declared.Opened.{Opened}
 use Rattle.trace.specs.declared.Opened.TheVariants as opened
 use Rattle.trace.specs.declared.Status.TheVariants as status
@@ -39,11 +39,11 @@ loops-replay _ _ _ _ _ (cut-header c a hand e) = cut c a (hand ++ []) (rw (appen
 loops-replay _ _ _ _ _ (bad-header c a hand pieces e) = refused c a hand (joined pieces) e
 loops-replay _ _ _ _ _ (turns c a hand pieces out e w) = ready c a hand (joined pieces) out e (turns-write _ _ _ _ _ _ (λ q. impossible (sym q)) w)
 
-pub loops-whole : (c : Bool) (a : Areas) (pieces : List (List ℕ)) (out : List ℕ) → Loops c a [] pieces out → out ≡ outputOf c a (joined pieces)
+pub loops-whole : (c : Bool) (a : Areas) (pieces : List (List ℕ)) (out : List ℕ) → Loops c a [] pieces out → out ≡ output_of c a (joined pieces)
 loops-whole c a pieces out w = loop-whole c a (joined pieces) out (loops-replay c a [] pieces out w)
 
 -- a turn that has room: it asks for more, closes, or gives a line
-is-short : (r : RecordRead) → isShort r ≡ true → r ≡ records.Short
+is-short : (r : RecordRead) → is_short r ≡ true → r ≡ records.Short
 is-short records.Short e = refl
 is-short records.Bad e = impossible (sym e)
 is-short (records.Data time number message location stamp n) e = impossible (sym e)
@@ -56,17 +56,17 @@ is-short (records.Clock time stamp) e = impossible (sym e)
 is-short records.Clear e = impossible (sym e)
 
 module _ (t : Trace) (a : Areas) (hand : List ℕ) (last : Bool) where
-  turn-asks : eqb (size_of (recordOf hand)) 0 ≡ true → (isShort (recordOf hand) && not last) ≡ true → turn_of t a hand last (long t a hand) ≡ turnLeft (stays t (long t a hand) status.More) a
+  turn-asks : eqb (size_of (record_of hand)) 0 ≡ true → (is_short (record_of hand) && not last) ≡ true → turn_of t a hand last (long t a hand) ≡ turn_left (stays t (long t a hand) status.More) a
   unfolding turn_of
   turn-asks e m = rw (roomy t a hand, e, m)
 
-  turn-closes : eqb (size_of (recordOf hand)) 0 ≡ true → (isShort (recordOf hand) && not last) ≡ false
-      → turnLeft (ends_with t (long t a hand) (eqb (length hand) 0)) a ≡ turn_of t a hand last (long t a hand)
+  turn-closes : eqb (size_of (record_of hand)) 0 ≡ true → (is_short (record_of hand) && not last) ≡ false
+      → turn_left (ends_with t (long t a hand) (eqb (length hand) 0)) a ≡ turn_of t a hand last (long t a hand)
   unfolding turn_of
   turn-closes e m = rw (roomy t a hand, e, m)
 
-  turn-gives : eqb (size_of (recordOf hand)) 0 ≡ false
-      → advances t a (long t a hand) (call_in (recordOf hand)) (payloadIn hand (recordOf hand)) (size_of (recordOf hand)) ≡ turn_of t a hand last (long t a hand)
+  turn-gives : eqb (size_of (record_of hand)) 0 ≡ false
+      → advances t a (long t a hand) (call_in (record_of hand)) (payload_in hand (record_of hand)) (size_of (record_of hand)) ≡ turn_of t a hand last (long t a hand)
   unfolding turn_of
   turn-gives e = rw (roomy t a hand, e)
 
@@ -74,54 +74,54 @@ module _ (t : Trace) (a : Areas) (hand : List ℕ) (last : Bool) where
 abbrev Ending : Trace → Areas → List ℕ → List (List ℕ) → Bool → Type 0
 Ending t a hand pieces last = (out : List ℕ) × Turns t a hand pieces last out
 
-abbrev toGo : List ℕ → List (List ℕ) → Bool → ℕ
-toGo hand pieces last = length hand + length (joined pieces) + length pieces + cond last 0 1
+abbrev to_go : List ℕ → List (List ℕ) → Bool → ℕ
+to_go hand pieces last = length hand + length (joined pieces) + length pieces + cond last 0 1
 
 abbrev EndsWithin : ℕ → Type 0
-EndsWithin n = (t : Trace) (a : Areas) (hand : List ℕ) (pieces : List (List ℕ)) (last : Bool) → toGo hand pieces last < n → Ending t a hand pieces last
+EndsWithin n = (t : Trace) (a : Areas) (hand : List ℕ) (pieces : List (List ℕ)) (last : Bool) → to_go hand pieces last < n → Ending t a hand pieces last
 
-asks-on : (n : ℕ) → EndsWithin n → (t : Trace) (a : Areas) (hand : List ℕ) (pieces : List (List ℕ)) (last : Bool) → toGo hand pieces last < suc n
-    → eqb (size_of (recordOf hand)) 0 ≡ true → (isShort (recordOf hand) && not last) ≡ true → Ending t a hand pieces last
-asks-on n more t a hand pieces true h e m = impossible (sym (and_right (isShort (recordOf hand)) false m))
+asks-on : (n : ℕ) → EndsWithin n → (t : Trace) (a : Areas) (hand : List ℕ) (pieces : List (List ℕ)) (last : Bool) → to_go hand pieces last < suc n
+    → eqb (size_of (record_of hand)) 0 ≡ true → (is_short (record_of hand) && not last) ≡ true → Ending t a hand pieces last
+asks-on n more t a hand pieces true h e m = impossible (sym (and_right (is_short (record_of hand)) false m))
 asks-on n more t a hand [] false h e m =
-    let room = record-cut hand (is-short (recordOf hand) (and_left (isShort (recordOf hand)) true m)) in
+    let room = record-cut hand (is-short (record_of hand) (and_left (is_short (record_of hand)) true m)) in
     let w = more t a hand [] true (omega arith) in
     (w.0, learns t a hand (long t a hand) w.0 (rw (turn-asks t a hand false e m)) room w.1)
 asks-on n more t a hand (piece ∷ pieces) false h e m =
-    let room = record-cut hand (is-short (recordOf hand) (and_left (isShort (recordOf hand)) true m)) in
+    let room = record-cut hand (is-short (record_of hand) (and_left (is_short (record_of hand)) true m)) in
     let w = more t a (hand ++ piece) pieces false (omega (arith, length-append hand piece, length-append piece (joined pieces))) in
     (w.0, asks t a hand piece pieces (long t a hand) w.0 (rw (turn-asks t a hand false e m)) room w.1)
 
-closes-off : (t : Trace) (a : Areas) (hand : List ℕ) (pieces : List (List ℕ)) (last : Bool) → eqb (size_of (recordOf hand)) 0 ≡ true → (isShort (recordOf hand) && not last) ≡ false
+closes-off : (t : Trace) (a : Areas) (hand : List ℕ) (pieces : List (List ℕ)) (last : Bool) → eqb (size_of (record_of hand)) 0 ≡ true → (is_short (record_of hand) && not last) ≡ false
     → Ending t a hand pieces last
 closes-off t a hand pieces last e m =
-    let x = turnLeft (ends_with t (long t a hand) (eqb (length hand) 0)) a in (
-      wroteIn x,
+    let x = turn_left (ends_with t (long t a hand) (eqb (length hand) 0)) a in (
+      wrote_in x,
       by_bool (eqb (length hand) 0)
           (λ b. ends t a hand pieces last (long t a hand) x (turn-closes t a hand last e m) (rw b))
           (λ b. fails t a hand pieces last (long t a hand) x (turn-closes t a hand last e m) (rw b)),
     )
 
-gives-on : (n : ℕ) → EndsWithin n → (t : Trace) (a : Areas) (hand : List ℕ) (pieces : List (List ℕ)) (last : Bool) → toGo hand pieces last < suc n
-    → eqb (size_of (recordOf hand)) 0 ≡ false → Ending t a hand pieces last
+gives-on : (n : ℕ) → EndsWithin n → (t : Trace) (a : Areas) (hand : List ℕ) (pieces : List (List ℕ)) (last : Bool) → to_go hand pieces last < suc n
+    → eqb (size_of (record_of hand)) 0 ≡ false → Ending t a hand pieces last
 unfolding advances
 gives-on n more t a hand pieces last h e =
-    let r = recordOf hand in
-    let x = advances t a (long t a hand) (call_in r) (payloadIn hand r) (size_of r) in
+    let r = record_of hand in
+    let x = advances t a (long t a hand) (call_in r) (payload_in hand r) (size_of r) in
     let w = more x.outcome.trace x.areas (drop (size_of r) hand) pieces last (omega (arith, length-drop (size_of r) hand, positive (size_of r) e, size-within hand)) in
-    (wroteIn x ++ w.0, goes_on t a hand pieces last (long t a hand) w.0 x (turn-gives t a hand last e) refl w.1)
+    (wrote_in x ++ w.0, goes_on t a hand pieces last (long t a hand) w.0 x (turn-gives t a hand last e) refl w.1)
 
 turns-some : (n : ℕ) → EndsWithin n
 turns-some zero t a hand pieces last h = absurd (omega arith)
 turns-some (suc n) t a hand pieces last h =
-    by_bool (eqb (size_of (recordOf hand)) 0)
+    by_bool (eqb (size_of (record_of hand)) 0)
     (λ e.
-    by_bool (isShort (recordOf hand) && not last)
+    by_bool (is_short (record_of hand) && not last)
     (asks-on n (turns-some n) t a hand pieces last h e)
     (closes-off t a hand pieces last e))
     (gives-on n (turns-some n) t a hand pieces last h)
 
-short-by : (c : Bool) (h : HeaderRead) → (begunBy h c).opened ≡ opened.Short → h ≡ headers.Short
+short-by : (c : Bool) (h : HeaderRead) → (begun_by h c).opened ≡ opened.Short → h ≡ headers.Short
 short-by c headers.Short e = refl
 short-by c headers.Bad e = unlike e (λ k. omega arith)
 short-by c (headers.Header start latency dropping first capacity) e =
@@ -130,24 +130,24 @@ short-by c (headers.Header start latency dropping first capacity) e =
 abbrev Looping : Bool → Areas → List ℕ → List (List ℕ) → Type 0
 Looping c a hand pieces = (out : List ℕ) × Loops c a hand pieces out
 
-loops-by : (c : Bool) (a : Areas) (hand : List ℕ) (pieces : List (List ℕ)) → ((beginOf hand c).opened ≡ opened.Short → Looping c a hand pieces)
-    → (o : Opened) → (beginOf hand c).opened ≡ o → Looping c a hand pieces
+loops-by : (c : Bool) (a : Areas) (hand : List ℕ) (pieces : List (List ℕ)) → ((begin_of hand c).opened ≡ opened.Short → Looping c a hand pieces)
+    → (o : Opened) → (begin_of hand c).opened ≡ o → Looping c a hand pieces
 loops-by c a hand pieces short opened.Short e = short e
-loops-by c a hand pieces short opened.Bad e = (badBytes 0, bad-header c a hand pieces e)
+loops-by c a hand pieces short opened.Bad e = (bad_bytes 0, bad-header c a hand pieces e)
 loops-by c a hand pieces short opened.Ready e =
-    let w = turns-some (suc (toGo (drop 24 hand) pieces false)) (beginOf hand c).trace a (drop 24 hand) pieces false (omega arith) in
+    let w = turns-some (suc (to_go (drop 24 hand) pieces false)) (begin_of hand c).trace a (drop 24 hand) pieces false (omega arith) in
     (w.0, turns c a hand pieces w.0 e w.1)
 
 loops-some : (c : Bool) (a : Areas) (pieces : List (List ℕ)) (hand : List ℕ) → Looping c a hand pieces
-loops-some c a [] hand = loops-by c a hand [] (λ e. (badBytes 0, cut-header c a hand e)) (beginOf hand c).opened refl
+loops-some c a [] hand = loops-by c a hand [] (λ e. (bad_bytes 0, cut-header c a hand e)) (begin_of hand c).opened refl
 loops-some c a (piece ∷ pieces) hand =
     loops-by c a hand (piece ∷ pieces)
     (λ e.
     let w = loops-some c a pieces (hand ++ piece) in
-    (w.0, asks-header c a hand piece pieces w.0 e (header-cut hand (short-by c (headerOf hand) e)) w.1))
-    (beginOf hand c).opened
+    (w.0, asks-header c a hand piece pieces w.0 e (header-cut hand (short-by c (header_of hand) e)) w.1))
+    (begin_of hand c).opened
     refl
 
 -- every file in any pieces
-pub loops-all : (c : Bool) (a : Areas) (pieces : List (List ℕ)) → Loops c a [] pieces (outputOf c a (joined pieces))
+pub loops-all : (c : Bool) (a : Areas) (pieces : List (List ℕ)) → Loops c a [] pieces (output_of c a (joined pieces))
 loops-all c a pieces = let w = loops-some c a pieces [] in subst (Loops c a [] pieces) (loops-whole c a pieces w.0 w.1) w.1

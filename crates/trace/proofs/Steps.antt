@@ -8,27 +8,27 @@ use Rattle.numbers.proofs.Flags.{by-order, and-false}
 use Rattle.head.specs.Head.{made_of}
 use Rattle.head.specs.declared.state.Head.{Head}
 use Rattle.head.specs.declared.state.Made.{Made}
-use Rattle.dlt.specs.Header.{headerOf}
-use Rattle.dlt.specs.Record.{recordOf, size_of}
+use Rattle.dlt.specs.Header.{header_of}
+use Rattle.dlt.specs.Record.{record_of, size_of}
 use Rattle.dlt.proofs.Laws.{record-in}
 use Rattle.dlt.specs.declared.header.HeaderRead.{HeaderRead}
 use Rattle.dlt.specs.declared.header.HeaderRead.TheVariants as headers
 use Rattle.dlt.specs.declared.record.RecordRead.{RecordRead}
 use Rattle.dlt.specs.declared.record.RecordRead.TheVariants as records
 use Rattle.shapes.specs.Ready.{Wrote}
-use Rattle.tally.specs.Tally.{freshTally, tallied, tallyBytes}
+use Rattle.tally.specs.Tally.{fresh_tally, tallied, tally_bytes}
 use Rattle.tally.specs.declared.Tally.{Tally}
-use Rattle.text.specs.Put.{Put, putEnded, put_of}
+use Rattle.text.specs.Put.{Put, put_ended, put_of}
 use Rattle.text.proofs.Puts.{put-cursor, put_then}
-use Rattle.lines.specs.Lines.{lineBytes, endBytes, badBytes}
+use Rattle.lines.specs.Lines.{line_bytes, end_bytes, bad_bytes}
 use Rattle.step.specs.Step as steps
-use Rattle.step.specs.Step.{Ended, ended, state_of, lentFor, step_of}
+use Rattle.step.specs.Step.{Ended, ended, state_of, lent_for, step_of}
 use Rattle.step.specs.declared.Stepped.{Stepped}
 use Rattle.step.specs.declared.Call.{Call}
 use Rattle.step.specs.declared.Call.TheVariants as calls
 use Rattle.step.specs.declared.Answer.{Answer}
-use Rattle.trace.specs.Trace.{Areas, call_in, lengthIn, payloadIn}
-use Rattle.trace.specs.Turn.{noHead, begunAs, begunBy, beginOf, isShort, lineNeed, areasOf, TurnOutcome, turnOutcome, TurnLeft, turnLeft, turned, ends_with, endsBy, advances, turnBy, turn_of}
+use Rattle.trace.specs.Trace.{Areas, call_in, length_in, payload_in}
+use Rattle.trace.specs.Turn.{no_head, begun_as, begun_by, begin_of, is_short, line_need, areas_of, TurnOutcome, turn_outcome, TurnLeft, turn_left, turned, ends_with, ends_by, advances, turn_by, turn_of}
 use Rattle.trace.specs.declared.Turned.{Turned}
 use Rattle.trace.specs.Ready.{RecordHere}
 use Rattle.trace.specs.declared.Status.TheVariants as status
@@ -51,31 +51,31 @@ pub judge-refused : (refusal capacity : ℕ) → (refusal ≡ 0 → ⊥) → Jud
 judge-refused refusal capacity h = rw (ne_eqb _ _ h)
 
 -- begin
-pub no-head-made : {m : Made} → m ≡ made_of (pos 0) 0 false 0 1 → m.head ≡ noHead
+pub no-head-made : {m : Made} → m ≡ made_of (pos 0) 0 false 0 1 → m.head ≡ no_head
 no-head-made e = rw e
 
-pub begun-as : (o : Opened) (h : Head) (counting : Bool) {c : Tally} → c ≡ freshTally counting
-    → record { trace = record { head = h; tally = c; count = 0; offset = 24 }; opened = o } ≡ begunAs o h counting
+pub begun-as : (o : Opened) (h : Head) (counting : Bool) {c : Tally} → c ≡ fresh_tally counting
+    → record { trace = record { head = h; tally = c; count = 0; offset = 24 }; opened = o } ≡ begun_as o h counting
 begun-as o h counting e = rw e
 
 pub begun-made : (start : ℤ) (latency : ℕ) (dropping : Bool) (first capacity : ℕ) (counting : Bool) {n : ℤ} {m : Made} {o : Opened} {b : Begun} → m ≡ made_of n latency dropping first capacity
-    → n ≡ start → Judged m.refusal capacity o → b ≡ begunAs o m.head counting → b ≡ begunBy (headers.Header start latency dropping first capacity) counting
+    → n ≡ start → Judged m.refusal capacity o → b ≡ begun_as o m.head counting → b ≡ begun_by (headers.Header start latency dropping first capacity) counting
 begun-made start latency dropping first capacity counting e q f g = rw (← q, ← e, ← f) g
 
-pub begun-none : (xs : List ℕ) (counting : Bool) {h : Head} {r : HeaderRead} {b : Begun} → r ≡ headerOf xs → r ≡ headers.Short → h ≡ noHead → b ≡ begunAs opened.Short h counting
-    → b ≡ beginOf xs counting
+pub begun-none : (xs : List ℕ) (counting : Bool) {h : Head} {r : HeaderRead} {b : Begun} → r ≡ header_of xs → r ≡ headers.Short → h ≡ no_head → b ≡ begun_as opened.Short h counting
+    → b ≡ begin_of xs counting
 begun-none xs counting e f g k = rw (← e, f, ← g) k
 
-pub begun-bad : (xs : List ℕ) (counting : Bool) {h : Head} {r : HeaderRead} {b : Begun} → r ≡ headerOf xs → r ≡ headers.Bad → h ≡ noHead → b ≡ begunAs opened.Bad h counting
-    → b ≡ beginOf xs counting
+pub begun-bad : (xs : List ℕ) (counting : Bool) {h : Head} {r : HeaderRead} {b : Begun} → r ≡ header_of xs → r ≡ headers.Bad → h ≡ no_head → b ≡ begun_as opened.Bad h counting
+    → b ≡ begin_of xs counting
 begun-bad xs counting e f g k = rw (← e, f, ← g) k
 
 pub begun-header : (xs : List ℕ) (counting : Bool) {r : HeaderRead} {start n : ℤ} {latency : ℕ} {dropping : Bool} {first capacity : ℕ} {b : Begun}
-    → r ≡ headerOf xs → r ≡ headers.Header start latency dropping first capacity → n ≡ start → b ≡ begunBy (headers.Header n latency dropping first capacity) counting → b ≡ beginOf xs counting
+    → r ≡ header_of xs → r ≡ headers.Header start latency dropping first capacity → n ≡ start → b ≡ begun_by (headers.Header n latency dropping first capacity) counting → b ≡ begin_of xs counting
 begun-header xs counting e f q k = rw (← e, f, ← q) k
 
 -- length_of
-pub length-data : (r : RecordRead) {time : ℤ} {number message location stamp n : ℕ} → r ≡ records.Data time number message location stamp n → n ≡ lengthIn r
+pub length-data : (r : RecordRead) {time : ℤ} {number message location stamp n : ℕ} → r ≡ records.Data time number message location stamp n → n ≡ length_in r
 length-data r e = rw e
 
 -- call_of
@@ -104,10 +104,10 @@ module _ (r : RecordRead) where
 
 -- has_room
 module _ (line list : List ℕ) where
-  pub room-none : length line < 700 → false ≡ leb (lineNeed list) (length line)
-  room-none h = sym (lt-leb (lineNeed list) (length line) (omega arith))
+  pub room-none : length line < 700 → false ≡ leb (line_need list) (length line)
+  room-none h = sym (lt-leb (line_need list) (length line) (omega arith))
 
-  pub room-by-words : {b : Bool} → 700 ≤ length line → b ≡ leb (length list) ((length line - 700) / 21) → b ≡ leb (lineNeed list) (length line)
+  pub room-by-words : {b : Bool} → 700 ≤ length line → b ≡ leb (length list) ((length line - 700) / 21) → b ≡ leb (line_need list) (length line)
   room-by-words {b} h e = e ∙ same (length list) (length line) h
     where
       same : (n m : ℕ) → 700 ≤ m → leb n ((m - 700) / 21) ≡ leb (700 + 21 * n) m
@@ -118,27 +118,27 @@ module _ (line list : List ℕ) where
 
 -- answer_line: an answer by its case
 module _ (line : List ℕ) (nth : ℕ) (list : List ℕ) where
-  pub answer-case : (a b : Answer) {x : Put} → a ≡ b → x ≡ put_of line 0 (lineBytes nth (steps.line_of b list)) → x ≡ put_of line 0 (lineBytes nth (steps.line_of a list))
+  pub answer-case : (a b : Answer) {x : Put} → a ≡ b → x ≡ put_of line 0 (line_bytes nth (steps.line_of b list)) → x ≡ put_of line 0 (line_bytes nth (steps.line_of a list))
   answer-case a b h e = rw h e
 
 -- advance
-pub room_after : (line list list₁ : List ℕ) → length list₁ ≡ length list → lineNeed list ≤ length line → lineNeed list₁ ≤ length line
+pub room_after : (line list list₁ : List ℕ) → length list₁ ≡ length list → line_need list ≤ length line → line_need list₁ ≤ length line
 room_after line list list₁ e h = rw e h
 
 -- what a call left, with the counters, the count, the offset and what was written
 abbrev leaves : ℕ → Ended → Tally → ℕ → ℕ → Put → TurnLeft
 leaves size x tally count offset w =
-    turnLeft (turnOutcome (record { head = x.state.head; tally = tally; count = count; offset = offset }) size w status.Line)
-    (areasOf x.state.slots x.state.payloads x.state.history x.output x.list)
+    turn_left (turn_outcome (record { head = x.state.head; tally = tally; count = count; offset = offset }) size w status.Line)
+    (areas_of x.state.slots x.state.payloads x.state.history x.output x.list)
 
 module _ (t : Trace) (ws bs a out list line : List ℕ) (call : Call) (payload : List ℕ) (size : ℕ) where
   pub advanced : {count offset n : ℕ} {s : Stepped} {c : Tally} {ws₁ bs₁ a₁ out₁ list₁ line₁ : List ℕ}
       → count ≡ (t.count + 1) % 2 ^ 64 → offset ≡ (t.offset + size) % 2 ^ 64
-      → ended s ws₁ bs₁ a₁ out₁ list₁ ≡ step_of (state_of t.head ws bs a) (lentFor payload out list) call
-      → putEnded n line₁ ≡ put_of line 0 (lineBytes count (steps.line_of s.answer list₁))
+      → ended s ws₁ bs₁ a₁ out₁ list₁ ≡ step_of (state_of t.head ws bs a) (lent_for payload out list) call
+      → put_ended n line₁ ≡ put_of line 0 (line_bytes count (steps.line_of s.answer list₁))
       → c ≡ tallied t.tally (length payload) s.answer
-      → turnLeft (turnOutcome (record { head = s.head; tally = c; count = count; offset = offset }) size (putEnded n line₁) status.Line) (areasOf ws₁ bs₁ a₁ out₁ list₁)
-      ≡ advances t (areasOf ws bs a out list) line call payload size
+      → turn_left (turn_outcome (record { head = s.head; tally = c; count = count; offset = offset }) size (put_ended n line₁) status.Line) (areas_of ws₁ bs₁ a₁ out₁ list₁)
+      ≡ advances t (areas_of ws bs a out list) line call payload size
   unfolding sum advances
   advanced {count} {offset} {n} {s} {c} {ws₁} {bs₁} {a₁} {out₁} {list₁} e f g p k =
       ap (leaves size (ended s ws₁ bs₁ a₁ out₁ list₁) c count offset) p
@@ -146,34 +146,34 @@ module _ (t : Trace) (ws bs a out list line : List ℕ) (call : Call) (payload :
       (ap
       (λ (x : Ended).
       leaves size x (tallied t.tally (length payload) x.answer) (sum 64 t.count 1) (sum 64 t.offset size)
-      (put_of line 0 (lineBytes (sum 64 t.count 1) x.line)))
+      (put_of line 0 (line_bytes (sum 64 t.count 1) x.line)))
       g)
 
 -- end, bad, close
 module _ (t : Trace) (line : List ℕ) {line₁ : List ℕ} where
-  pub ended-with : {p n : ℕ} {line₂ : List ℕ} → 700 ≤ length line → Wrote line 0 (endBytes t.count t.head.window.lrsn t.head.window.seqno0 t.head.window.held) 256 p line₂
-      → Wrote line₂ p (tallyBytes t.tally) 429 n line₁ → turnOutcome t 0 (putEnded n line₁) status.End ≡ ends_with t line true
+  pub ended-with : {p n : ℕ} {line₂ : List ℕ} → 700 ≤ length line → Wrote line 0 (end_bytes t.count t.head.window.lrsn t.head.window.seqno0 t.head.window.held) 256 p line₂
+      → Wrote line₂ p (tally_bytes t.tally) 429 n line₁ → turn_outcome t 0 (put_ended n line₁) status.End ≡ ends_with t line true
   ended-with room e f =
       let k = put-cursor line 0 _ e.bytes in
       let l = e.within in
-      ap (λ (p : Put). turnOutcome t 0 p status.End)
-      (put_then line 0 (endBytes t.count t.head.window.lrsn t.head.window.seqno0 t.head.window.held) (tallyBytes t.tally) e.bytes f.bytes (omega arith))
+      ap (λ (p : Put). turn_outcome t 0 p status.End)
+      (put_then line 0 (end_bytes t.count t.head.window.lrsn t.head.window.seqno0 t.head.window.held) (tally_bytes t.tally) e.bytes f.bytes (omega arith))
 
-  pub ended-bad : {n : ℕ} → putEnded n line₁ ≡ put_of line 0 (badBytes t.offset) → turnOutcome t 0 (putEnded n line₁) status.Bad ≡ ends_with t line false
-  ended-bad e = ap (λ (p : Put). turnOutcome t 0 p status.Bad) e
+  pub ended-bad : {n : ℕ} → put_ended n line₁ ≡ put_of line 0 (bad_bytes t.offset) → turn_outcome t 0 (put_ended n line₁) status.Bad ≡ ends_with t line false
+  ended-bad e = ap (λ (p : Put). turn_outcome t 0 p status.Bad) e
 
 module _ (t : Trace) (line : List ℕ) (more empty : Bool) {line₁ : List ℕ} {r : Turned} where
-  pub close_more : more ≡ true → r ≡ record { trace = t; size = 0; length = 0; status = status.More } → line₁ ≡ line → turned r line₁ ≡ endsBy t line more empty
+  pub close_more : more ≡ true → r ≡ record { trace = t; size = 0; length = 0; status = status.More } → line₁ ≡ line → turned r line₁ ≡ ends_by t line more empty
   close_more e f g = rw (e, f, g)
 
-  pub close-end : more ≡ false → empty ≡ true → turned r line₁ ≡ ends_with t line true → turned r line₁ ≡ endsBy t line more empty
+  pub close-end : more ≡ false → empty ≡ true → turned r line₁ ≡ ends_with t line true → turned r line₁ ≡ ends_by t line more empty
   close-end e f g = rw (e, f) g
 
-  pub close-bad : more ≡ false → empty ≡ false → turned r line₁ ≡ ends_with t line false → turned r line₁ ≡ endsBy t line more empty
+  pub close-bad : more ≡ false → empty ≡ false → turned r line₁ ≡ ends_with t line false → turned r line₁ ≡ ends_by t line more empty
   close-bad e f g = rw (e, f) g
 
 -- make: a record's payload is the end of it
-payload-no-longer : (r : RecordRead) → lengthIn r ≤ size_of r
+payload-no-longer : (r : RecordRead) → length_in r ≤ size_of r
 payload-no-longer records.Short = omega arith
 payload-no-longer records.Bad = omega arith
 payload-no-longer (records.Data time number message location stamp n) = omega arith
@@ -185,7 +185,7 @@ payload-no-longer (records.Drop first last) = omega arith
 payload-no-longer (records.Clock time stamp) = omega arith
 payload-no-longer records.Clear = omega arith
 
-payload-lies : (piece : List ℕ) (at : ℕ) (r : RecordRead) → take (lengthIn r) (drop (at + size_of r - lengthIn r) piece) ≡ payloadIn (drop at piece) r
+payload-lies : (piece : List ℕ) (at : ℕ) (r : RecordRead) → take (length_in r) (drop (at + size_of r - length_in r) piece) ≡ payload_in (drop at piece) r
 payload-lies piece at records.Short = refl
 payload-lies piece at records.Bad = refl
 payload-lies piece at (records.Data time number message location stamp n) =
@@ -198,7 +198,7 @@ payload-lies piece at (records.Drop first last) = refl
 payload-lies piece at (records.Clock time stamp) = refl
 payload-lies piece at records.Clear = refl
 
-pub whole_is : (list line piece : List ℕ) (at : ℕ) {r : RecordRead} {size : ℕ} → lineNeed list ≤ length line → r ≡ recordOf (drop at piece) → size ≡ size_of r
+pub whole_is : (list line piece : List ℕ) (at : ℕ) {r : RecordRead} {size : ℕ} → line_need list ≤ length line → r ≡ record_of (drop at piece) → size ≡ size_of r
     → (size ≡ 0 → ⊥) → RecordHere list line piece at r size
 whole_is list line piece at {r} {size} a b c d =
     record {
@@ -210,20 +210,20 @@ whole_is list line piece at {r} {size} a b c d =
     }
 
 pub made-is : (t : Trace) (a : Areas) (list line piece : List ℕ) (at : ℕ) (r : RecordRead) (size n : ℕ) {call : Call} {x : TurnLeft} → RecordHere list line piece at r size
-    → call ≡ call_in r → n ≡ lengthIn r → x ≡ advances t a line call (take (at + size - (at + size - n)) (drop (at + size - n) piece)) size
-    → x ≡ advances t a line (call_in r) (payloadIn (drop at piece) r) size
+    → call ≡ call_in r → n ≡ length_in r → x ≡ advances t a line call (take (at + size - (at + size - n)) (drop (at + size - n) piece)) size
+    → x ≡ advances t a line (call_in r) (payload_in (drop at piece) r) size
 made-is t a list line piece at r size n w e f g =
     let short : n ≤ size = rw f w.pays in
     let k : at + size - (at + size - n) ≡ n = omega arith in
-    let same : take (at + size - (at + size - n)) (drop (at + size - n) piece) ≡ payloadIn (drop at piece) r =
+    let same : take (at + size - (at + size - n)) (drop (at + size - n) piece) ≡ payload_in (drop at piece) r =
     rw (k, f, w.sized) (payload-lies piece at r) in
     g ∙ rw (e, same)
 
 -- may_come, is_empty, turn
-pub come-not : (r : RecordRead) (last : Bool) → last ≡ true → false ≡ (isShort r && not last)
-come-not r last e = rw (e, and-false (isShort r) refl)
+pub come-not : (r : RecordRead) (last : Bool) → last ≡ true → false ≡ (is_short r && not last)
+come-not r last e = rw (e, and-false (is_short r) refl)
 
-pub come-so : (r : RecordRead) (last : Bool) {b : Bool} → last ≡ false → b ≡ isShort r → b ≡ (isShort r && not last)
+pub come-so : (r : RecordRead) (last : Bool) {b : Bool} → last ≡ false → b ≡ is_short r → b ≡ (is_short r && not last)
 come-so r last {b} e f = rw (e, ← f) (sym (and-true b))
 
 pub empty-by : (piece : List ℕ) (at : ℕ) {b : Bool} → b ≡ leb (length piece) at → b ≡ eqb (length (drop at piece)) 0
@@ -234,24 +234,24 @@ empty-by piece at e =
     (λ h. rw (le-leb _ _ h, length-drop at piece) (let k : length piece - at ≡ 0 = omega arith in rw k))
 
 module _ (t : Trace) (a : Areas) (rest : List ℕ) (last : Bool) (line : List ℕ) {r : RecordRead} {n : ℕ} where
-  pub turn-close : {more empty : Bool} {o : TurnOutcome} → r ≡ recordOf rest → n ≡ size_of r → n ≡ 0 → more ≡ (isShort r && not last) → empty ≡ eqb (length rest) 0
-      → o ≡ endsBy t line more empty → turnLeft o a ≡ turnBy t a rest last line (recordOf rest)
+  pub turn-close : {more empty : Bool} {o : TurnOutcome} → r ≡ record_of rest → n ≡ size_of r → n ≡ 0 → more ≡ (is_short r && not last) → empty ≡ eqb (length rest) 0
+      → o ≡ ends_by t line more empty → turn_left o a ≡ turn_by t a rest last line (record_of rest)
   turn-close e f g h k o = rw (← e, ← f, g, ← h, ← k, o)
 
-  pub turn-made : {x : TurnLeft} → r ≡ recordOf rest → n ≡ size_of r → (n ≡ 0 → ⊥) → x ≡ advances t a line (call_in r) (payloadIn rest r) n → x ≡ turnBy t a rest last line (recordOf rest)
+  pub turn-made : {x : TurnLeft} → r ≡ record_of rest → n ≡ size_of r → (n ≡ 0 → ⊥) → x ≡ advances t a line (call_in r) (payload_in rest r) n → x ≡ turn_by t a rest last line (record_of rest)
   turn-made e f g h = rw (← e, ← f, ne_eqb n 0 g) h
 
 -- next
-pub room-so : (list line : List ℕ) {b : Bool} → b ≡ leb (lineNeed list) (length line) → b ≡ true → lineNeed list ≤ length line
+pub room-so : (list line : List ℕ) {b : Bool} → b ≡ leb (line_need list) (length line) → b ≡ true → line_need list ≤ length line
 room-so list line e f = leb-true _ _ (sym e ∙ f)
 
 module _ (t : Trace) (a : Areas) (rest : List ℕ) (last : Bool) (line : List ℕ) {b : Bool} where
-  pub next-short : {line₁ : List ℕ} {r : Turned} → b ≡ leb (lineNeed a.list) (length line) → b ≡ false → r ≡ record { trace = t; size = 0; length = 0; status = status.LineShort } → line₁ ≡ line
-      → turnLeft (turned r line₁) a ≡ turn_of t a rest last line
+  pub next-short : {line₁ : List ℕ} {r : Turned} → b ≡ leb (line_need a.list) (length line) → b ≡ false → r ≡ record { trace = t; size = 0; length = 0; status = status.LineShort } → line₁ ≡ line
+      → turn_left (turned r line₁) a ≡ turn_of t a rest last line
   unfolding turn_of
   next-short e f g h = rw (← e, f, g, h)
 
-  pub next-turn : {x : TurnLeft} → b ≡ leb (lineNeed a.list) (length line) → b ≡ true → x ≡ turnBy t a rest last line (recordOf rest) → x ≡ turn_of t a rest last line
+  pub next-turn : {x : TurnLeft} → b ≡ leb (line_need a.list) (length line) → b ≡ true → x ≡ turn_by t a rest last line (record_of rest) → x ≡ turn_of t a rest last line
   unfolding turn_of
   next-turn e f g = rw (← e, f) g
 

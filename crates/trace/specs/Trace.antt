@@ -4,15 +4,15 @@ use Rattle.numbers.specs.Circular.{sum}
 use Rattle.head.specs.Head.{made_of}
 use Rattle.head.specs.declared.state.Head.{Head}
 use Rattle.head.specs.declared.state.Made.{Made}
-use Rattle.dlt.specs.Header.{headerOf}
-use Rattle.dlt.specs.Record.{recordOf, size_of}
+use Rattle.dlt.specs.Header.{header_of}
+use Rattle.dlt.specs.Record.{record_of, size_of}
 use Rattle.dlt.specs.declared.header.HeaderRead.{HeaderRead}
 use Rattle.dlt.specs.declared.header.HeaderRead.TheVariants as headers
 use Rattle.dlt.specs.declared.record.RecordRead.{RecordRead}
 use Rattle.dlt.specs.declared.record.RecordRead.TheVariants as records
-use Rattle.lines.specs.Lines.{lineBytes, endBytes, badBytes}
-use Rattle.step.specs.Step.{state_of, lentFor, Ended, step_of}
-use Rattle.tally.specs.Tally.{freshTally, tallied, tallyBytes}
+use Rattle.lines.specs.Lines.{line_bytes, end_bytes, bad_bytes}
+use Rattle.step.specs.Step.{state_of, lent_for, Ended, step_of}
+use Rattle.tally.specs.Tally.{fresh_tally, tallied, tally_bytes}
 use Rattle.tally.specs.declared.Tally.{Tally}
 use Rattle.step.specs.declared.Call.{Call}
 use Rattle.step.specs.declared.Call.TheVariants as calls
@@ -47,27 +47,27 @@ call_in (records.Clock time stamp) = calls.Clock time stamp
 call_in records.Clear = calls.Clear
 
 -- the length of its payload, which follows the 24 bytes that every data record has
-abbrev pub lengthIn : RecordRead → ℕ
-lengthIn records.Short = 0
-lengthIn records.Bad = 0
-lengthIn (records.Data time number message location stamp n) = n
-lengthIn (records.Pop time) = 0
-lengthIn (records.Report time) = 0
-lengthIn (records.FullAck time) = 0
-lengthIn (records.Ack2 time number) = 0
-lengthIn (records.Drop first last) = 0
-lengthIn (records.Clock time stamp) = 0
-lengthIn records.Clear = 0
+abbrev pub length_in : RecordRead → ℕ
+length_in records.Short = 0
+length_in records.Bad = 0
+length_in (records.Data time number message location stamp n) = n
+length_in (records.Pop time) = 0
+length_in (records.Report time) = 0
+length_in (records.FullAck time) = 0
+length_in (records.Ack2 time number) = 0
+length_in (records.Drop first last) = 0
+length_in (records.Clock time stamp) = 0
+length_in records.Clear = 0
 
-abbrev pub payloadIn : List ℕ → RecordRead → List ℕ
-payloadIn rest r = take (lengthIn r) (drop 24 rest)
+abbrev pub payload_in : List ℕ → RecordRead → List ℕ
+payload_in rest r = take (length_in r) (drop 24 rest)
 
 -- a record's call, with its payload, on the receiver and the areas as they are
 abbrev pub called : Replay → Call → List ℕ → Ended
 called t call payload =
     step_of
     (state_of t.head t.areas.slots t.areas.payloads t.areas.history)
-    (lentFor payload t.areas.output t.areas.list)
+    (lent_for payload t.areas.output t.areas.list)
     call
 
 -- the replay behind a record of that payload and size; records and bytes are counted mod 2^64, which no file reaches
@@ -84,14 +84,14 @@ replayed t payload size e =
 
 -- the record's number (from 1), and the line of its answer
 abbrev pub line_of : Replay → Ended → List ℕ
-line_of t e = lineBytes (sum 64 t.count 1) e.line
+line_of t e = line_bytes (sum 64 t.count 1) e.line
 
 -- end: records, lrsn, seqno0, held, and behind it the counters if they are asked for; bad: the record's offset
 abbrev pub end_of : Replay → List ℕ
-end_of t = endBytes t.count t.head.window.lrsn t.head.window.seqno0 t.head.window.held ++ tallyBytes t.tally
+end_of t = end_bytes t.count t.head.window.lrsn t.head.window.seqno0 t.head.window.held ++ tally_bytes t.tally
 
-abbrev pub badOf : Replay → List ℕ
-badOf t = badBytes t.offset
+abbrev pub bad_of : Replay → List ℕ
+bad_of t = bad_bytes t.offset
 
 -- x if the test holds, else f; f is asked for only then, so that a long file costs what it has
 abbrev pub or_else : Bool → List ℕ → (Unit {0} → List ℕ) → List ℕ
@@ -100,35 +100,35 @@ or_else false x f = f tt
 
 -- no record is left: at the end of the file it is the end, and a record that is cut, unknown or too long is bad
 abbrev pub closing : Replay → List ℕ → List ℕ
-closing t rest = cond (length rest == 0) (end_of t) (badOf t)
+closing t rest = cond (length rest == 0) (end_of t) (bad_of t)
 
 -- the rest of the file, a line a record; it has at most n records
 unfoldable pub lines_of : ℕ → Replay → List ℕ → List ℕ
 lines_of zero t rest = closing t rest
 lines_of (suc n) t rest =
-    let r = recordOf rest in
+    let r = record_of rest in
     or_else (size_of r == 0) (closing t rest)
     (λ u.
-    let payload = payloadIn rest r in
+    let payload = payload_in rest r in
     let e = called t (call_in r) payload in
     line_of t e ++ lines_of n (replayed t payload (size_of r) e) (drop (size_of r) rest))
 
 -- a fresh replay; counting asks for the counters
-abbrev pub freshReplay : Bool → Areas → Head → Replay
-freshReplay counting a h = record { count = 0; offset = 24; head = h; tally = freshTally counting; areas = a }
+abbrev pub fresh_replay : Bool → Areas → Head → Replay
+fresh_replay counting a h = record { count = 0; offset = 24; head = h; tally = fresh_tally counting; areas = a }
 
 -- a refused setting or a capacity over 32 is bad
 abbrev pub is_refused : Made → ℕ → Bool
 is_refused m capacity = not (m.refusal == 0 && nat_le capacity 32)
 
 -- by its header; every record has a byte at least, so there are no more records than bytes
-abbrev pub byHeader : Bool → Areas → HeaderRead → List ℕ → List ℕ
-byHeader counting a headers.Short rest = badBytes 0
-byHeader counting a headers.Bad rest = badBytes 0
-byHeader counting a (headers.Header start latency dropping first capacity) rest =
+abbrev pub by_header : Bool → Areas → HeaderRead → List ℕ → List ℕ
+by_header counting a headers.Short rest = bad_bytes 0
+by_header counting a headers.Bad rest = bad_bytes 0
+by_header counting a (headers.Header start latency dropping first capacity) rest =
     let m = made_of start latency dropping first capacity in
-    or_else (is_refused m capacity) (badBytes 0) (λ u. lines_of (length rest) (freshReplay counting a m.head) rest)
+    or_else (is_refused m capacity) (bad_bytes 0) (λ u. lines_of (length rest) (fresh_replay counting a m.head) rest)
 
 -- the whole output for a whole file: 01's lines, with the counters behind the end line if they are asked for
-unfoldable pub outputOf : Bool → Areas → List ℕ → List ℕ
-outputOf counting a file = byHeader counting a (headerOf file) (drop 24 file)
+unfoldable pub output_of : Bool → Areas → List ℕ → List ℕ
+output_of counting a file = by_header counting a (header_of file) (drop 24 file)

@@ -1,13 +1,13 @@
 // The trace: 01's file format read record by record, each record a call of the receiver, each answer a line. 01, "Trace, mark DLT".
 // Nothing here reads or writes a file: the bytes at hand and a line are lent.
 ghost use Rattle.std.specs.Prelude.{◌≡◌, ◌≤◌, true, false, not, ◌&&◌, length, drop, if◌then◌else◌, ◌==◌, nat_le};
-ghost use Rattle.dlt.specs.Record.{recordOf};
+ghost use Rattle.dlt.specs.Record.{record_of};
 ghost use Rattle.dlt.specs.declared.header.HeaderRead.TheVariants as headers;
-ghost use Rattle.text.specs.Put.{putEnded, put_of};
-ghost use Rattle.lines.specs.Lines.{lineBytes};
+ghost use Rattle.text.specs.Put.{put_ended, put_of};
+ghost use Rattle.lines.specs.Lines.{line_bytes};
 ghost use Rattle.step.specs.Step as steps;
-ghost use Rattle.trace.specs.Trace.{call_in, lengthIn, payloadIn};
-ghost use Rattle.trace.specs.Turn.{noHead, begunAs, begunBy, beginOf, areasOf, turnLeft, turned, isShort, lineNeed, ends_with, endsBy, advances, turnBy, turn_of};
+ghost use Rattle.trace.specs.Trace.{call_in, length_in, payload_in};
+ghost use Rattle.trace.specs.Turn.{no_head, begun_as, begun_by, begin_of, areas_of, turn_left, turned, is_short, line_need, ends_with, ends_by, advances, turn_by, turn_of};
 ghost use Rattle.trace.specs.Ready.{RecordHere};
 ghost use Rattle.trace.specs.declared.Opened.TheVariants as opened;
 
@@ -77,7 +77,7 @@ fn judge(refusal: u32, capacity: usize) -> Opened
 }
 
 fn begun_as(opened: Opened, head: Head, counting: bool) -> Begun
-    ensures { result ≡ begunAs opened head counting }
+    ensures { result ≡ begun_as opened head counting }
 {
     let trace = Trace {
         head,
@@ -89,7 +89,7 @@ fn begun_as(opened: Opened, head: Head, counting: bool) -> Begun
 }
 
 fn no_head() -> Head
-    ensures { result ≡ noHead }
+    ensures { result ≡ no_head }
 {
     let made = Head::new(0, 0, false, 0, 1);
     made.head
@@ -103,7 +103,7 @@ fn begun_by(
     capacity: usize,
     counting: bool,
 ) -> Begun
-    ensures { result ≡ begunBy (headers.Header start latency dropping first capacity) counting }
+    ensures { result ≡ begun_by (headers.Header start latency dropping first capacity) counting }
 {
     let made = Head::new(start, latency, dropping, first, capacity);
     let head = made.head;
@@ -112,7 +112,7 @@ fn begun_by(
 
 // The header, from the bytes that the file starts with, and the receiver by its settings; `counting` asks for the counters' line behind the end line.
 pub fn begin(piece: &[u8], counting: bool) -> Begun
-    ensures { result ≡ beginOf piece.now counting }
+    ensures { result ≡ begin_of piece.now counting }
 {
     match dlt::header::header(piece) {
         HeaderRead::Short => begun_as(Opened::Short, no_head(), counting),
@@ -158,7 +158,7 @@ fn call_of(r: RecordRead) -> Call
 }
 
 fn length_of(r: RecordRead) -> usize
-    ensures { result ≡ lengthIn r }
+    ensures { result ≡ length_in r }
 {
     match r {
         RecordRead::Short => 0,
@@ -183,7 +183,7 @@ fn length_of(r: RecordRead) -> usize
 
 // Whether the bytes end within the record.
 fn is_short(r: RecordRead) -> bool
-    ensures { result ≡ isShort r }
+    ensures { result ≡ is_short r }
 {
     match r {
         RecordRead::Short => true,
@@ -208,7 +208,7 @@ fn is_short(r: RecordRead) -> bool
 
 // 700 bytes and 21 a word, without a product that might be too large.
 fn has_room(line: &[u8], list: &[u32]) -> bool
-    ensures { result ≡ nat_le (lineNeed list.now) (length line.now) }
+    ensures { result ≡ nat_le (line_need list.now) (length line.now) }
 {
     if line.len() < 700 {
         return false;
@@ -218,8 +218,8 @@ fn has_room(line: &[u8], list: &[u32]) -> bool
 
 // The line of an answer, at the start of the lent line.
 fn answer_line(line: &mut [u8], nth: u64, answer: Answer, list: &[u32]) -> usize
-    requires { lineNeed list.now ≤ length line.old }
-    ensures { putEnded result line.new ≡ put_of line.old 0 (lineBytes nth (steps.line_of answer list.now)) }
+    requires { line_need list.now ≤ length line.old }
+    ensures { put_ended result line.new ≡ put_of line.old 0 (line_bytes nth (steps.line_of answer list.now)) }
 {
     match answer {
         Answer::Data(a) => lines::data_line(line, 0, nth, a),
@@ -246,8 +246,8 @@ fn advance(
     payload: &[u8],
     size: usize,
 ) -> Turned
-    requires { lineNeed list.old ≤ length line.old }
-    ensures { turnLeft (turned result line.new) (areasOf words.new bytes.new area.new out.new list.new) ≡ advances t (areasOf words.old bytes.old area.old out.old list.old) line.old call payload.now size }
+    requires { line_need list.old ≤ length line.old }
+    ensures { turn_left (turned result line.new) (areas_of words.new bytes.new area.new out.new list.new) ≡ advances t (areas_of words.old bytes.old area.old out.old list.old) line.old call payload.now size }
 {
     let count = std::num::wrapping_add_u64(t.count, 1);
     let offset = std::num::wrapping_add_u64(t.offset, size as u64);
@@ -316,7 +316,7 @@ fn bad(t: Trace, line: &mut [u8]) -> Turned
 // No record is at hand: more may come, or it is the end, or it is bad.
 fn close(t: Trace, line: &mut [u8], more: bool, empty: bool) -> Turned
     requires { 700 ≤ length line.old }
-    ensures { turned result line.new ≡ endsBy t line.old more empty }
+    ensures { turned result line.new ≡ ends_by t line.old more empty }
 {
     if more {
         return stay(t, Status::More);
@@ -342,7 +342,7 @@ fn make(
     size: usize,
 ) -> Turned
     requires { RecordHere list.old line.old piece.now at r size }
-    ensures { turnLeft (turned result line.new) (areasOf words.new bytes.new area.new out.new list.new) ≡ advances t (areasOf words.old bytes.old area.old out.old list.old) line.old (call_in r) (payloadIn (drop at piece.now) r) size }
+    ensures { turn_left (turned result line.new) (areas_of words.new bytes.new area.new out.new list.new) ≡ advances t (areas_of words.old bytes.old area.old out.old list.old) line.old (call_in r) (payload_in (drop at piece.now) r) size }
 {
     let call = call_of(r);
     let n = length_of(r);
@@ -363,7 +363,7 @@ fn make(
 }
 
 fn may_come(r: RecordRead, last: bool) -> bool
-    ensures { result ≡ (isShort r && not last) }
+    ensures { result ≡ (is_short r && not last) }
 {
     if last {
         return false;
@@ -390,8 +390,8 @@ fn turn(
     at: usize,
     last: bool,
 ) -> Turned
-    requires { lineNeed list.old ≤ length line.old }
-    ensures { turnLeft (turned result line.new) (areasOf words.new bytes.new area.new out.new list.new) ≡ turnBy t (areasOf words.old bytes.old area.old out.old list.old) (drop at piece.now) last line.old (recordOf (drop at piece.now)) }
+    requires { line_need list.old ≤ length line.old }
+    ensures { turn_left (turned result line.new) (areas_of words.new bytes.new area.new out.new list.new) ≡ turn_by t (areas_of words.old bytes.old area.old out.old list.old) (drop at piece.now) last line.old (record_of (drop at piece.now)) }
 {
     let r = dlt::record::record(piece, at);
     let size = dlt::record::size(r);
@@ -417,7 +417,7 @@ pub fn next(
     at: usize,
     last: bool,
 ) -> Turned
-    ensures { turnLeft (turned result line.new) (areasOf words.new bytes.new area.new out.new list.new) ≡ turn_of t (areasOf words.old bytes.old area.old out.old list.old) (drop at piece.now) last line.old }
+    ensures { turn_left (turned result line.new) (areas_of words.new bytes.new area.new out.new list.new) ≡ turn_of t (areas_of words.old bytes.old area.old out.old list.old) (drop at piece.now) last line.old }
 {
     if has_room(line, list) {
         return turn(t, words, bytes, area, out, list, line, piece, at, last);

@@ -6,27 +6,27 @@ use Prim.Native.Nat.{ℕ}
 use lib.Dec.{eqb}
 use lib.ListN.{length}
 use Rattle.numbers.proofs.Flags.{by-test}
-use Rattle.head.specs.Rules.{firstRefusal, dropRules, headRules}
-use Rattle.head.specs.Head.{headOk}
+use Rattle.head.specs.Rules.{first_refusal, drop_rules, head_rules}
+use Rattle.head.specs.Head.{head_ok}
 use Rattle.head.specs.declared.state.Head.{Head}
-use Rattle.upkeep.specs.Request.{DropOutcome, dropCallOf, ClearOutcome, clearCallOf}
-use Rattle.upkeep.specs.Paper.{dropLine, clearLine}
+use Rattle.upkeep.specs.Request.{DropOutcome, drop_call_of, ClearOutcome, clear_call_of}
+use Rattle.upkeep.specs.Paper.{drop_line, clear_line}
 
 module _ (h : Head) where
-  pub drop-line : (ws : List ℕ) (first last : ℕ) → (dropCallOf h ws first last).line ≡ dropLine (dropCallOf h ws first last).answer
-  unfolding dropCallOf
+  pub drop-line : (ws : List ℕ) (first last : ℕ) → (drop_call_of h ws first last).line ≡ drop_line (drop_call_of h ws first last).answer
+  unfolding drop_call_of
   drop-line ws first last =
-      by-test (λ (o : DropOutcome). o.line ≡ dropLine o.answer) (eqb (firstRefusal (dropRules (headOk h) h.window.capacity (length ws) first last)) 0) _ _
+      by-test (λ (o : DropOutcome). o.line ≡ drop_line o.answer) (eqb (first_refusal (drop_rules (head_ok h) h.window.capacity (length ws) first last)) 0) _ _
       (λ t. refl)
       (λ t. refl)
 
-  pub clear-line : (clearCallOf h).line ≡ clearLine (clearCallOf h).cleared.answer
-  unfolding clearCallOf
-  clear-line = by-test (λ (o : ClearOutcome). o.line ≡ clearLine o.cleared.answer) (eqb (firstRefusal (headRules (headOk h))) 0) _ _ (λ t. refl) (λ t. refl)
+  pub clear-line : (clear_call_of h).line ≡ clear_line (clear_call_of h).cleared.answer
+  unfolding clear_call_of
+  clear-line = by-test (λ (o : ClearOutcome). o.line ≡ clear_line o.cleared.answer) (eqb (first_refusal (head_rules (head_ok h))) 0) _ _ (λ t. refl) (λ t. refl)
 
-  pub clear-head : ((clearCallOf h).line.refusal ≡ 0 → ⊥) → (clearCallOf h).cleared.head ≡ h
-  unfolding clearCallOf
+  pub clear-head : ((clear_call_of h).line.refusal ≡ 0 → ⊥) → (clear_call_of h).cleared.head ≡ h
+  unfolding clear_call_of
   clear-head =
-      by-test (λ (o : ClearOutcome). (o.line.refusal ≡ 0 → ⊥) → o.cleared.head ≡ h) (eqb (firstRefusal (headRules (headOk h))) 0) _ _
+      by-test (λ (o : ClearOutcome). (o.line.refusal ≡ 0 → ⊥) → o.cleared.head ≡ h) (eqb (first_refusal (head_rules (head_ok h))) 0) _ _
       (λ t e. absurd (e refl))
       (λ t e. refl)

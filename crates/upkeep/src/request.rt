@@ -1,6 +1,6 @@
 // The drop request, clear and room, arq.rs `handle_drop_request`, `clear` and `buffer_available`: 01, "Window".
 ghost use Rattle.std.specs.Prelude.{◌≡◌};
-ghost use Rattle.upkeep.specs.Request.{dropEnded, dropCallOf, clearedOf, clearEnded, clearCallOf, roomEnded, roomCallOf};
+ghost use Rattle.upkeep.specs.Request.{drop_ended, drop_call_of, cleared_of, clear_ended, clear_call_of, room_ended, room_call_of};
 
 use head::state::Head;
 
@@ -30,7 +30,7 @@ pub enum RoomAnswer {
 
 // The head stays: a drop request changes lent words only.
 pub fn handle_drop_request(h: Head, words: &mut [u64], first: u32, last: u32) -> DropAnswer
-    ensures { dropEnded result words.new ≡ dropCallOf h words.old first last }
+    ensures { drop_ended result words.new ≡ drop_call_of h words.old first last }
 {
     let w = h.window;
     let n = head::refuse::drop(h, words.len(), first, last);
@@ -42,7 +42,7 @@ pub fn handle_drop_request(h: Head, words: &mut [u64], first: u32, last: u32) ->
 
 // Only held and the history's count and largest change.
 fn emptied(h: Head) -> Head
-    ensures { result ≡ clearedOf h }
+    ensures { result ≡ cleared_of h }
 {
     let mut w = h.window;
     let y = h.history;
@@ -53,7 +53,7 @@ fn emptied(h: Head) -> Head
 }
 
 pub fn clear(h: Head) -> Cleared
-    ensures { clearEnded result ≡ clearCallOf h }
+    ensures { clear_ended result ≡ clear_call_of h }
 {
     let n = head::refuse::head(h);
     if n == 0 {
@@ -69,7 +69,7 @@ pub fn clear(h: Head) -> Cleared
 }
 
 pub fn buffer_available(h: Head) -> RoomAnswer
-    ensures { roomEnded result ≡ roomCallOf h }
+    ensures { room_ended result ≡ room_call_of h }
 {
     let w = h.window;
     let n = head::refuse::head(h);

@@ -1,7 +1,7 @@
 // A payload shown where it lies, and the second question: 01, "Window", with refusals 1, 2 and 5.
 ghost use Rattle.std.specs.Prelude.{◌≡◌, length};
 ghost use Rattle.window.specs.Show.{ShownAt};
-ghost use Rattle.upkeep.specs.Show.{placeCallOf, shownEnded, shownCallOf};
+ghost use Rattle.upkeep.specs.Show.{place_call_of, shown_ended, shown_call_of};
 
 use head::state::Head;
 use window::show::Part;
@@ -16,7 +16,7 @@ pub enum ShowAnswer {
 
 // Where the payload of a number lies, or nowhere.
 pub fn place_in(h: Head, words: &[u64], size: usize, number: u32) -> Part
-    ensures { result ≡ placeCallOf h words.now size number }
+    ensures { result ≡ place_call_of h words.now size number }
 {
     let w = h.window;
     let n = head::refuse::show(h, words.len(), size, number);
@@ -31,14 +31,14 @@ pub fn place_in(h: Head, words: &[u64], size: usize, number: u32) -> Part
 }
 
 pub fn show<'a>(h: Head, words: &[u64], bytes: &'a [u8], number: u32) -> &'a [u8]
-    ensures { ShownAt (placeCallOf h words.now (length bytes.now) number) bytes.entry result }
+    ensures { ShownAt (place_call_of h words.now (length bytes.now) number) bytes.entry result }
 {
     let p = place_in(h, words, bytes.len(), number);
     window::show::part_at(bytes, p.at, p.len)
 }
 
 pub fn shown(h: Head, words: &[u64], bytes: &[u8], number: u32) -> ShowAnswer
-    ensures { shownEnded result ≡ shownCallOf h words.now (length bytes.now) number }
+    ensures { shown_ended result ≡ shown_call_of h words.now (length bytes.now) number }
 {
     let w = h.window;
     let n = head::refuse::show(h, words.len(), bytes.len(), number);

@@ -14,66 +14,66 @@ use Rattle.numbers.proofs.Flags.{impossible, by-test}
 use Rattle.numbers.proofs.Circle.{distance-sum, sum-sum}
 use Rattle.clock.specs.declared.time.SynchronizedRemoteClock.{SynchronizedRemoteClock}
 use Rattle.slots.specs.Words as words
-use Rattle.slots.specs.Words.{entry_at, lengthIn, is_last, inMessage, messageIn, isFirst}
-use Rattle.slots.specs.Ring.{slot_of, payloadAt}
+use Rattle.slots.specs.Words.{entry_at, length_in, is_last, in_message, message_in, is_first}
+use Rattle.slots.specs.Ring.{slot_of, payload_at}
 use Rattle.slots.specs.declared.entry.Entry.{Entry}
 use Rattle.slots.specs.declared.entry.Entry.TheVariants.{Lost, Received, GivenUp}
 use Rattle.slots.proofs.Laws.{length-read, slot_lt}
-use Rattle.window.specs.Window.{slotIn, entryIn, number_in, cut, firstGap}
+use Rattle.window.specs.Window.{slot_in, entry_in, number_in, cut, first_gap}
 use Rattle.window.specs.Ready.{Good, Bytes}
 use Rattle.window.specs.declared.Window.{Window}
-use Rattle.window_pop.specs.Pop.{PopOutcome, popEnded, Filled, run_from, messageOf, filled, dueOf, discardFront, frontOf, releasedOf, pop_of}
+use Rattle.window_pop.specs.Pop.{PopOutcome, pop_ended, Filled, run_from, message_of, filled, due_of, discard_front, front_of, released_of, pop_of}
 use Rattle.window_pop.specs.declared.pop.Message.{Message}
 use Rattle.window_pop.specs.declared.pop.Popped.{Popped}
 use Rattle.window_pop.specs.declared.pop.PopAnswer.TheVariants as pops
 use Rattle.window_pop.proofs.Fills.{front-whole}
 use Rattle.window_pop.proofs.PopLaws.{late-cases, pop-cases}
 use Rattle.views.specs.Lists.{run_of}
-use Rattle.views.specs.View.{Seen, givenUp, seenOf, seen_at, isReceived, entriesFrom, entries, gapIn, LrsnRight, afterPop, bytesIn, joined, Handed}
+use Rattle.views.specs.View.{Seen, given_up, seen_of, seen_at, is_received, entries_from, entries, gap_in, LrsnRight, after_pop, bytes_in, joined, Handed}
 use Rattle.views.proofs.Lists.{entries-length, entries_at, entries-cut}
 use Rattle.views.proofs.Gaps.{gap-found, gap_from}
 
 -- an entry of a message is received
-in-received : (bs : List ℕ) (s message : ℕ) (e : Entry) → inMessage message e ≡ true → isReceived (seenOf bs s e) ≡ true
+in-received : (bs : List ℕ) (s message : ℕ) (e : Entry) → in_message message e ≡ true → is_received (seen_of bs s e) ≡ true
 in-received bs s message (Lost k f) h = impossible (sym h)
 in-received bs s message (Received n l m t) h = refl
 in-received bs s message GivenUp h = impossible (sym h)
 
 -- all entries of a whole message are received
 run-gap : (capacity start : ℕ) (ws bs : List ℕ) (message n i total : ℕ) → 0 < (run_from capacity start ws message i total n).packets
-    → (run_from capacity start ws message i total n).packets ≤ i + gapIn (entriesFrom capacity start ws bs i n)
-unfolding run_from entriesFrom run_of
+    → (run_from capacity start ws message i total n).packets ≤ i + gap_in (entries_from capacity start ws bs i n)
+unfolding run_from entries_from run_of
 run-gap capacity start ws bs message zero i total = λ h. absurd (omega arith)
 run-gap capacity start ws bs message (suc n) i total =
     let e = entry_at ws (slot_of capacity start i) in
     let more : i + 1 ≡ suc i = omega arith in
-    let rest = gapIn (entriesFrom capacity start ws bs (suc i) n) in
-    let gap = cond (isReceived (seen_at ws bs (slot_of capacity start i))) (suc rest) 0 in
-    by-test (λ (m : Message). 0 < m.packets → m.packets ≤ i + gap) (inMessage message e) _ _
+    let rest = gap_in (entries_from capacity start ws bs (suc i) n) in
+    let gap = cond (is_received (seen_at ws bs (slot_of capacity start i))) (suc rest) 0 in
+    by-test (λ (m : Message). 0 < m.packets → m.packets ≤ i + gap) (in_message message e) _ _
     (λ t.
-    let one : isReceived (seen_at ws bs (slot_of capacity start i)) ≡ true = in-received bs (slot_of capacity start i) message e t in
+    let one : is_received (seen_at ws bs (slot_of capacity start i)) ≡ true = in-received bs (slot_of capacity start i) message e t in
     rw one
     (by-test (λ (m : Message). 0 < m.packets → m.packets ≤ i + suc rest) (is_last e) _ _
     (λ u h. omega arith)
-    (λ u. rw more (λ h. let r = run-gap capacity start ws bs message n (suc i) (total + lengthIn e) h in omega arith))))
+    (λ u. rw more (λ h. let r = run-gap capacity start ws bs message n (suc i) (total + length_in e) h in omega arith))))
     (λ t h. absurd (omega arith))
 
 -- the message in front
-front-gap : (w : Window) (ws bs : List ℕ) → 0 < (messageOf w ws).packets → (messageOf w ws).packets ≤ gapIn (entries w ws bs)
-unfolding messageOf
+front-gap : (w : Window) (ws bs : List ℕ) → 0 < (message_of w ws).packets → (message_of w ws).packets ≤ gap_in (entries w ws bs)
+unfolding message_of
 front-gap w ws bs =
-    by-test (λ (m : Message). 0 < m.packets → m.packets ≤ gapIn (entries w ws bs)) (isFirst (entryIn w ws 0)) _ _
-    (λ t h. let r = run-gap w.capacity w.start ws bs (messageIn (entryIn w ws 0)) w.held 0 0 h in omega arith)
+    by-test (λ (m : Message). 0 < m.packets → m.packets ≤ gap_in (entries w ws bs)) (is_first (entry_in w ws 0)) _ _
+    (λ t h. let r = run-gap w.capacity w.start ws bs (message_in (entry_in w ws 0)) w.held 0 0 h in omega arith)
     (λ t h. absurd (omega arith))
 
 -- the bytes of one more entry
-joined_snoc : (es : List Seen) (e : Seen) → joined (es ++ (e ∷ [])) ≡ joined es ++ bytesIn e
+joined_snoc : (es : List Seen) (e : Seen) → joined (es ++ (e ∷ [])) ≡ joined es ++ bytes_in e
 unfolding joined
-joined_snoc [] e = append-nil (bytesIn e)
-joined_snoc (x ∷ es) e = rw (joined_snoc es e) (sym (append_assoc (bytesIn x) (joined es) (bytesIn e)))
+joined_snoc [] e = append-nil (bytes_in e)
+joined_snoc (x ∷ es) e = rw (joined_snoc es e) (sym (append_assoc (bytes_in x) (joined es) (bytes_in e)))
 
 -- an entry's bytes are the payload in its slot, none if it is not received
-slot-bytes : (bs : List ℕ) (s : ℕ) (e : Entry) → bytesIn (seenOf bs s e) ≡ payloadAt bs s (lengthIn e)
+slot-bytes : (bs : List ℕ) (s : ℕ) (e : Entry) → bytes_in (seen_of bs s e) ≡ payload_at bs s (length_in e)
 slot-bytes bs s (Lost k f) = refl
 slot-bytes bs s (Received n l m t) = refl
 slot-bytes bs s GivenUp = refl
@@ -100,16 +100,16 @@ module _ (w : Window) (ws bs out : List ℕ) (g : Good w ws) (gb : Bytes w bs) w
   filled-joined zero h = (refl, refl)
   filled-joined (suc n) h =
       let es = entries w ws bs in
-      let s = slotIn w n in
-      let len = lengthIn (entryIn w ws n) in
-      let q = payloadAt bs s len in
+      let s = slot_in w n in
+      let len = length_in (entry_in w ws n) in
+      let q = payload_at bs s len in
       let f = filled w.capacity w.start ws bs out n in
       let i = filled-joined n (omega arith) in
       let room : len ≤ length (drop (1456 * s) bs) = rw length-drop (omega (arith, length-read ws s, slot_lt w.capacity w.start n g.ranges.some)) in
       let long : length q ≡ len = length-take-le len (drop (1456 * s) bs) room in
       let z : 0 + n ≡ n = omega arith in
-      let one : bytesIn (get_or es n givenUp) ≡ q = ap bytesIn (entries_at w.capacity w.start ws bs 0 w.held n givenUp (omega arith) ∙ ap (λ (x : ℕ). seen_at ws bs (slotIn w x)) z) ∙ slot-bytes bs s (entryIn w ws n) in
-      let next : front (suc n) ≡ front n ++ q = ap joined (take-suc es n givenUp (omega (arith, entries-length w.capacity w.start ws bs 0 w.held))) ∙ joined_snoc (take n es) (get_or es n givenUp) ∙ ap (λ (x : List ℕ). front n ++ x) one in (
+      let one : bytes_in (get_or es n given_up) ≡ q = ap bytes_in (entries_at w.capacity w.start ws bs 0 w.held n given_up (omega arith) ∙ ap (λ (x : ℕ). seen_at ws bs (slot_in w x)) z) ∙ slot-bytes bs s (entry_in w ws n) in
+      let next : front (suc n) ≡ front n ++ q = ap joined (take-suc es n given_up (omega (arith, entries-length w.capacity w.start ws bs 0 w.held))) ∙ joined_snoc (take n es) (get_or es n given_up) ∙ ap (λ (x : List ℕ). front n ++ x) one in (
         ap (λ (x : ℕ). x + len) i.0 ∙ ap (λ (x : ℕ). length (front n) + x) (sym long) ∙ sym (length-append (front n) q) ∙ ap length (sym next),
         ap (λ (x : List ℕ). paste x f.at q len) i.1
             ∙ laid (front n) q out f.at len i.0 (sym long)
@@ -124,32 +124,32 @@ module _ (k : SynchronizedRemoteClock) (latency : ℕ) (late : Bool) (w : Window
   outcome = pop_of k latency late w ws now bs out
 
   -- the list, by the answer
-  pub pop-seen : entries outcome.popped.window ws bs ≡ afterPop es outcome.popped.answer
-  unfolding discardFront
+  pub pop-seen : entries outcome.popped.window ws bs ≡ after_pop es outcome.popped.answer
+  unfolding discard_front
   pop-seen =
-      pop-cases k latency late w ws now bs out (λ (x : PopOutcome). entries x.popped.window ws bs ≡ afterPop es x.popped.answer)
+      pop-cases k latency late w ws now bs out (λ (x : PopOutcome). entries x.popped.window ws bs ≡ after_pop es x.popped.answer)
       refl
       refl
-      (λ some held fits. entries-cut w ws bs (messageOf w ws).packets held)
+      (λ some held fits. entries-cut w ws bs (message_of w ws).packets held)
       (λ n stamp some held. entries-cut w ws bs n held ∙ ap (λ (x : ℕ). drop x es) (sym (distance-sum 31 w.seqno0 {n = n} (omega arith))))
 
   -- lrsn
   pub pop-right : LrsnRight w es → LrsnRight outcome.popped.window (entries outcome.popped.window ws bs)
-  unfolding discardFront
+  unfolding discard_front
   pop-right l =
       pop-cases k latency late w ws now bs out (λ (x : PopOutcome). LrsnRight x.popped.window (entries x.popped.window ws bs))
       l
       l
       (λ some held fits.
-      let n = (messageOf w ws).packets in
+      let n = (message_of w ws).packets in
       l
       ∙ ap (number_in w) (sym (gap_from n es (front-gap w ws bs some)))
-      ∙ sym (sum-sum 31 w.seqno0 n (gapIn (drop n es)))
-      ∙ ap (λ (x : List Seen). number_in (cut w n) (gapIn x)) (sym (entries-cut w ws bs n held)))
+      ∙ sym (sum-sum 31 w.seqno0 n (gap_in (drop n es)))
+      ∙ ap (λ (x : List Seen). number_in (cut w n) (gap_in x)) (sym (entries-cut w ws bs n held)))
       (λ n stamp some held.
       let c = cut w n in
       let z : c.held - 0 ≡ c.held = omega arith in
-      ap (number_in c) (ap (firstGap c.capacity c.start ws 0) z ∙ gap-found c.capacity c.start ws bs c.held 0 ∙ omega arith))
+      ap (number_in c) (ap (first_gap c.capacity c.start ws 0) z ∙ gap-found c.capacity c.start ws bs c.held 0 ∙ omega arith))
 
   -- what a message hands out
   pub pop-handed : Bytes w bs → (time : ℤ) (bytes packets : ℕ) → outcome.popped.answer ≡ pops.Message time bytes packets → Handed w es out outcome bytes packets
@@ -158,7 +158,7 @@ module _ (k : SynchronizedRemoteClock) (latency : ℕ) (late : Bool) (w : Window
       (λ e. absurd (let z : ◌≡◌ {A = ℕ} 0 1 = cc in omega arith))
       (λ e. absurd (let z : ◌≡◌ {A = ℕ} 0 1 = cc in omega arith))
       (λ some held fits e.
-      let m = messageOf w ws in
+      let m = message_of w ws in
       let f = filled-joined w ws bs out g gb m.packets held in
       let at = (front-whole w ws bs out refl some).1 in
       let b : m.bytes ≡ bytes = cc in
@@ -174,16 +174,16 @@ module _ (k : SynchronizedRemoteClock) (latency : ℕ) (late : Bool) (w : Window
 
   -- refusal 11: the message in front is longer than the output
   abbrev TooLong : PopOutcome → Type 0
-  TooLong x = x.popped.answer ≡ pops.OutShort → (0 < (messageOf w ws).packets) × (length out < (messageOf w ws).bytes)
+  TooLong x = x.popped.answer ≡ pops.OutShort → (0 < (message_of w ws).packets) × (length out < (message_of w ws).bytes)
 
   too_long : TooLong outcome
-  unfolding pop_of frontOf releasedOf
+  unfolding pop_of front_of released_of
   too_long =
-      let m = messageOf w ws in
-      let late = late-cases k latency late w ws now (λ (r : Popped). TooLong (popEnded r out)) (λ e. absurd (let z : ◌≡◌ {A = ℕ} 0 1 = cc in omega arith)) (λ n stamp some held e. absurd (let z : ◌≡◌ {A = ℕ} 0 1 = cc in omega arith)) in
-      by-test TooLong (ltb 0 w.held && words.isReceived (entryIn w ws 0)) _ _
+      let m = message_of w ws in
+      let late = late-cases k latency late w ws now (λ (r : Popped). TooLong (pop_ended r out)) (λ e. absurd (let z : ◌≡◌ {A = ℕ} 0 1 = cc in omega arith)) (λ n stamp some held e. absurd (let z : ◌≡◌ {A = ℕ} 0 1 = cc in omega arith)) in
+      by-test TooLong (ltb 0 w.held && words.is_received (entry_in w ws 0)) _ _
       (λ t.
-      by-test TooLong (lt_z now (dueOf k.base latency (words.stampIn (entryIn w ws 0)))) _ _
+      by-test TooLong (lt_z now (due_of k.base latency (words.stamp_in (entry_in w ws 0)))) _ _
       (λ u e. absurd (let z : ◌≡◌ {A = ℕ} 0 1 = cc in omega arith))
       (λ u.
       by-test TooLong (ltb 0 m.packets) _ _
@@ -195,9 +195,9 @@ module _ (k : SynchronizedRemoteClock) (latency : ℕ) (late : Bool) (w : Window
       (λ t. late)
 
   pub pop-short : Bytes w bs → outcome.popped.answer ≡ pops.OutShort
-      → (0 < (messageOf w ws).packets) × ((messageOf w ws).packets ≤ gapIn es) × (length out < length (joined (take (messageOf w ws).packets es)))
+      → (0 < (message_of w ws).packets) × ((message_of w ws).packets ≤ gap_in es) × (length out < length (joined (take (message_of w ws).packets es)))
   pop-short gb e =
-      let m = messageOf w ws in
+      let m = message_of w ws in
       let s = too_long e in
       let at = (front-whole w ws bs out refl s.0).1 in
       let f = filled-joined w ws bs out g gb m.packets (front-whole w ws bs out refl s.0).0 in

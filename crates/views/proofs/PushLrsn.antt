@@ -17,32 +17,32 @@ use Rattle.numbers.proofs.Flags.{impossible, by-test, by-order}
 use Rattle.numbers.proofs.Circle.{sum_below, sum-sum, stepped, within, order-before, order-equal, order-after, distance-zero}
 use Rattle.numbers.proofs.Places.{place-one}
 use Rattle.slots.specs.Words as words
-use Rattle.slots.specs.Words.{writeAt}
-use Rattle.slots.specs.Ring.{withPayload}
+use Rattle.slots.specs.Words.{write_at}
+use Rattle.slots.specs.Ring.{with_payload}
 use Rattle.slots.specs.declared.entry.Entry.{Entry}
 use Rattle.slots.specs.declared.entry.Entry.TheVariants.{Lost, Received, GivenUp}
-use Rattle.window.specs.Window.{slotIn, entryIn, next_of, number_in, roomOf, lrsnFrom}
+use Rattle.window.specs.Window.{slot_in, entry_in, next_of, number_in, room_of, lrsn_from}
 use Rattle.window.specs.Ready.{Good, Bytes, PacketRight}
 use Rattle.window.specs.Push as push
-use Rattle.window.specs.Push.{PushOutcome, movedPast, appendNextOf, appendWithLossOf, recoveredOf, recoverOf, pushOf}
+use Rattle.window.specs.Push.{PushOutcome, moved_past, append_next_of, append_with_loss_of, recovered_of, recover_of, push_of}
 use Rattle.window.specs.declared.Window.{Window}
 use Rattle.window.specs.declared.push.Packet.{Packet}
 use Rattle.views.specs.Lists.{run_of}
-use Rattle.views.specs.View.{Seen, lost, givenUp, seenOf, seen_at, isReceived, entriesFrom, entries, gapIn, LrsnRight, packetSeen, SeenAfter, RightAfter}
+use Rattle.views.specs.View.{Seen, lost, given_up, seen_of, seen_at, is_received, entries_from, entries, gap_in, LrsnRight, packet_seen, SeenAfter, RightAfter}
 use Rattle.views.proofs.Lists.{entries-length, entries_at, entries-drop}
 use Rattle.views.proofs.Gaps.{gap-found, gap-most, gap-append, gap-whole, gap-set-past, gap-set-at, gap-not-before, gap_from}
 use Rattle.views.proofs.Pushes.{number_is, next-seen, loss-seen, recovered-seen}
 
-one-received : (p : Packet) (payload : List ℕ) → gapIn (packetSeen p payload ∷ []) ≡ 1
+one-received : (p : Packet) (payload : List ℕ) → gap_in (packet_seen p payload ∷ []) ≡ 1
 unfolding run_of
 one-received p payload = refl
 
 -- a lost entry behind the list: the gap stays
-lost-behind : (es : List Seen) (n k f : ℕ) (fs : List Seen) → 0 < n → gapIn (es ++ (replicate n (lost k f) ++ fs)) ≡ gapIn es
+lost-behind : (es : List Seen) (n k f : ℕ) (fs : List Seen) → 0 < n → gap_in (es ++ (replicate n (lost k f) ++ fs)) ≡ gap_in es
 unfolding run_of
 lost-behind es zero k f fs h = absurd (omega arith)
 lost-behind es (suc n) k f fs h =
-    by-order (gapIn es) (length es)
+    by-order (gap_in es) (length es)
     (λ o. gap-append es (replicate (suc n) (lost k f) ++ fs) o)
     (λ o. let m = gap-most es in gap-whole es (replicate (suc n) (lost k f) ++ fs) (omega arith) ∙ omega arith)
 
@@ -53,7 +53,7 @@ module _ (w : Window) (ws bs : List ℕ) (time : ℤ) (p : Packet) (payload : Li
   long : length es ≡ w.held
   long = entries-length w.capacity w.start ws bs 0 w.held
 
-  gap-held : gapIn es ≤ w.held
+  gap-held : gap_in es ≤ w.held
   gap-held = omega (arith, gap-most es, long)
 
   -- two places of a window never share a number
@@ -61,10 +61,10 @@ module _ (w : Window) (ws bs : List ℕ) (time : ℤ) (p : Packet) (payload : Li
   apart i j hi hj e = place-one 31 w.seqno0 0 i j (omega arith) (omega arith) (omega arith) (omega arith) e
 
   -- lrsn past an append, by the place of the packet's number
-  moved : (i : ℕ) → i ≤ 16384 → p.number ≡ number_in w i → (gapIn es ≡ i → ⊥) → movedPast w.lrsn p.number ≡ w.lrsn
-  moved i hi n ne = rw (ne_eqb w.lrsn p.number (λ e. ne (apart (gapIn es) i (omega (arith, gap-held)) hi (sym l ∙ e ∙ n))))
+  moved : (i : ℕ) → i ≤ 16384 → p.number ≡ number_in w i → (gap_in es ≡ i → ⊥) → moved_past w.lrsn p.number ≡ w.lrsn
+  moved i hi n ne = rw (ne_eqb w.lrsn p.number (λ e. ne (apart (gap_in es) i (omega (arith, gap-held)) hi (sym l ∙ e ∙ n))))
 
-  moved_on : gapIn es ≡ w.held → p.number ≡ next_of w → movedPast w.lrsn p.number ≡ number_in w (w.held + 1)
+  moved_on : gap_in es ≡ w.held → p.number ≡ next_of w → moved_past w.lrsn p.number ≡ number_in w (w.held + 1)
   unfolding successor
   moved_on h n =
       let e : w.lrsn ≡ p.number = l ∙ ap (number_in w) h ∙ sym n in
@@ -74,18 +74,18 @@ module _ (w : Window) (ws bs : List ℕ) (time : ℤ) (p : Packet) (payload : Li
   abbrev Then : PushOutcome → Type 0
   Then o = SeenAfter w ws bs time p payload o → RightAfter o
 
-  next-right : p.number ≡ next_of w → RightAfter (appendNextOf w ws bs time p payload)
-  unfolding appendNextOf
+  next-right : p.number ≡ next_of w → RightAfter (append_next_of w ws bs time p payload)
+  unfolding append_next_of
   next-right n =
       by-test Then (eqb w.held w.capacity) _ _
       (λ t s. l)
       (λ t s.
       rw s
-      (by-order (gapIn es) w.held
-      (λ h. moved w.held (omega arith) n (omega arith) ∙ l ∙ ap (number_in w) (sym (gap-append es (packetSeen p payload ∷ []) (omega (arith, long)))))
+      (by-order (gap_in es) w.held
+      (λ h. moved w.held (omega arith) n (omega arith) ∙ l ∙ ap (number_in w) (sym (gap-append es (packet_seen p payload ∷ []) (omega (arith, long)))))
       (λ h.
-      let f : gapIn es ≡ w.held = omega (arith, gap-held) in
-      let q : gapIn (es ++ (packetSeen p payload ∷ [])) ≡ w.held + 1 = gap-whole es (packetSeen p payload ∷ []) (omega (arith, long)) ∙ omega (arith, long, one-received p payload) in
+      let f : gap_in es ≡ w.held = omega (arith, gap-held) in
+      let q : gap_in (es ++ (packet_seen p payload ∷ [])) ≡ w.held + 1 = gap-whole es (packet_seen p payload ∷ []) (omega (arith, long)) ∙ omega (arith, long, one-received p payload) in
       moved_on f n ∙ ap (number_in w) (sym q))))
       (next-seen w ws bs time p payload g gb r ht hs)
 
@@ -97,62 +97,62 @@ module _ (w : Window) (ws bs : List ℕ) (time : ℤ) (p : Packet) (payload : Li
       ∙ sym (stepped 31 p.number (next_of w))
       ∙ sum-sum 31 w.seqno0 w.held (distance 31 p.number (next_of w))
 
-  loss-right : order 31 p.number (next_of w) ≡ After → RightAfter (appendWithLossOf w ws bs time p payload (distance 31 p.number (next_of w)))
-  unfolding appendWithLossOf
+  loss-right : order 31 p.number (next_of w) ≡ After → RightAfter (append_with_loss_of w ws bs time p payload (distance 31 p.number (next_of w)))
+  unfolding append_with_loss_of
   loss-right n =
       let gap = distance 31 p.number (next_of w) in
       let some = (order-after 31 p.number (next_of w) n).0 in
-      by-test Then (ltb (roomOf w) (gap + 1)) _ _
+      by-test Then (ltb (room_of w) (gap + 1)) _ _
       (λ t s. l)
       (λ t s.
-      let room = ltb-false (roomOf w) (gap + 1) t in
+      let room = ltb-false (room_of w) (gap + 1) t in
       rw s
       (moved (w.held + gap) (omega arith) far (omega (arith, gap-held))
       ∙ l
-      ∙ ap (number_in w) (sym (ap gapIn (append_assoc es (replicate gap (lost 2 (nat_abs time))) (packetSeen p payload ∷ [])) ∙ lost-behind es gap 2 (nat_abs time) (packetSeen p payload ∷ []) some))))
+      ∙ ap (number_in w) (sym (ap gap_in (append_assoc es (replicate gap (lost 2 (nat_abs time))) (packet_seen p payload ∷ [])) ∙ lost-behind es gap 2 (nat_abs time) (packet_seen p payload ∷ []) some))))
       (loss-seen w ws bs time p payload g gb r ht hs)
 
-  recovered-right : (i : ℕ) → i ≡ distance 31 p.number w.seqno0 → i < w.held → words.isLost (entryIn w ws i) ≡ true → RightAfter (recoveredOf w ws bs time p payload i)
-  unfolding recoveredOf
+  recovered-right : (i : ℕ) → i ≡ distance 31 p.number w.seqno0 → i < w.held → words.is_lost (entry_in w ws i) ≡ true → RightAfter (recovered_of w ws bs time p payload i)
+  unfolding recovered_of
   recovered-right i d h u =
-      let pk = packetSeen p payload in
-      let ws₁ = writeAt ws (slotIn w i) (push.received p payload) in
-      let bs₁ = withPayload bs (slotIn w i) payload in
-      let after = entriesFrom w.capacity w.start ws₁ bs₁ 0 w.held in
+      let pk = packet_seen p payload in
+      let ws₁ = write_at ws (slot_in w i) (push.received p payload) in
+      let bs₁ = with_payload bs (slot_in w i) payload in
+      let after = entries_from w.capacity w.start ws₁ bs₁ 0 w.held in
       let s : after ≡ set es i pk = recovered-seen w ws bs time p payload g gb r ht hs i d h ∙ rw (← d) in
       let n : p.number ≡ number_in w i = number_is w ws bs time p payload g gb r ht hs ∙ ap (number_in w) (sym d) in
       let z : 0 + i ≡ i = omega arith in
       let q : i + (w.held - i) ≡ w.held = omega arith in
-      let back : drop i after ≡ entriesFrom w.capacity w.start ws₁ bs₁ i (w.held - i) =
-      ap (λ (x : ℕ). drop i (entriesFrom w.capacity w.start ws₁ bs₁ 0 x)) (sym q)
+      let back : drop i after ≡ entries_from w.capacity w.start ws₁ bs₁ i (w.held - i) =
+      ap (λ (x : ℕ). drop i (entries_from w.capacity w.start ws₁ bs₁ 0 x)) (sym q)
       ∙ entries-drop w.capacity w.start ws₁ bs₁ i (w.held - i) 0
-      ∙ ap (λ (x : ℕ). entriesFrom w.capacity w.start ws₁ bs₁ x (w.held - i)) z in
-      by-test (λ (x : ℕ). x ≡ number_in w (gapIn after)) (eqb w.lrsn p.number) (lrsnFrom w ws₁ i) w.lrsn
+      ∙ ap (λ (x : ℕ). entries_from w.capacity w.start ws₁ bs₁ x (w.held - i)) z in
+      by-test (λ (x : ℕ). x ≡ number_in w (gap_in after)) (eqb w.lrsn p.number) (lrsn_from w ws₁ i) w.lrsn
       (λ t.
-      let f : gapIn es ≡ i = apart (gapIn es) i (omega (arith, gap-held)) (omega arith) (sym l ∙ eqb-true w.lrsn p.number t ∙ n) in
-      let m : i ≤ gapIn after = rw s (gap-set-at i es pk (omega arith)) in
-      ap (number_in w) (gap-found w.capacity w.start ws₁ bs₁ (w.held - i) i ∙ ap (λ (x : List Seen). i + gapIn x) (sym back) ∙ gap_from i after m))
+      let f : gap_in es ≡ i = apart (gap_in es) i (omega (arith, gap-held)) (omega arith) (sym l ∙ eqb-true w.lrsn p.number t ∙ n) in
+      let m : i ≤ gap_in after = rw s (gap-set-at i es pk (omega arith)) in
+      ap (number_in w) (gap-found w.capacity w.start ws₁ bs₁ (w.held - i) i ∙ ap (λ (x : List Seen). i + gap_in x) (sym back) ∙ gap_from i after m))
       (λ t.
-      let c : gapIn es ≤ i = gap-not-before es i givenUp (omega (arith, long)) (ap isReceived (entries_at w.capacity w.start ws bs 0 w.held i givenUp h ∙ ap (λ (x : ℕ). seen_at ws bs (slotIn w x)) z) ∙ not-received bs (slotIn w i) (entryIn w ws i) u) in
-      let ne : gapIn es ≡ i → ⊥ = λ e. eqb-false w.lrsn p.number t (l ∙ ap (number_in w) e ∙ sym n) in
-      l ∙ ap (number_in w) (sym (ap gapIn s ∙ gap-set-past es i pk (omega (arith, ne)))))
+      let c : gap_in es ≤ i = gap-not-before es i given_up (omega (arith, long)) (ap is_received (entries_at w.capacity w.start ws bs 0 w.held i given_up h ∙ ap (λ (x : ℕ). seen_at ws bs (slot_in w x)) z) ∙ not-received bs (slot_in w i) (entry_in w ws i) u) in
+      let ne : gap_in es ≡ i → ⊥ = λ e. eqb-false w.lrsn p.number t (l ∙ ap (number_in w) e ∙ sym n) in
+      l ∙ ap (number_in w) (sym (ap gap_in s ∙ gap-set-past es i pk (omega (arith, ne)))))
     where
-      not-received : (bs : List ℕ) (s : ℕ) (e : Entry) → words.isLost e ≡ true → isReceived (seenOf bs s e) ≡ false
+      not-received : (bs : List ℕ) (s : ℕ) (e : Entry) → words.is_lost e ≡ true → is_received (seen_of bs s e) ≡ false
       not-received bs s (Lost k f) e = refl
       not-received bs s (Received n l m t) e = impossible (sym e)
       not-received bs s GivenUp e = refl
 
-  recover-right : before 31 p.number (next_of w) ≡ true → RightAfter (recoverOf w ws bs time p payload)
-  unfolding recoverOf
+  recover-right : before 31 p.number (next_of w) ≡ true → RightAfter (recover_of w ws bs time p payload)
+  unfolding recover_of
   recover-right b =
       let i = distance 31 p.number w.seqno0 in
       by-test RightAfter (before 31 p.number w.seqno0) _ _
       (λ t. l)
-      (λ t. by-test RightAfter (words.isLost (entryIn w ws i)) _ _ (λ u. recovered-right i refl (within 31 p.number w.seqno0 w.held b t) u) (λ u. l))
+      (λ t. by-test RightAfter (words.is_lost (entry_in w ws i)) _ _ (λ u. recovered-right i refl (within 31 p.number w.seqno0 w.held b t) u) (λ u. l))
 
   -- lrsn after a push
-  pub push-right : RightAfter (pushOf w ws bs time p payload)
-  unfolding pushOf
+  pub push-right : RightAfter (push_of w ws bs time p payload)
+  unfolding push_of
   push-right = go (order 31 p.number (next_of w)) refl
     where
       go : (o : Order) → order 31 p.number (next_of w) ≡ o → RightAfter (push.by_order w ws bs time p payload o)

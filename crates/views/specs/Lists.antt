@@ -7,6 +7,6 @@ run_of t [] = 0
 run_of t (x ∷ xs) = cond (t x) (suc (run_of t xs)) 0
 
 -- f, on those from index `from` to before `to`; the first of the list has index i
-unfoldable pub changedIn : {A : Type 0} → (A → A) → ℕ → ℕ → ℕ → List A → List A
-changedIn f from to i [] = []
-changedIn f from to i (x ∷ xs) = cond (leb from i && ltb i to) (f x) x ∷ changedIn f from to (suc i) xs
+unfoldable pub changed_in : {A : Type 0} → (A → A) → ℕ → ℕ → ℕ → List A → List A
+changed_in f from to i [] = []
+changed_in f from to i (x ∷ xs) = cond (leb from i && ltb i to) (f x) x ∷ changed_in f from to (suc i) xs

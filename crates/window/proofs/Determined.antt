@@ -4,12 +4,12 @@ use mathlib.Core.Path.{◌≡◌, sym, ◌∙◌, ap}
 use mathlib.Core.List.{List}
 use Prim.Native.Nat.{ℕ}
 use denote.Ref.{Bor}
-use Rattle.window.specs.Push.{PushOutcome, pushEnded}
+use Rattle.window.specs.Push.{PushOutcome, push_ended}
 use Rattle.window.specs.Show.{PartOf}
 use Rattle.window.specs.declared.push.Pushed.{Pushed}
 
 -- the window and the answer, the slot area and the payload area
-pub push-determined : {o : PushOutcome} (r s : Pushed) (ws₁ ws₂ bs₁ bs₂ : List ℕ) → pushEnded r ws₁ bs₁ ≡ o → pushEnded s ws₂ bs₂ ≡ o
+pub push-determined : {o : PushOutcome} (r s : Pushed) (ws₁ ws₂ bs₁ bs₂ : List ℕ) → push_ended r ws₁ bs₁ ≡ o → push_ended s ws₂ bs₂ ≡ o
     → (r ≡ s) × ((ws₁ ≡ ws₂) × (bs₁ ≡ bs₂))
 push-determined r s ws₁ ws₂ bs₁ bs₂ p q =
     let e = p ∙ sym q in

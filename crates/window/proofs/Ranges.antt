@@ -5,11 +5,11 @@ use Prim.Native.Nat.{◌^◌}
 use borrow.Author.Tests.{leb-true, ltb-true, le-leb, lt-ltb}
 use lib.Dec.{ltb, leb}
 use Rattle.numbers.proofs.Flags.{and_left, and_right}
-use Rattle.window.specs.Window.{windowOk}
+use Rattle.window.specs.Window.{window_ok}
 use Rattle.window.specs.Ready.{InWindow}
 use Rattle.window.specs.declared.Window.{Window}
 
-pub in_window : (w : Window) → windowOk w ≡ true → InWindow w
+pub in_window : (w : Window) → window_ok w ≡ true → InWindow w
 in_window w e =
     let a = leb 1 w.capacity in
     let b = leb w.capacity 8192 in
@@ -29,7 +29,7 @@ in_window w e =
       lrsn = ltb-true w.lrsn (2 ^ 31) (and_right (a && b && c && d && f) _ e);
     }
 
-pub from-window : (w : Window) → InWindow w → windowOk w ≡ true
+pub from-window : (w : Window) → InWindow w → window_ok w ≡ true
 from-window w i =
     rw (
       le-leb 1 w.capacity i.some,

@@ -3,7 +3,7 @@ use Rattle.std.specs.Prelude.{List, ℕ, ◌*◌, ◌^◌, ◌<◌, ◌≤◌, l
 use Rattle.window.specs.declared.Window.{Window}
 use Rattle.window.specs.declared.push.Packet.{Packet}
 
--- windowOk, part by part
+-- window_ok, part by part
 pub record InWindow (w : Window) : Type 0 where
   pub some : 0 < w.capacity
   pub most : w.capacity ≤ 8192

@@ -2,9 +2,9 @@
 use Rattle.std.specs.Prelude.{◌≡◌, true, false, ◌&&◌, cond, List, ℕ, ◌+◌, ltb, take, drop}
 use Rattle.std.specs.Borrow.{Bor}
 use Rattle.numbers.specs.Circular.{distance}
-use Rattle.slots.specs.Words.{isReceived, lengthIn}
-use Rattle.slots.specs.Ring.{payloadStart}
-use Rattle.window.specs.Window.{slotIn, entryIn}
+use Rattle.slots.specs.Words.{is_received, length_in}
+use Rattle.slots.specs.Ring.{payload_start}
+use Rattle.window.specs.Window.{slot_in, entry_in}
 use Rattle.window.specs.declared.Window.{Window}
 use Rattle.window.specs.declared.show.Part.{Part}
 
@@ -22,9 +22,9 @@ abbrev pub nowhere : Part
 nowhere = record { received = false; at = 0; len = 0 }
 
 -- the entry of a number lies its distance from seqno0 past the front; it is held if that is under the held count
-unfoldable pub shownOf : Window → List ℕ → ℕ → Part
-shownOf w ws number =
+unfoldable pub shown_of : Window → List ℕ → ℕ → Part
+shown_of w ws number =
     let i = distance 31 number w.seqno0 in
-    cond (ltb i w.held && isReceived (entryIn w ws i))
-    (record { received = true; at = payloadStart (slotIn w i); len = lengthIn (entryIn w ws i) })
+    cond (ltb i w.held && is_received (entry_in w ws i))
+    (record { received = true; at = payload_start (slot_in w i); len = length_in (entry_in w ws i) })
     nowhere

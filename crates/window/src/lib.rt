@@ -3,7 +3,7 @@ pub mod push;
 pub mod show;
 
 ghost use Rattle.std.specs.Prelude.{◌≡◌, ◌-◌, ◌<◌, ◌≤◌};
-ghost use Rattle.window.specs.Window.{number_in, firstGap, lrsnFrom, cut, roomOf};
+ghost use Rattle.window.specs.Window.{number_in, first_gap, lrsn_from, cut, room_of};
 ghost use Rattle.window.specs.Ready.{Ring, Good};
 
 // Entry i, under held, has the number seqno0 + i and lies in slot (start + i) mod capacity.
@@ -27,7 +27,7 @@ pub fn number(w: Window, i: usize) -> u32
 // Of the entries from `from` on, the first that is not received, else held.
 fn first_gap(words: &[u64], capacity: usize, start: usize, from: usize, held: usize) -> usize
     requires { Ring capacity start held words.now × (from ≤ held) }
-    ensures { result ≡ firstGap capacity start words.now from (held - from) }
+    ensures { result ≡ first_gap capacity start words.now from (held - from) }
 {
     let mut i = from;
     let mut s = slots::ring::slot(capacity, start, from);
@@ -45,7 +45,7 @@ fn first_gap(words: &[u64], capacity: usize, start: usize, from: usize, held: us
 // lrsn, searched from entry `from` on.
 pub fn search_lrsn(w: Window, words: &[u64], from: usize) -> u32
     requires { Good w words.now × (from ≤ w.held) }
-    ensures { result ≡ lrsnFrom w words.now from }
+    ensures { result ≡ lrsn_from w words.now from }
 {
     number(w, first_gap(words, w.capacity, w.start, from, w.held))
 }
@@ -66,7 +66,7 @@ pub fn cut_front(w: Window, n: usize) -> Window
 
 pub fn room(w: Window) -> usize
     requires { w.held ≤ w.capacity }
-    ensures { result ≡ roomOf w }
+    ensures { result ≡ room_of w }
 {
     w.capacity - w.held
 }

@@ -1,12 +1,12 @@
 // Push, buffer.rs `push_packet`: 01, "Window", with refusals 7 to 10.
 ghost use Rattle.std.specs.Prelude.{◌≡◌, true, ◌+◌, ◌*◌, ◌<◌, ◌≤◌, ◌^◌, length};
 ghost use Rattle.numbers.specs.Circular.{before};
-ghost use Rattle.numbers.specs.Instants.{isReading};
-ghost use Rattle.slots.specs.Words.{writeAt};
-ghost use Rattle.slots.specs.Ring.{withPayload};
+ghost use Rattle.numbers.specs.Instants.{is_reading};
+ghost use Rattle.slots.specs.Words.{write_at};
+ghost use Rattle.slots.specs.Ring.{with_payload};
 ghost use Rattle.window.specs.Window.{next_of};
 ghost use Rattle.window.specs.Ready.{Ring, Good, Bytes, PacketRight};
-ghost use Rattle.window.specs.Push.{pushEnded, received, movedPast, lostAt, withLost, recoveredLrsn, appendNextOf, appendWithLossOf, recoveredOf, recoverOf, pushOf};
+ghost use Rattle.window.specs.Push.{push_ended, received, moved_past, lost_at, with_lost, recovered_lrsn, append_next_of, append_with_loss_of, recovered_of, recover_of, push_of};
 
 use crate::Window;
 use numbers::seq::Order;
@@ -38,7 +38,7 @@ pub struct Pushed {
 
 // lrsn, past an append that is equal to it.
 pub fn moved_past(lrsn: u32, number: u32) -> u32
-    ensures { result ≡ movedPast lrsn number }
+    ensures { result ≡ moved_past lrsn number }
 {
     if lrsn == number {
         return numbers::seq::successor(number);
@@ -48,8 +48,8 @@ pub fn moved_past(lrsn: u32, number: u32) -> u32
 
 // Puts a lost entry into slot s: feedback now, k = 2.
 fn write_lost(words: &mut [u64], s: usize, time: i64)
-    requires { (3 * s + 3 ≤ length words.old) × (isReading time ≡ true) }
-    ensures { words.new ≡ writeAt words.old s (lostAt time) }
+    requires { (3 * s + 3 ≤ length words.old) × (is_reading time ≡ true) }
+    ensures { words.new ≡ write_at words.old s (lost_at time) }
 {
     let feedback = numbers::instant::size(time);
     slots::entry::write_at(words, s, Entry::Lost { k: 2, feedback });
@@ -64,8 +64,8 @@ fn append_lost(
     count: usize,
     time: i64,
 )
-    requires { Ring capacity start (from + count) words.old × (isReading time ≡ true) }
-    ensures { words.new ≡ withLost capacity start words.old time from count }
+    requires { Ring capacity start (from + count) words.old × (is_reading time ≡ true) }
+    ensures { words.new ≡ with_lost capacity start words.old time from count }
 {
     let mut i = 0;
     let mut s = slots::ring::slot(capacity, start, from);
@@ -80,8 +80,8 @@ fn append_lost(
 // Puts a packet into slot s of both areas.
 pub fn put_packet(words: &mut [u64], bytes: &mut [u8], s: usize, p: Packet, payload: &[u8])
     requires { (3 * s + 3 ≤ length words.old) × (1456 * s + 1456 ≤ length bytes.old) × PacketRight p payload.now }
-    ensures { (words.new ≡ writeAt words.old s (received p payload.now))
-        × (bytes.new ≡ withPayload bytes.old s payload.now) }
+    ensures { (words.new ≡ write_at words.old s (received p payload.now))
+        × (bytes.new ≡ with_payload bytes.old s payload.now) }
 {
     slots::entry::write_at(
         words,
@@ -106,7 +106,7 @@ fn append_next(
     payload: &[u8],
 ) -> Pushed
     requires { Good w words.old × Bytes w bytes.old × PacketRight p payload.now }
-    ensures { pushEnded result words.new bytes.new ≡ appendNextOf w words.old bytes.old time p payload.now }
+    ensures { push_ended result words.new bytes.new ≡ append_next_of w words.old bytes.old time p payload.now }
 {
     if w.held == w.capacity {
         return Pushed {
@@ -142,8 +142,8 @@ fn append_with_loss(
     payload: &[u8],
     gap: usize,
 ) -> Pushed
-    requires { Good w words.old × Bytes w bytes.old × PacketRight p payload.now × (isReading time ≡ true) × (gap < 2 ^ 31) }
-    ensures { pushEnded result words.new bytes.new ≡ appendWithLossOf w words.old bytes.old time p payload.now gap }
+    requires { Good w words.old × Bytes w bytes.old × PacketRight p payload.now × (is_reading time ≡ true) × (gap < 2 ^ 31) }
+    ensures { push_ended result words.new bytes.new ≡ append_with_loss_of w words.old bytes.old time p payload.now gap }
 {
     let room = crate::room(w);
     let need = gap + 1;
@@ -174,7 +174,7 @@ fn append_with_loss(
 // lrsn after the recovery of entry i.
 fn recovered_lrsn(w: Window, words: &[u64], number: u32, i: usize) -> u32
     requires { Good w words.now × (i ≤ w.held) }
-    ensures { result ≡ recoveredLrsn w number words.now i }
+    ensures { result ≡ recovered_lrsn w number words.now i }
 {
     if w.lrsn == number {
         return crate::search_lrsn(w, words, i);
@@ -193,7 +193,7 @@ fn take_recovered(
     i: usize,
 ) -> Pushed
     requires { Good w words.old × Bytes w bytes.old × PacketRight p payload.now × (i ≤ w.held) }
-    ensures { pushEnded result words.new bytes.new ≡ recoveredOf w words.old bytes.old time p payload.now i }
+    ensures { push_ended result words.new bytes.new ≡ recovered_of w words.old bytes.old time p payload.now i }
 {
     let s = slots::ring::slot(w.capacity, w.start, i);
     put_packet(words, bytes, s, p, payload);
@@ -223,7 +223,7 @@ fn recover(
     payload: &[u8],
 ) -> Pushed
     requires { Good w words.old × Bytes w bytes.old × PacketRight p payload.now × (before 31 p.number (next_of w) ≡ true) }
-    ensures { pushEnded result words.new bytes.new ≡ recoverOf w words.old bytes.old time p payload.now }
+    ensures { push_ended result words.new bytes.new ≡ recover_of w words.old bytes.old time p payload.now }
 {
     let past = numbers::seq::distance(p.number, w.seqno0);
     if 0x4000_0000 <= past {
@@ -252,8 +252,8 @@ pub fn push(
     p: Packet,
     payload: &[u8],
 ) -> Pushed
-    requires { Good w words.old × Bytes w bytes.old × PacketRight p payload.now × (isReading time ≡ true) }
-    ensures { pushEnded result words.new bytes.new ≡ pushOf w words.old bytes.old time p payload.now }
+    requires { Good w words.old × Bytes w bytes.old × PacketRight p payload.now × (is_reading time ≡ true) }
+    ensures { push_ended result words.new bytes.new ≡ push_of w words.old bytes.old time p payload.now }
 {
     let next = crate::number(w, w.held);
     let order = numbers::seq::compare(p.number, next);

@@ -1,7 +1,7 @@
 // The payload of a held received entry, where it lies: 01, "Window".
 ghost use Rattle.std.specs.Prelude.{◌≡◌, ◌+◌, ◌≤◌, length};
 ghost use Rattle.window.specs.Ready.{Good, Bytes};
-ghost use Rattle.window.specs.Show.{PartOf, ShownAt, shownOf};
+ghost use Rattle.window.specs.Show.{PartOf, ShownAt, shown_of};
 
 use crate::Window;
 use slots::entry::Entry;
@@ -26,7 +26,7 @@ pub fn part_at(area: &[u8], at: usize, len: usize) -> &[u8]
 // Where the payload of a number lies. Each answer has its own return.
 pub fn find(w: Window, words: &[u64], number: u32) -> Part
     requires { Good w words.now }
-    ensures { result ≡ shownOf w words.now number }
+    ensures { result ≡ shown_of w words.now number }
 {
     let i = numbers::seq::distance(number, w.seqno0) as usize;
     if w.held <= i {
@@ -65,7 +65,7 @@ pub fn find(w: Window, words: &[u64], number: u32) -> Part
 // The payload of a number, or an empty part.
 pub fn show<'a>(w: Window, words: &[u64], bytes: &'a [u8], number: u32) -> &'a [u8]
     requires { Good w words.now × Bytes w bytes.now }
-    ensures { ShownAt (shownOf w words.now number) bytes.entry result }
+    ensures { ShownAt (shown_of w words.now number) bytes.entry result }
 {
     let p = find(w, words, number);
     part_at(bytes, p.at, p.len)

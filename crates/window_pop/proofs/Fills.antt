@@ -8,25 +8,25 @@ use borrow.Author.Rules.{rules}
 use lib.ListN.{length, take, drop, length-drop}
 use lib.Seq.{paste, length-take-le, length-paste}
 use Rattle.numbers.proofs.Flags.{by-test}
-use Rattle.slots.specs.Words.{entry_at, lengthIn, messageIn, isFirst, is_last, inMessage}
-use Rattle.slots.specs.Ring.{slot_of, payloadAt}
+use Rattle.slots.specs.Words.{entry_at, length_in, message_in, is_first, is_last, in_message}
+use Rattle.slots.specs.Ring.{slot_of, payload_at}
 use Rattle.slots.specs.declared.entry.Entry.{Entry}
-use Rattle.window.specs.Window.{entryIn}
+use Rattle.window.specs.Window.{entry_in}
 use Rattle.window.specs.declared.Window.{Window}
 use Rattle.window_pop.specs.declared.pop.Message.{Message}
-use Rattle.window_pop.specs.Pop.{run_from, messageOf, filled}
+use Rattle.window_pop.specs.Pop.{run_from, message_of, filled}
 use Rattle.window.proofs.Walks.{walk-slot, walk-on, walk_start}
 use Rattle.window_pop.proofs.Runs.{run-bytes, run_fits}
 use Rattle.slots.proofs.Laws.{length-read, slot-words, slot-bytes}
 
 -- put_payload: the part of the area is the slot's payload
-payload-long : (bs : List ℕ) (s n : ℕ) → n ≤ 1456 → 1456 * s + 1456 ≤ length bs → length (payloadAt bs s n) ≡ n
+payload-long : (bs : List ℕ) (s n : ℕ) → n ≤ 1456 → 1456 * s + 1456 ≤ length bs → length (payload_at bs s n) ≡ n
 payload-long bs s n h k = length-take-le n (drop (1456 * s) bs) (rw length-drop (omega arith))
 
 pub put-part : (out bs : List ℕ) (at s n : ℕ) {x : List ℕ}
     → x ≡ paste out at (take (1456 * s + n - 1456 * s) (drop (1456 * s) bs)) (length (take (1456 * s + n - 1456 * s) (drop (1456 * s) bs)))
     → n ≤ 1456 → 1456 * s + 1456 ≤ length bs
-    → x ≡ paste out at (payloadAt bs s n) n
+    → x ≡ paste out at (payload_at bs s n) n
 put-part out bs at s n a h k =
     let e : 1456 * s + n - 1456 * s ≡ n = omega arith in
     let l = payload-long bs s n h k in
@@ -42,18 +42,18 @@ module _ (capacity start : ℕ) (ws bs out : List ℕ) where
   at-start = refl
 
   -- entry i follows the ones before it
-  at_more : (i : ℕ) → (filled capacity start ws bs out (i + 1)).at ≡ (filled capacity start ws bs out i).at + lengthIn (entry_at ws (slot_of capacity start i))
+  at_more : (i : ℕ) → (filled capacity start ws bs out (i + 1)).at ≡ (filled capacity start ws bs out i).at + length_in (entry_at ws (slot_of capacity start i))
   unfolding filled
   at_more i = rw (add-one i)
 
   pub at_after : (i : ℕ) {at s n : ℕ} {e : Entry}
-      → at ≡ (filled capacity start ws bs out i).at → s ≡ slot_of capacity start i → e ≡ entry_at ws s → n ≡ lengthIn e
+      → at ≡ (filled capacity start ws bs out i).at → s ≡ slot_of capacity start i → e ≡ entry_at ws s → n ≡ length_in e
       → at + n ≡ (filled capacity start ws bs out (i + 1)).at
   at_after i a b c d = rw (at_more i, ← a, ← b, ← c, ← d)
 
   pub fill-after : (i : ℕ) {at s n : ℕ} {e : Entry} {out₁ out₂ : List ℕ}
-      → out₁ ≡ (filled capacity start ws bs out i).out → at ≡ (filled capacity start ws bs out i).at → s ≡ slot_of capacity start i → e ≡ entry_at ws s → n ≡ lengthIn e
-      → out₂ ≡ paste out₁ at (payloadAt bs s n) n
+      → out₁ ≡ (filled capacity start ws bs out i).out → at ≡ (filled capacity start ws bs out i).at → s ≡ slot_of capacity start i → e ≡ entry_at ws s → n ≡ length_in e
+      → out₂ ≡ paste out₁ at (payload_at bs s n) n
       → out₂ ≡ (filled capacity start ws bs out (i + 1)).out
   unfolding filled
   fill-after i f a b c d g = rw (add-one i, ← f, ← a, ← b, ← c, ← d) g
@@ -80,15 +80,15 @@ module _ (capacity start : ℕ) (ws bs out : List ℕ) where
   fill-length zero h hs hb = refl
   fill-length (suc i) h hs hb =
       let s = slot_of capacity start i in
-      let n = lengthIn (entry_at ws s) in
+      let n = length_in (entry_at ws s) in
       let r = fill-length i (omega arith) hs hb in
       let l = payload-long bs s n (length-read ws s) (slot-bytes capacity start i refl hs hb) in
-      length-paste (filled capacity start ws bs out i).out (filled capacity start ws bs out i).at (payloadAt bs s n) n (omega arith) (omega arith) ∙ r
+      length-paste (filled capacity start ws bs out i).out (filled capacity start ws bs out i).at (payload_at bs s n) n (omega arith) (omega arith) ∙ r
 
   -- so each payload has room if the last has
   pub fill-room : (i count : ℕ) {at s n : ℕ} {e : Entry} {out₁ : List ℕ}
       → out₁ ≡ (filled capacity start ws bs out i).out → at ≡ (filled capacity start ws bs out i).at
-      → n ≡ lengthIn e → e ≡ entry_at ws s → s ≡ slot_of capacity start i
+      → n ≡ length_in e → e ≡ entry_at ws s → s ≡ slot_of capacity start i
       → (filled capacity start ws bs out count).at ≤ length out → i < count → start < capacity → 1456 * capacity ≤ length bs
       → at + n ≤ length out₁
   fill-room i count f a d c b k h hs hb =
@@ -111,33 +111,33 @@ module _ (capacity start : ℕ) (ws bs out : List ℕ) where
   run-whole message top zero i total h a = λ p. absurd (omega arith)
   run-whole message top (suc n) i total h a =
       let e = entry_at ws (slot_of capacity start i) in
-      by-test (Whole top) (inMessage message e) _ _
+      by-test (Whole top) (in_message message e) _ _
       (λ t.
       by-test (Whole top) (is_last e) _ _
       (λ u p. (omega arith, sym (at_after i a refl refl refl)))
-      (λ u. run-whole message top n (i + 1) (total + lengthIn e) (omega arith) (at_after i a refl refl refl)))
+      (λ u. run-whole message top n (i + 1) (total + length_in e) (omega arith) (at_after i a refl refl refl)))
       (λ t p. absurd (omega arith))
 
 -- a whole message in front
-module _ (w : Window) (ws bs out : List ℕ) {m : Message} (c : m ≡ messageOf w ws) (h : 0 < m.packets) where
+module _ (w : Window) (ws bs out : List ℕ) {m : Message} (c : m ≡ message_of w ws) (h : 0 < m.packets) where
   pub front-whole : (m.packets ≤ w.held) × ((filled w.capacity w.start ws bs out m.packets).at ≡ m.bytes)
-  unfolding messageOf
+  unfolding message_of
   front-whole =
-      let e = entryIn w ws 0 in
+      let e = entry_in w ws 0 in
       subst (Whole w.capacity w.start ws bs out w.held) (sym c)
-      (by-test (Whole w.capacity w.start ws bs out w.held) (isFirst e) _ _
-      (λ t. run-whole w.capacity w.start ws bs out (messageIn e) w.held w.held 0 0 (omega arith) (at-start w.capacity w.start ws bs out))
+      (by-test (Whole w.capacity w.start ws bs out w.held) (is_first e) _ _
+      (λ t. run-whole w.capacity w.start ws bs out (message_in e) w.held w.held 0 0 (omega arith) (at-start w.capacity w.start ws bs out))
       (λ t p. absurd (omega arith)))
       h
 
   pub front-room : m.bytes ≤ length out → (filled w.capacity w.start ws bs out m.packets).at ≤ length out
   front-room k = omega (arith, front-whole.1)
 
-pub front-held : (w : Window) (ws : List ℕ) {m : Message} → m ≡ messageOf w ws → 0 < m.packets → m.packets ≤ w.held
+pub front-held : (w : Window) (ws : List ℕ) {m : Message} → m ≡ message_of w ws → 0 < m.packets → m.packets ≤ w.held
 front-held w ws c h = (front-whole w ws [] [] c h).0
 
-pub read-most : (ws : List ℕ) (s : ℕ) {n : ℕ} {e : Entry} → n ≡ lengthIn e → e ≡ entry_at ws s → n ≤ 1456
-read-most ws s d c = omega (arith, d ∙ ap lengthIn c, length-read ws s)
+pub read-most : (ws : List ℕ) (s : ℕ) {n : ℕ} {e : Entry} → n ≡ length_in e → e ≡ entry_at ws s → n ≤ 1456
+read-most ws s d c = omega (arith, d ∙ ap length_in c, length-read ws s)
 
 pub ruleset fills = (
   put-part,

@@ -14,15 +14,15 @@ use mir.Facts.{to_z_pos, to_z-of_z}
 use lib.Signed.{le_z}
 use Rattle.numbers.proofs.Flags.{impossible, by-test}
 use Rattle.numbers.proofs.Halves.{size-+, size--, fits-size}
-use Rattle.clock.specs.Base.{instantOf}
+use Rattle.clock.specs.Base.{instant_of}
 use Rattle.clock.specs.declared.base.TimeBase.{TimeBase}
 use Rattle.clock.proofs.Ranges.{reference-near}
 use Rattle.clock.proofs.Kept.{instant-near}
-use Rattle.slots.specs.Words.{isReceived, entry_at, stampIn, isFirst}
+use Rattle.slots.specs.Words.{is_received, entry_at, stamp_in, is_first}
 use Rattle.slots.specs.Ring.{slot_of}
 use Rattle.slots.specs.declared.entry.Entry.{Entry}
-use Rattle.window_pop.specs.Pop.{isLate, walkedTo, walkFrom, noWalk, dueOf, limitOf}
-use Rattle.window_pop.specs.Inner.{isKept, walkPast}
+use Rattle.window_pop.specs.Pop.{is_late, walked_to, walk_from, no_walk, due_of, limit_of}
+use Rattle.window_pop.specs.Inner.{is_kept, walk_past}
 use Rattle.window_pop.specs.declared.pop.Walk.{Walk}
 use Rattle.window.proofs.Walks.{walk-slot, walk-on, walk_start}
 use Rattle.slots.proofs.Laws.{slot-words}
@@ -32,18 +32,18 @@ pub latency-reads : (latency : ℕ) → latency ≤ 65535000 → to_z w64 latenc
 latency-reads latency h = to_z_pos w64 (omega arith)
 
 -- due
-instant-size : (base : TimeBase) (stamp : ℕ) → nat_abs base.time ≤ 2 ^ 61 → nat_abs (instantOf base stamp) ≤ 2 ^ 61 + 2 ^ 31
+instant-size : (base : TimeBase) (stamp : ℕ) → nat_abs base.time ≤ 2 ^ 61 → nat_abs (instant_of base stamp) ≤ 2 ^ 61 + 2 ^ 31
 instant-size base stamp h = instant-near base stamp (reference-near base.time h)
 
-module _ (base : TimeBase) (stamp latency : ℕ) {i i₁ l : ℤ} (a : i ≡ instantOf base stamp) (p : i₁ ≡ i) (q : l ≡ pos latency) where
+module _ (base : TimeBase) (stamp latency : ℕ) {i i₁ l : ℤ} (a : i ≡ instant_of base stamp) (p : i₁ ≡ i) (q : l ≡ pos latency) where
   pub due-fits : nat_abs base.time ≤ 2 ^ 61 → latency ≤ 65535000 → SFits w64 (i₁ +ℤ l)
   due-fits h k =
       rw (p, a, q)
-      (fits-size w64 (instantOf base stamp +ℤ pos latency)
-      (omega (arith, size-+ (instantOf base stamp) (pos latency), instant-size base stamp h)))
+      (fits-size w64 (instant_of base stamp +ℤ pos latency)
+      (omega (arith, size-+ (instant_of base stamp) (pos latency), instant-size base stamp h)))
 
-  pub due-is : {r : ℤ} → r ≡ i₁ +ℤ l → r ≡ dueOf base latency stamp
-  unfolding dueOf
+  pub due-is : {r : ℤ} → r ≡ i₁ +ℤ l → r ≡ due_of base latency stamp
+  unfolding due_of
   due-is e = e ∙ rw (p, a, q)
 
 -- late_limit
@@ -58,8 +58,8 @@ module _ (latency : ℕ) {z z₁ l : ℤ} (p : z₁ ≡ z) (q : l ≡ pos latenc
   limit-fits-on n e j = rw e (fits-size w64 (z₁ -ℤ l -ℤ n) (omega (arith, size-- (z₁ -ℤ l) n, limit-size)))
 
 pub limit_is : (z : ℤ) (latency : ℕ) → nat_abs z < 2 ^ 60 → latency ≤ 65535000
-    → to_z w64 (of_z w64 (to_z w64 (of_z w64 (to_z w64 (of_z w64 z) -ℤ to_z w64 latency)) -ℤ pos 5000)) ≡ limitOf z latency
-unfolding limitOf
+    → to_z w64 (of_z w64 (to_z w64 (of_z w64 (to_z w64 (of_z w64 z) -ℤ to_z w64 latency)) -ℤ pos 5000)) ≡ limit_of z latency
+unfolding limit_of
 limit_is z latency h k =
     rw (to_z-of_z (fits-size w64 z (omega arith)), latency-reads latency k)
     (rw (to_z-of_z (limit-fits latency {z = z} refl refl h k)) (rw (to_z-of_z (limit-fits-on latency {z = z} refl refl h k (pos 5000) refl (omega arith)))))
@@ -73,43 +73,43 @@ or-true : (x : Bool) → (x || true) ≡ true
 or-true true = refl
 or-true false = refl
 
-module _ (base : TimeBase) (limit : ℤ) (e : Entry) {t : Bool} (a : t ≡ isFirst e) where
-  pub late-time : {stamp : ℕ} {i i₁ l : ℤ} → t ≡ true → stamp ≡ stampIn e → i ≡ instantOf base stamp → i₁ ≡ i → l ≡ limit → le_z i₁ l ≡ isLate base limit e
-  unfolding isLate
+module _ (base : TimeBase) (limit : ℤ) (e : Entry) {t : Bool} (a : t ≡ is_first e) where
+  pub late-time : {stamp : ℕ} {i i₁ l : ℤ} → t ≡ true → stamp ≡ stamp_in e → i ≡ instant_of base stamp → i₁ ≡ i → l ≡ limit → le_z i₁ l ≡ is_late base limit e
+  unfolding is_late
   late-time f b c p q = rw (← a, f, ← b, ← c, ← p, ← q) (sym (or-false _))
 
-  pub late-unmarked : t ≡ false → true ≡ isLate base limit e
-  unfolding isLate
-  late-unmarked f = rw (← a, f) (sym (or-true (le_z (instantOf base (stampIn e)) limit)))
+  pub late-unmarked : t ≡ false → true ≡ is_late base limit e
+  unfolding is_late
+  late-unmarked f = rw (← a, f) (sym (or-true (le_z (instant_of base (stamp_in e)) limit)))
 
 -- is_kept, walk_past: an entry that is not received
-module _ (e : Entry) {t : Bool} (a : t ≡ isReceived e) (f : t ≡ false) where
-  pub gap-not-kept : (base : TimeBase) (limit : ℤ) → false ≡ isKept base limit e
-  unfolding isKept
+module _ (e : Entry) {t : Bool} (a : t ≡ is_received e) (f : t ≡ false) where
+  pub gap-not-kept : (base : TimeBase) (limit : ℤ) → false ≡ is_kept base limit e
+  unfolding is_kept
   gap-not-kept base limit = rw (← a, f)
 
-  pub past-gap : (k : Walk) (i : ℕ) → k ≡ walkPast k i e
-  unfolding walkPast
+  pub past-gap : (k : Walk) (i : ℕ) → k ≡ walk_past k i e
+  unfolding walk_past
   past-gap k i = rw (← a, f)
 
 -- is_kept
-module _ (base : TimeBase) (limit : ℤ) (e : Entry) {t u : Bool} {l : ℤ} (a : t ≡ isReceived e) (f : t ≡ true) (b : u ≡ isLate base l e) (p : l ≡ limit) where
-  pub not-kept : u ≡ true → false ≡ isKept base limit e
-  unfolding isKept
+module _ (base : TimeBase) (limit : ℤ) (e : Entry) {t u : Bool} {l : ℤ} (a : t ≡ is_received e) (f : t ≡ true) (b : u ≡ is_late base l e) (p : l ≡ limit) where
+  pub not-kept : u ≡ true → false ≡ is_kept base limit e
+  unfolding is_kept
   not-kept g = rw (← a, f, ← p, ← b, g)
 
-  pub kept : u ≡ false → true ≡ isKept base limit e
-  unfolding isKept
+  pub kept : u ≡ false → true ≡ is_kept base limit e
+  unfolding is_kept
   kept g = rw (← a, f, ← p, ← b, g)
 
 -- walk_past
-module _ (k : Walk) (i : ℕ) (e : Entry) {t : Bool} (a : t ≡ isReceived e) (f : t ≡ true) where
-  pub past_first : {stamp : ℕ} → k.count ≡ 0 → stamp ≡ stampIn e → ◌≡◌ {A = Walk} (record { count = i + 1; first_stamp = stamp }) (walkPast k i e)
-  unfolding walkPast
+module _ (k : Walk) (i : ℕ) (e : Entry) {t : Bool} (a : t ≡ is_received e) (f : t ≡ true) where
+  pub past_first : {stamp : ℕ} → k.count ≡ 0 → stamp ≡ stamp_in e → ◌≡◌ {A = Walk} (record { count = i + 1; first_stamp = stamp }) (walk_past k i e)
+  unfolding walk_past
   past_first h b = rw (← a, f, eq-eqb k.count 0 h, ← b)
 
-  pub past-later : (k.count ≡ 0 → ⊥) → ◌≡◌ {A = Walk} (record { count = i + 1; first_stamp = k.first_stamp }) (walkPast k i e)
-  unfolding walkPast
+  pub past-later : (k.count ≡ 0 → ⊥) → ◌≡◌ {A = Walk} (record { count = i + 1; first_stamp = k.first_stamp }) (walk_past k i e)
+  unfolding walk_past
   past-later h = rw (← a, f, ne_eqb k.count 0 h)
 
 -- walk_late: an entry that is kept, one that is not, by the tests of both
@@ -124,66 +124,66 @@ goes f true false k k₁ e = impossible e
 goes f false y k k₁ e = refl
 
 pub late-start : (base : TimeBase) (limit : ℤ) (capacity start : ℕ) (ws : List ℕ) (held : ℕ)
-    → walkFrom base limit capacity start ws 0 noWalk held ≡ walkFrom base limit capacity start ws 0 noWalk (held - 0)
+    → walk_from base limit capacity start ws 0 no_walk held ≡ walk_from base limit capacity start ws 0 no_walk (held - 0)
 late-start base limit capacity start ws held = let e : held - 0 ≡ held = omega arith in rw e
 
 module _ (base : TimeBase) (limit : ℤ) (capacity start : ℕ) (ws : List ℕ) (i held : ℕ) (k : Walk) where
-  late-none : held ≤ i → walkFrom base limit capacity start ws i k (held - i) ≡ k
-  unfolding walkFrom
+  late-none : held ≤ i → walk_from base limit capacity start ws i k (held - i) ≡ k
+  unfolding walk_from
   late-none h = let e : held - i ≡ 0 = omega arith in rw e
 
   abbrev here : Entry
   here = entry_at ws (slot_of capacity start i)
 
   abbrev rest : Walk → Walk
-  rest k₁ = walkFrom base limit capacity start ws (i + 1) k₁ (held - (i + 1))
+  rest k₁ = walk_from base limit capacity start ws (i + 1) k₁ (held - (i + 1))
 
   late-here : i < held
-      → walkFrom base limit capacity start ws i k (held - i) ≡ cond (isReceived here) (cond (isLate base limit here) (rest (walkedTo k i here)) k) (rest k)
-  unfolding walkFrom
+      → walk_from base limit capacity start ws i k (held - i) ≡ cond (is_received here) (cond (is_late base limit here) (rest (walked_to k i here)) k) (rest k)
+  unfolding walk_from
   late-here h = let e : held - i ≡ suc (held - (i + 1)) = omega arith in rw e
 
-  module _ {r : Walk} (a : r ≡ walkFrom base limit capacity start ws i k (held - i)) where
+  module _ {r : Walk} (a : r ≡ walk_from base limit capacity start ws i k (held - i)) where
     ended : held ≤ i → k ≡ r
     ended h = sym (a ∙ late-none h)
 
-    module _ {s : ℕ} {e : Entry} {t : Bool} {l : ℤ} (h : i < held) (b : s ≡ slot_of capacity start i) (c : e ≡ entry_at ws s) (d : t ≡ isKept base l e) (p : l ≡ limit) where
-      tested : (isReceived here && not (isLate base limit here)) ≡ t
-      unfolding isKept
+    module _ {s : ℕ} {e : Entry} {t : Bool} {l : ℤ} (h : i < held) (b : s ≡ slot_of capacity start i) (c : e ≡ entry_at ws s) (d : t ≡ is_kept base l e) (p : l ≡ limit) where
+      tested : (is_received here && not (is_late base limit here)) ≡ t
+      unfolding is_kept
       tested = rw (← b, ← c, ← p) (sym d)
 
       found : t ≡ true → k ≡ r
-      found f = sym (a ∙ late-here h ∙ stops rest (isReceived here) (isLate base limit here) k (walkedTo k i here) (tested ∙ f))
+      found f = sym (a ∙ late-here h ∙ stops rest (is_received here) (is_late base limit here) k (walked_to k i here) (tested ∙ f))
 
-      pub late-again : {k₁ : Walk} → t ≡ false → k₁ ≡ walkPast k i e → r ≡ walkFrom base limit capacity start ws (i + 1) k₁ (held - (i + 1))
-      unfolding walkPast
+      pub late-again : {k₁ : Walk} → t ≡ false → k₁ ≡ walk_past k i e → r ≡ walk_from base limit capacity start ws (i + 1) k₁ (held - (i + 1))
+      unfolding walk_past
       late-again f g =
-          a ∙ late-here h ∙ goes rest (isReceived here) (isLate base limit here) k (walkedTo k i here) (tested ∙ f) ∙ rw (← b, ← c) (ap rest (sym g))
+          a ∙ late-here h ∙ goes rest (is_received here) (is_late base limit here) k (walked_to k i here) (tested ∙ f) ∙ rw (← b, ← c) (ap rest (sym g))
 
 -- the loop has the limit as the machine reads it back, m
 module _ (base : TimeBase) (limit m : ℤ) (capacity start : ℕ) (ws : List ℕ) (i held : ℕ) (k : Walk)
-    (a : walkFrom base m capacity start ws 0 noWalk held ≡ walkFrom base m capacity start ws i k (held - i)) (q : m ≡ limit) where
-  read_back : {k₁ : Walk} → k₁ ≡ walkFrom base m capacity start ws 0 noWalk held → k₁ ≡ walkFrom base limit capacity start ws 0 noWalk held
-  read_back e = e ∙ ap (λ (z : ℤ). walkFrom base z capacity start ws 0 noWalk held) q
+    (a : walk_from base m capacity start ws 0 no_walk held ≡ walk_from base m capacity start ws i k (held - i)) (q : m ≡ limit) where
+  read_back : {k₁ : Walk} → k₁ ≡ walk_from base m capacity start ws 0 no_walk held → k₁ ≡ walk_from base limit capacity start ws 0 no_walk held
+  read_back e = e ∙ ap (λ (z : ℤ). walk_from base z capacity start ws 0 no_walk held) q
 
-  pub late-end : held ≤ i → k ≡ walkFrom base limit capacity start ws 0 noWalk held
+  pub late-end : held ≤ i → k ≡ walk_from base limit capacity start ws 0 no_walk held
   late-end h = read_back (ended base m capacity start ws i held k a h)
 
-  pub late-found : {s : ℕ} {e : Entry} {t : Bool} {l : ℤ} → i < held → s ≡ slot_of capacity start i → e ≡ entry_at ws s → t ≡ isKept base l e → l ≡ m → t ≡ true
-      → k ≡ walkFrom base limit capacity start ws 0 noWalk held
+  pub late-found : {s : ℕ} {e : Entry} {t : Bool} {l : ℤ} → i < held → s ≡ slot_of capacity start i → e ≡ entry_at ws s → t ≡ is_kept base l e → l ≡ m → t ≡ true
+      → k ≡ walk_from base limit capacity start ws 0 no_walk held
   late-found h b c d p f = read_back (found base m capacity start ws i held k a h b c d p f)
 
 -- it discards no more entries than there are
 pub walk-held : (base : TimeBase) (limit : ℤ) (capacity start : ℕ) (ws : List ℕ) (top n i : ℕ) (k : Walk)
-    → i + n ≤ top → k.count ≤ top → (walkFrom base limit capacity start ws i k n).count ≤ top
-unfolding walkFrom
+    → i + n ≤ top → k.count ≤ top → (walk_from base limit capacity start ws i k n).count ≤ top
+unfolding walk_from
 walk-held base limit capacity start ws top zero i k h g = g
 walk-held base limit capacity start ws top (suc n) i k h g =
     let e = entry_at ws (slot_of capacity start i) in
-    by-test (λ (x : Walk). x.count ≤ top) (isReceived e) _ _
+    by-test (λ (x : Walk). x.count ≤ top) (is_received e) _ _
     (λ t.
-    by-test (λ (x : Walk). x.count ≤ top) (isLate base limit e) _ _
-    (λ u. walk-held base limit capacity start ws top n (i + 1) (walkedTo k i e) (omega arith) (omega arith))
+    by-test (λ (x : Walk). x.count ≤ top) (is_late base limit e) _ _
+    (λ u. walk-held base limit capacity start ws top n (i + 1) (walked_to k i e) (omega arith) (omega arith))
     (λ u. g))
     (λ t. walk-held base limit capacity start ws top n (i + 1) k (omega arith) g)
 

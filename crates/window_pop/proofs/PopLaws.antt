@@ -9,17 +9,17 @@ use lib.Dec.{ltb, eqb}
 use lib.IntN.{ℤ}
 use lib.ListN.{length}
 use lib.Signed.{lt_z}
-use Rattle.numbers.specs.Instants.{intervalOf}
+use Rattle.numbers.specs.Instants.{interval_of}
 use Rattle.numbers.proofs.Flags.{by-test}
 use Rattle.numbers.proofs.Circle.{sum_below}
-use Rattle.clock.specs.Release.{releaseOf}
-use Rattle.clock.specs.Ranges.{clockOk}
+use Rattle.clock.specs.Release.{release_of}
+use Rattle.clock.specs.Ranges.{clock_ok}
 use Rattle.clock.specs.declared.time.SynchronizedRemoteClock.{SynchronizedRemoteClock}
 use Rattle.clock.proofs.Kept.{release-kept}
-use Rattle.slots.specs.Words.{isReceived, stampIn}
-use Rattle.window.specs.Window.{entryIn, number_in, cut}
+use Rattle.slots.specs.Words.{is_received, stamp_in}
+use Rattle.window.specs.Window.{entry_in, number_in, cut}
 use Rattle.window.specs.Ready.{Good, Bytes}
-use Rattle.window_pop.specs.Pop.{PopOutcome, popEnded, messageOf, filled, walkFrom, noWalk, dueOf, limitOf, nothing, discardFront, discarded, releasedOf, lateOf, frontOf, pop_of}
+use Rattle.window_pop.specs.Pop.{PopOutcome, pop_ended, message_of, filled, walk_from, no_walk, due_of, limit_of, nothing, discard_front, discarded, released_of, late_of, front_of, pop_of}
 use Rattle.window.specs.declared.Window.{Window}
 use Rattle.window_pop.specs.declared.pop.Walk.{Walk}
 use Rattle.window_pop.specs.declared.pop.Popped.{Popped}
@@ -28,8 +28,8 @@ use Rattle.window_pop.proofs.Fills.{front-room, front-held, fill-length}
 use Rattle.window_pop.proofs.Pops.{cut-good, walk-within}
 
 -- what is left of a good window is good
-pub discard-good : (w : Window) (ws : List ℕ) (n : ℕ) → Good w ws → n ≤ w.held → Good (discardFront w ws n) ws
-unfolding discardFront
+pub discard-good : (w : Window) (ws : List ℕ) (n : ℕ) → Good w ws → n ≤ w.held → Good (discard_front w ws n) ws
+unfolding discard_front
 discard-good w ws n g h =
     let c : Good (cut w n) ws = cut-good n refl g h in
     let r = c.ranges in
@@ -51,7 +51,7 @@ pub record Dropped (k : SynchronizedRemoteClock) (w : Window) (ws out : List ℕ
   pub held : count ≤ w.held
   pub begins : first ≡ w.seqno0
   pub ends : end ≡ number_in w count
-  pub window : x.popped.window ≡ discardFront w ws count
+  pub window : x.popped.window ≡ discard_front w ws count
   pub clock : x.popped.clock ≡ k
   pub output : x.output ≡ out
 
@@ -60,48 +60,48 @@ module _ (k : SynchronizedRemoteClock) (latency : ℕ) (drop : Bool) (w : Window
   abbrev pub dropped : ℕ → ℕ → Popped
   dropped n stamp =
       record {
-        window = discardFront w ws n;
+        window = discard_front w ws n;
         clock = k;
-        answer = answers.Late w.seqno0 (number_in w n) (intervalOf (dueOf k.base latency stamp) now);
+        answer = answers.Late w.seqno0 (number_in w n) (interval_of (due_of k.base latency stamp) now);
       }
 
-  pub late-cases : (P : Popped → Type 0) → P (nothing k w) → ((n stamp : ℕ) → 0 < n → n ≤ w.held → P (dropped n stamp)) → P (lateOf k latency drop w ws now)
-  unfolding lateOf discarded
+  pub late-cases : (P : Popped → Type 0) → P (nothing k w) → ((n stamp : ℕ) → 0 < n → n ≤ w.held → P (dropped n stamp)) → P (late_of k latency drop w ws now)
+  unfolding late_of discarded
   late-cases P a b =
-      let walk : Walk = walkFrom k.base (limitOf now latency) w.capacity w.start ws 0 noWalk w.held in
+      let walk : Walk = walk_from k.base (limit_of now latency) w.capacity w.start ws 0 no_walk w.held in
       by-test P drop _ _
       (λ t.
       by-test P (eqb walk.count 0) _ _
       (λ u. a)
-      (λ u. b walk.count walk.first_stamp (omega (arith, eqb-false walk.count 0 u)) (walk-within w ws k.base (limitOf now latency) refl)))
+      (λ u. b walk.count walk.first_stamp (omega (arith, eqb-false walk.count 0 u)) (walk-within w ws k.base (limit_of now latency) refl)))
       (λ t. a)
 
   module _ (bs out : List ℕ) where
     abbrev pub refused : PopOutcome
-    refused = popEnded (record { window = w; clock = k; answer = answers.OutShort }) out
+    refused = pop_ended (record { window = w; clock = k; answer = answers.OutShort }) out
 
     abbrev pub given : PopOutcome
     given =
-        let m = messageOf w ws in
-        let r = releaseOf k (stampIn (entryIn w ws 0)) in
-        popEnded
+        let m = message_of w ws in
+        let r = release_of k (stamp_in (entry_in w ws 0)) in
+        pop_ended
         (record { window = cut w m.packets; clock = r.clock; answer = answers.Message r.time m.bytes m.packets })
         (filled w.capacity w.start ws bs out m.packets).out
 
     -- nothing, refusal 11, a message, or a late drop
     pub pop-cases : (P : PopOutcome → Type 0)
-        → P (popEnded (nothing k w) out)
+        → P (pop_ended (nothing k w) out)
         → P refused
-        → (0 < (messageOf w ws).packets → (messageOf w ws).packets ≤ w.held → (messageOf w ws).bytes ≤ length out → P given)
-        → ((n stamp : ℕ) → 0 < n → n ≤ w.held → P (popEnded (dropped n stamp) out))
+        → (0 < (message_of w ws).packets → (message_of w ws).packets ≤ w.held → (message_of w ws).bytes ≤ length out → P given)
+        → ((n stamp : ℕ) → 0 < n → n ≤ w.held → P (pop_ended (dropped n stamp) out))
         → P (pop_of k latency drop w ws now bs out)
-    unfolding pop_of frontOf releasedOf
+    unfolding pop_of front_of released_of
     pop-cases P a b c d =
-        let m = messageOf w ws in
-        let late = late-cases (λ (r : Popped). P (popEnded r out)) a d in
-        by-test P (ltb 0 w.held && isReceived (entryIn w ws 0)) _ _
+        let m = message_of w ws in
+        let late = late-cases (λ (r : Popped). P (pop_ended r out)) a d in
+        by-test P (ltb 0 w.held && is_received (entry_in w ws 0)) _ _
         (λ t.
-        by-test P (lt_z now (dueOf k.base latency (stampIn (entryIn w ws 0)))) _ _
+        by-test P (lt_z now (due_of k.base latency (stamp_in (entry_in w ws 0)))) _ _
         (λ u. a)
         (λ u.
         by-test P (ltb 0 m.packets) _ _
@@ -122,15 +122,15 @@ module _ (k : SynchronizedRemoteClock) (latency : ℕ) (drop : Bool) (w : Window
         pop-cases (λ (x : PopOutcome). Good x.popped.window ws)
         g
         g
-        (λ some held fits. cut-good (messageOf w ws).packets refl g held)
+        (λ some held fits. cut-good (message_of w ws).packets refl g held)
         (λ n stamp some held. discard-good w ws n g held)
 
-    pub pop-clock : clockOk k ≡ true → clockOk outcome.popped.clock ≡ true
+    pub pop-clock : clock_ok k ≡ true → clock_ok outcome.popped.clock ≡ true
     pop-clock g =
-        pop-cases (λ (x : PopOutcome). clockOk x.popped.clock ≡ true)
+        pop-cases (λ (x : PopOutcome). clock_ok x.popped.clock ≡ true)
         g
         g
-        (λ some held fits. release-kept k (stampIn (entryIn w ws 0)) g)
+        (λ some held fits. release-kept k (stamp_in (entry_in w ws 0)) g)
         (λ n stamp some held. g)
 
     pub pop-length : w.start < w.capacity → Bytes w bs → length outcome.output ≡ length out
@@ -138,7 +138,7 @@ module _ (k : SynchronizedRemoteClock) (latency : ℕ) (drop : Bool) (w : Window
         pop-cases (λ (x : PopOutcome). length x.output ≡ length out)
         refl
         refl
-        (λ some held fits. fill-length w.capacity w.start ws bs out (messageOf w ws).packets (front-room w ws bs out refl some fits) h hb)
+        (λ some held fits. fill-length w.capacity w.start ws bs out (message_of w ws).packets (front-room w ws bs out refl some fits) h hb)
         (λ n stamp some held. refl)
 
     -- refusal 11 and nothing: window, clock and output stay
@@ -150,9 +150,9 @@ module _ (k : SynchronizedRemoteClock) (latency : ℕ) (drop : Bool) (w : Window
         (λ some held fits e. absurd (let z : ◌≡◌ {A = ℕ} 0 1 = cc in omega arith))
         (λ n stamp some held e. absurd (let z : ◌≡◌ {A = ℕ} 0 1 = cc in omega arith))
 
-    pub pop-nothing : outcome.popped.answer ≡ answers.Nothing → outcome ≡ popEnded (nothing k w) out
+    pub pop-nothing : outcome.popped.answer ≡ answers.Nothing → outcome ≡ pop_ended (nothing k w) out
     pop-nothing =
-        pop-cases (λ (x : PopOutcome). x.popped.answer ≡ answers.Nothing → x ≡ popEnded (nothing k w) out)
+        pop-cases (λ (x : PopOutcome). x.popped.answer ≡ answers.Nothing → x ≡ pop_ended (nothing k w) out)
         (λ e. refl)
         (λ e. absurd (let z : ◌≡◌ {A = ℕ} 0 1 = cc in omega arith))
         (λ some held fits e. absurd (let z : ◌≡◌ {A = ℕ} 0 1 = cc in omega arith))
@@ -165,8 +165,8 @@ module _ (k : SynchronizedRemoteClock) (latency : ℕ) (drop : Bool) (w : Window
         (λ e. absurd (let z : ◌≡◌ {A = ℕ} 0 1 = cc in omega arith))
         (λ e. absurd (let z : ◌≡◌ {A = ℕ} 0 1 = cc in omega arith))
         (λ some held fits e.
-        let b : (messageOf w ws).bytes ≡ bytes = cc in
-        let p : (messageOf w ws).packets ≡ packets = cc in
+        let b : (message_of w ws).bytes ≡ bytes = cc in
+        let p : (message_of w ws).packets ≡ packets = cc in
         record { some = omega arith; held = omega arith; fits = omega arith; window = ap (cut w) p })
         (λ n stamp some held e. absurd (let z : ◌≡◌ {A = ℕ} 0 1 = cc in omega arith))
 

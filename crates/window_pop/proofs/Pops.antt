@@ -11,21 +11,21 @@ use lib.Dec.{ltb, eqb}
 use lib.IntN.{ℤ}
 use lib.ListN.{length}
 use lib.Signed.{lt_z}
-use Rattle.numbers.specs.Instants.{intervalOf}
+use Rattle.numbers.specs.Instants.{interval_of}
 use Rattle.numbers.proofs.Flags.{impossible, by-test, by-order}
 use Rattle.numbers.proofs.Circle.{sum_below}
-use Rattle.clock.specs.Release.{releaseOf}
+use Rattle.clock.specs.Release.{release_of}
 use Rattle.clock.specs.declared.base.TimeBase.{TimeBase}
 use Rattle.clock.specs.declared.time.Release.{Release}
 use Rattle.clock.specs.declared.time.SynchronizedRemoteClock.{SynchronizedRemoteClock}
-use Rattle.slots.specs.Words.{isReceived, entry_at, stampIn}
+use Rattle.slots.specs.Words.{is_received, entry_at, stamp_in}
 use Rattle.slots.specs.declared.entry.Entry.{Entry}
 use Rattle.slots.specs.declared.entry.Entry.TheVariants.{GivenUp}
 use Rattle.slots.proofs.Laws.{slot_lt}
-use Rattle.window.specs.Window.{entryIn, lrsnFrom, cut}
+use Rattle.window.specs.Window.{entry_in, lrsn_from, cut}
 use Rattle.window.specs.Ready.{Good, Ring}
-use Rattle.window_pop.specs.Pop.{popEnded, messageOf, filled, walkFrom, noWalk, dueOf, limitOf, discardFront, discarded, releasedOf, lateOf, frontOf, pop_of}
-use Rattle.window_pop.specs.Inner.{frontIn}
+use Rattle.window_pop.specs.Pop.{pop_ended, message_of, filled, walk_from, no_walk, due_of, limit_of, discard_front, discarded, released_of, late_of, front_of, pop_of}
+use Rattle.window_pop.specs.Inner.{front_in}
 use Rattle.window.specs.declared.Window.{Window}
 use Rattle.window_pop.specs.declared.pop.Message.{Message}
 use Rattle.window_pop.specs.declared.pop.Walk.{Walk}
@@ -50,9 +50,9 @@ cut-good {w} n e g h =
       words = g.words;
     })
 
-pub front-discarded : (w : Window) (ws : List ℕ) (n : ℕ) {c : Window} {l : ℕ} → c ≡ cut w n → l ≡ lrsnFrom c ws 0
-    → ◌≡◌ {A = Window} (record { capacity = c.capacity; start = c.start; held = c.held; seqno0 = c.seqno0; lrsn = l }) (discardFront w ws n)
-unfolding discardFront
+pub front-discarded : (w : Window) (ws : List ℕ) (n : ℕ) {c : Window} {l : ℕ} → c ≡ cut w n → l ≡ lrsn_from c ws 0
+    → ◌≡◌ {A = Window} (record { capacity = c.capacity; start = c.start; held = c.held; seqno0 = c.seqno0; lrsn = l }) (discard_front w ws n)
+unfolding discard_front
 front-discarded w ws n e f = rw (f, e)
 
 -- discard
@@ -62,93 +62,93 @@ module _ (k : SynchronizedRemoteClock) (latency : ℕ) (w : Window) (ws : List �
   discard-none h = rw (eq-eqb walk.count 0 h)
 
   pub discard-some : {d d₁ n i i₁ : ℤ} {c : Window}
-      → (walk.count ≡ 0 → ⊥) → c ≡ discardFront w ws walk.count → d ≡ dueOf k.base latency walk.first_stamp → i ≡ intervalOf d₁ n → d₁ ≡ d → n ≡ now → i₁ ≡ i
+      → (walk.count ≡ 0 → ⊥) → c ≡ discard_front w ws walk.count → d ≡ due_of k.base latency walk.first_stamp → i ≡ interval_of d₁ n → d₁ ≡ d → n ≡ now → i₁ ≡ i
       → popped c k (answers.Late w.seqno0 c.seqno0 i₁) ≡ discarded k latency w ws now walk
-  unfolding discarded discardFront
+  unfolding discarded discard_front
   discard-some h e a b p q o = rw (ne_eqb walk.count 0 h, o, b, p, q, a, e)
 
 -- drop_late
 pub walk-within : (w : Window) (ws : List ℕ) (base : TimeBase) (limit : ℤ) {walk : Walk}
-    → walk ≡ walkFrom base limit w.capacity w.start ws 0 noWalk w.held → walk.count ≤ w.held
-walk-within w ws base limit e = rw e (walk-held base limit w.capacity w.start ws w.held w.held 0 noWalk (omega arith) (omega arith))
+    → walk ≡ walk_from base limit w.capacity w.start ws 0 no_walk w.held → walk.count ≤ w.held
+walk-within w ws base limit e = rw e (walk-held base limit w.capacity w.start ws w.held w.held 0 no_walk (omega arith) (omega arith))
 
 module _ (k : SynchronizedRemoteClock) (latency : ℕ) (drop : Bool) (w : Window) (ws : List ℕ) (now : ℤ) where
-  pub drop-off : drop ≡ false → popped w k answers.Nothing ≡ lateOf k latency drop w ws now
-  unfolding lateOf
+  pub drop-off : drop ≡ false → popped w k answers.Nothing ≡ late_of k latency drop w ws now
+  unfolding late_of
   drop-off h = rw h
 
   pub drop-on : {z n l m : ℤ} {walk : Walk} {r : Popped}
-      → drop ≡ true → r ≡ discarded k latency w ws n walk → n ≡ now → walk ≡ walkFrom k.base m w.capacity w.start ws 0 noWalk w.held → m ≡ l → l ≡ limitOf z latency → z ≡ now
-      → r ≡ lateOf k latency drop w ws now
-  unfolding lateOf
+      → drop ≡ true → r ≡ discarded k latency w ws n walk → n ≡ now → walk ≡ walk_from k.base m w.capacity w.start ws 0 no_walk w.held → m ≡ l → l ≡ limit_of z latency → z ≡ now
+      → r ≡ late_of k latency drop w ws now
+  unfolding late_of
   drop-on h a p b q c o = rw h (a ∙ rw (p, b, q, c, o))
 
 -- release
-pub front-ring : (w : Window) (ws : List ℕ) {m : Message} → m ≡ messageOf w ws → 0 < m.packets → Good w ws → Ring w.capacity w.start m.packets ws
+pub front-ring : (w : Window) (ws : List ℕ) {m : Message} → m ≡ message_of w ws → 0 < m.packets → Good w ws → Ring w.capacity w.start m.packets ws
 front-ring w ws c h g =
     record { most = g.ranges.most; starts = g.ranges.starts; holds = omega (arith, front-held w ws c h, g.ranges.holds); words = g.words }
 
 module _ (k : SynchronizedRemoteClock) (w : Window) (ws bs out : List ℕ) (stamp : ℕ) (m : Message) where
-  pub release-short : length out < m.bytes → popEnded (popped w k answers.OutShort) out ≡ releasedOf k w ws bs out stamp m
-  unfolding releasedOf
+  pub release-short : length out < m.bytes → pop_ended (popped w k answers.OutShort) out ≡ released_of k w ws bs out stamp m
+  unfolding released_of
   release-short h = rw (lt-ltb _ _ h)
 
   pub release-whole : {r : Release} {t : ℤ} {c : Window} {out₁ : List ℕ}
-      → m.bytes ≤ length out → r ≡ releaseOf k stamp → c ≡ cut w m.packets → out₁ ≡ (filled w.capacity w.start ws bs out m.packets).out → t ≡ r.time
-      → popEnded (popped c r.clock (answers.Message t m.bytes m.packets)) out₁ ≡ releasedOf k w ws bs out stamp m
-  unfolding releasedOf
+      → m.bytes ≤ length out → r ≡ release_of k stamp → c ≡ cut w m.packets → out₁ ≡ (filled w.capacity w.start ws bs out m.packets).out → t ≡ r.time
+      → pop_ended (popped c r.clock (answers.Message t m.bytes m.packets)) out₁ ≡ released_of k w ws bs out stamp m
+  unfolding released_of
   release-whole h a b e p = rw (le-ltb _ _ h, p, a, b, e)
 
 -- front
-pub no_front : (w : Window) (ws : List ℕ) → w.held ≡ 0 → GivenUp ≡ frontIn w ws
-unfolding frontIn
+pub no_front : (w : Window) (ws : List ℕ) → w.held ≡ 0 → GivenUp ≡ front_in w ws
+unfolding front_in
 no_front w ws h = rw (eq-eqb w.held 0 h)
 
-pub some-front : (w : Window) (ws : List ℕ) {e : Entry} → (w.held ≡ 0 → ⊥) → e ≡ entry_at ws w.start → w.start < w.capacity → e ≡ frontIn w ws
-unfolding frontIn
+pub some-front : (w : Window) (ws : List ℕ) {e : Entry} → (w.held ≡ 0 → ⊥) → e ≡ entry_at ws w.start → w.start < w.capacity → e ≡ front_in w ws
+unfolding front_in
 some-front w ws h c g = rw (ne_eqb w.held 0 h) (front-entry w ws c g)
 
 -- a window that holds nothing has no received front; one that holds some has it in the start slot
-front-test : (w : Window) (ws : List ℕ) → (ltb 0 w.held && isReceived (entryIn w ws 0)) ≡ isReceived (frontIn w ws)
-unfolding frontIn
+front-test : (w : Window) (ws : List ℕ) → (ltb 0 w.held && is_received (entry_in w ws 0)) ≡ is_received (front_in w ws)
+unfolding front_in
 front-test w ws =
     by-order 0 w.held
     (λ h. rw (lt-ltb 0 w.held h, ne_eqb w.held 0 (λ e. omega arith)))
     (λ h. rw (le-ltb 0 w.held h, eq-eqb w.held 0 (omega arith)))
 
-front_same : (w : Window) (ws : List ℕ) → isReceived (frontIn w ws) ≡ true → frontIn w ws ≡ entryIn w ws 0
-unfolding frontIn
+front_same : (w : Window) (ws : List ℕ) → is_received (front_in w ws) ≡ true → front_in w ws ≡ entry_in w ws 0
+unfolding front_in
 front_same w ws =
-    by-test (λ (e : Entry). isReceived e ≡ true → e ≡ entryIn w ws 0) (eqb w.held 0) GivenUp (entryIn w ws 0) (λ t f. impossible (sym f)) (λ t f. refl)
+    by-test (λ (e : Entry). is_received e ≡ true → e ≡ entry_in w ws 0) (eqb w.held 0) GivenUp (entry_in w ws 0) (λ t f. impossible (sym f)) (λ t f. refl)
 
 -- pop_front
 module _ (k : SynchronizedRemoteClock) (latency : ℕ) (drop : Bool) (w : Window) (ws : List ℕ) (now : ℤ) (bs out : List ℕ) where
-  module _ (stamp : ℕ) {d d₁ n : ℤ} (a : d ≡ dueOf k.base latency stamp) (p : d₁ ≡ d) (q : n ≡ now) where
-    pub front-early : lt_z n d₁ ≡ true → popEnded (popped w k answers.Nothing) out ≡ frontOf k latency drop w ws now bs out stamp
-    unfolding frontOf
+  module _ (stamp : ℕ) {d d₁ n : ℤ} (a : d ≡ due_of k.base latency stamp) (p : d₁ ≡ d) (q : n ≡ now) where
+    pub front-early : lt_z n d₁ ≡ true → pop_ended (popped w k answers.Nothing) out ≡ front_of k latency drop w ws now bs out stamp
+    unfolding front_of
     front-early h = rw (← a, ← p, ← q, h)
 
-    module _ {m : Message} (h : lt_z n d₁ ≡ false) (b : m ≡ messageOf w ws) where
+    module _ {m : Message} (h : lt_z n d₁ ≡ false) (b : m ≡ message_of w ws) where
       pub front-released : {r : Popped} {out₁ : List ℕ}
-          → 0 < m.packets → popEnded r out₁ ≡ releasedOf k w ws bs out stamp m → popEnded r out₁ ≡ frontOf k latency drop w ws now bs out stamp
-      unfolding frontOf
+          → 0 < m.packets → pop_ended r out₁ ≡ released_of k w ws bs out stamp m → pop_ended r out₁ ≡ front_of k latency drop w ws now bs out stamp
+      unfolding front_of
       front-released l e = rw (← a, ← p, ← q, h, ← b, lt-ltb _ _ l) e
 
       pub front-late : {r : Popped} {z : ℤ}
-          → m.packets ≤ 0 → r ≡ lateOf k latency drop w ws z → z ≡ now → popEnded r out ≡ frontOf k latency drop w ws now bs out stamp
-      unfolding frontOf
+          → m.packets ≤ 0 → r ≡ late_of k latency drop w ws z → z ≡ now → pop_ended r out ≡ front_of k latency drop w ws now bs out stamp
+      unfolding front_of
       front-late l e o = rw (← a, ← p, ← q, h, ← b, le-ltb _ _ l) (rw e (rw (o ∙ sym q)))
 
   -- pop
-  module _ {e : Entry} {t : Bool} (c : e ≡ frontIn w ws) (d : t ≡ isReceived e) where
+  module _ {e : Entry} {t : Bool} (c : e ≡ front_in w ws) (d : t ≡ is_received e) where
     pub pop-received : {stamp : ℕ} {z : ℤ} {r : Popped} {out₁ : List ℕ}
-        → t ≡ true → stamp ≡ stampIn e → popEnded r out₁ ≡ frontOf k latency drop w ws z bs out stamp → z ≡ now → popEnded r out₁ ≡ pop_of k latency drop w ws now bs out
+        → t ≡ true → stamp ≡ stamp_in e → pop_ended r out₁ ≡ front_of k latency drop w ws z bs out stamp → z ≡ now → pop_ended r out₁ ≡ pop_of k latency drop w ws now bs out
     unfolding pop_of
     pop-received f a b o =
-        let g : isReceived (frontIn w ws) ≡ true = rw (← c, ← d) f in
+        let g : is_received (front_in w ws) ≡ true = rw (← c, ← d) f in
         rw (front-test w ws, g, ← front_same w ws g, ← c, ← a, ← o) b
 
-    pub pop-gap : {r : Popped} {z : ℤ} → t ≡ false → r ≡ lateOf k latency drop w ws z → z ≡ now → popEnded r out ≡ pop_of k latency drop w ws now bs out
+    pub pop-gap : {r : Popped} {z : ℤ} → t ≡ false → r ≡ late_of k latency drop w ws z → z ≡ now → pop_ended r out ≡ pop_of k latency drop w ws now bs out
     unfolding pop_of
     pop-gap f a o = rw (front-test w ws, ← c, ← d, f, a, o)
 

@@ -1,11 +1,11 @@
 // Pop, buffer.rs `pop_next_message` and `drop_too_late_packets`: 01, "Window".
 ghost use Rattle.std.specs.Prelude.{◌≡◌, ◌+◌, ◌*◌, ◌<◌, ◌≤◌, ◌^◌, nat_abs, length};
 ghost use Rattle.std.proofs.Math.Seq.{paste};
-ghost use Rattle.slots.specs.Ring.{payloadAt};
+ghost use Rattle.slots.specs.Ring.{payload_at};
 ghost use Rattle.window.specs.Ready.{Ring, Good, Bytes};
-ghost use Rattle.window_pop.specs.Pop.{popEnded, run_from, messageOf, filled, isLate, walkFrom, noWalk, discardFront, discarded, lateOf, releasedOf, frontOf, pop_of, dueOf, limitOf};
+ghost use Rattle.window_pop.specs.Pop.{pop_ended, run_from, message_of, filled, is_late, walk_from, no_walk, discard_front, discarded, late_of, released_of, front_of, pop_of, due_of, limit_of};
 ghost use Rattle.window_pop.specs.Ready.{PopReady};
-ghost use Rattle.window_pop.specs.Inner.{isKept, walkPast, frontIn};
+ghost use Rattle.window_pop.specs.Inner.{is_kept, walk_past, front_in};
 
 use clock::base::TimeBase;
 use clock::time::SynchronizedRemoteClock;
@@ -85,7 +85,7 @@ fn count_run(words: &[u64], capacity: usize, start: usize, held: usize, message:
 // The message in front: the first entry with FIRST, and the run with its message number.
 fn message_in_front(w: Window, words: &[u64]) -> Message
     requires { Good w words.now }
-    ensures { result ≡ messageOf w words.now }
+    ensures { result ≡ message_of w words.now }
 {
     let e = slots::entry::read_at(words, w.start);
     if slots::entry::is_first(e) {
@@ -106,7 +106,7 @@ fn message_in_front(w: Window, words: &[u64]) -> Message
 // Puts the payload in slot s, n bytes of it, into the output.
 pub fn put_payload(bytes: &[u8], s: usize, n: usize, out: &mut [u8], at: usize)
     requires { (n ≤ 1456) × (1456 * s + 1456 ≤ length bytes.now) × (at + n ≤ length out.old) }
-    ensures { out.new ≡ paste out.old at (payloadAt bytes.now s n) n }
+    ensures { out.new ≡ paste out.old at (payload_at bytes.now s n) n }
 {
     let a = 1456 * s;
     let e = a + n;
@@ -133,7 +133,7 @@ fn fill(words: &[u64], bytes: &[u8], capacity: usize, start: usize, count: usize
 // An entry's time + latency.
 pub fn due(base: TimeBase, latency: u32, stamp: u32) -> i64
     requires { (nat_abs base.time ≤ 2 ^ 61) × (latency ≤ 65535000) }
-    ensures { result ≡ dueOf base latency stamp }
+    ensures { result ≡ due_of base latency stamp }
 {
     base.instant_from(stamp) + latency as i64
 }
@@ -141,14 +141,14 @@ pub fn due(base: TimeBase, latency: u32, stamp: u32) -> i64
 // An entry with a time up to this one is late.
 fn late_limit(time: i64, latency: u32) -> i64
     requires { (nat_abs time < 2 ^ 60) × (latency ≤ 65535000) }
-    ensures { result ≡ limitOf time latency }
+    ensures { result ≡ limit_of time latency }
 {
     time - latency as i64 - 5_000
 }
 
 fn is_late(base: TimeBase, limit: i64, e: Entry) -> bool
     requires { nat_abs base.time ≤ 2 ^ 61 }
-    ensures { result ≡ isLate base limit e }
+    ensures { result ≡ is_late base limit e }
 {
     if slots::entry::is_first(e) {
         return base.instant_from(slots::entry::stamp_in(e)) <= limit;
@@ -159,7 +159,7 @@ fn is_late(base: TimeBase, limit: i64, e: Entry) -> bool
 // A received entry that is not late ends the walk.
 fn is_kept(base: TimeBase, limit: i64, e: Entry) -> bool
     requires { nat_abs base.time ≤ 2 ^ 61 }
-    ensures { result ≡ isKept base limit e }
+    ensures { result ≡ is_kept base limit e }
 {
     if slots::entry::is_received(e) {
         if is_late(base, limit, e) {
@@ -173,7 +173,7 @@ fn is_kept(base: TimeBase, limit: i64, e: Entry) -> bool
 // The walk after entry i.
 fn walk_past(k: Walk, i: usize, e: Entry) -> Walk
     requires { i < 8192 }
-    ensures { result ≡ walkPast k i e }
+    ensures { result ≡ walk_past k i e }
 {
     if slots::entry::is_received(e) {
         if k.count == 0 {
@@ -200,7 +200,7 @@ fn walk_late(
     limit: i64,
 ) -> Walk
     requires { Ring capacity start held words.now × (nat_abs base.time ≤ 2 ^ 61) }
-    ensures { result ≡ walkFrom base limit capacity start words.now 0 noWalk held }
+    ensures { result ≡ walk_from base limit capacity start words.now 0 no_walk held }
 {
     let mut i = 0;
     let mut s = start;
@@ -223,7 +223,7 @@ fn walk_late(
 // The window without its first n entries; lrsn is searched from the new front.
 fn discard_front(w: Window, words: &[u64], n: usize) -> Window
     requires { Good w words.now × (n ≤ w.held) }
-    ensures { result ≡ discardFront w words.now n }
+    ensures { result ≡ discard_front w words.now n }
 {
     let c = window::cut_front(w, n);
     let lrsn = window::search_lrsn(c, words, 0);
@@ -280,7 +280,7 @@ fn drop_late(
     time: i64,
 ) -> Popped
     requires { Good w words.now × (nat_abs clock.base.time ≤ 2 ^ 61) × (nat_abs time < 2 ^ 60) × (latency ≤ 65535000) }
-    ensures { result ≡ lateOf clock latency late_drop w words.now time }
+    ensures { result ≡ late_of clock latency late_drop w words.now time }
 {
     if late_drop {
         let base = clock.base;
@@ -305,8 +305,8 @@ fn release(
     stamp: u32,
     m: Message,
 ) -> Popped
-    requires { Good w words.now × Bytes w bytes.now × (nat_abs clock.base.time ≤ 2 ^ 61) × (m ≡ messageOf w words.now) × (0 < m.packets) }
-    ensures { popEnded result out.new ≡ releasedOf clock w words.now bytes.now out.old stamp m }
+    requires { Good w words.now × Bytes w bytes.now × (nat_abs clock.base.time ≤ 2 ^ 61) × (m ≡ message_of w words.now) × (0 < m.packets) }
+    ensures { pop_ended result out.new ≡ released_of clock w words.now bytes.now out.old stamp m }
 {
     if out.len() < m.bytes {
         return Popped {
@@ -344,7 +344,7 @@ fn pop_front(
     stamp: u32,
 ) -> Popped
     requires { PopReady clock latency w words.now bytes.now time }
-    ensures { popEnded result out.new ≡ frontOf clock latency late_drop w words.now time bytes.now out.old stamp }
+    ensures { pop_ended result out.new ≡ front_of clock latency late_drop w words.now time bytes.now out.old stamp }
 {
     let base = clock.base;
     if time < due(base, latency, stamp) {
@@ -364,7 +364,7 @@ fn pop_front(
 // The front, or given up where there is none.
 fn front(w: Window, words: &[u64]) -> Entry
     requires { Good w words.now }
-    ensures { result ≡ frontIn w words.now }
+    ensures { result ≡ front_in w words.now }
 {
     if w.held == 0 {
         return Entry::GivenUp;
@@ -384,7 +384,7 @@ pub fn pop(
     time: i64,
 ) -> Popped
     requires { PopReady clock latency w words.now bytes.now time }
-    ensures { popEnded result out.new ≡ pop_of clock latency late_drop w words.now time bytes.now out.old }
+    ensures { pop_ended result out.new ≡ pop_of clock latency late_drop w words.now time bytes.now out.old }
 {
     let e = front(w, words);
     if slots::entry::is_received(e) {

@@ -2,17 +2,17 @@
 use mathlib.Core.Path.{◌≡◌, sym, ◌∙◌, ap}
 use mathlib.Core.List.{List}
 use Prim.Native.Nat.{ℕ}
-use Rattle.window_report.specs.Drop.{Dropped, dropEnded}
-use Rattle.window_report.specs.Report.{ReportOutcome, reportEnded}
+use Rattle.window_report.specs.Drop.{Dropped, drop_ended}
+use Rattle.window_report.specs.Report.{ReportOutcome, report_ended}
 use Rattle.window_report.specs.declared.report.ReportAnswer.{ReportAnswer}
 
 -- the answer, the slot area and the list of loss words
-pub report-determined : {o : ReportOutcome} (r s : ReportAnswer) (ws₁ ws₂ list₁ list₂ : List ℕ) → reportEnded r ws₁ list₁ ≡ o → reportEnded s ws₂ list₂ ≡ o
+pub report-determined : {o : ReportOutcome} (r s : ReportAnswer) (ws₁ ws₂ list₁ list₂ : List ℕ) → report_ended r ws₁ list₁ ≡ o → report_ended s ws₂ list₂ ≡ o
     → (r ≡ s) × ((ws₁ ≡ ws₂) × (list₁ ≡ list₂))
 report-determined r s ws₁ ws₂ list₁ list₂ p q =
     let e = p ∙ sym q in
     (ap (λ x. x.answer) e, (ap (λ x. x.slots) e, ap (λ x. x.list) e))
 
 -- the count and the slot area
-pub drop-determined : {o : Dropped} (r s : ℕ) (ws₁ ws₂ : List ℕ) → dropEnded r ws₁ ≡ o → dropEnded s ws₂ ≡ o → (r ≡ s) × (ws₁ ≡ ws₂)
+pub drop-determined : {o : Dropped} (r s : ℕ) (ws₁ ws₂ : List ℕ) → drop_ended r ws₁ ≡ o → drop_ended s ws₂ ≡ o → (r ≡ s) × (ws₁ ≡ ws₂)
 drop-determined r s ws₁ ws₂ p q = let e = p ∙ sym q in (ap (λ x. x.count) e, ap (λ x. x.slots) e)

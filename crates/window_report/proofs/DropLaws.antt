@@ -6,49 +6,49 @@ use Prim.Native.Nat.{ℕ, zero, suc, ◌+◌, ◌-◌, ◌*◌, ◌<◌, ◌≤�
 use native.Mathlib.Omega.{arith}
 use lib.ListN.{length, drop}
 use Rattle.numbers.proofs.Flags.{by-test, by_bool, by-order}
-use Rattle.slots.specs.Words.{isLost, entry_at}
+use Rattle.slots.specs.Words.{is_lost, entry_at}
 use Rattle.slots.specs.Ring.{slot_of}
 use Rattle.slots.specs.declared.entry.Entry.TheVariants.{GivenUp}
 use Rattle.slots.proofs.Laws.{length-write, read_same, read-other, words-outside, slot_lt, slot-words, slot_apart}
-use Rattle.window.specs.Window.{entryIn}
+use Rattle.window.specs.Window.{entry_in}
 use Rattle.window.specs.Ready.{Good}
-use Rattle.window_report.specs.Drop.{Dropped, giveUp, sweep, end_in, dropFrom, dropTo, dropOf, lostAmong}
+use Rattle.window_report.specs.Drop.{Dropped, give_up, sweep, end_in, drop_from, drop_to, drop_of, lost_among}
 use Rattle.window.specs.declared.Window.{Window}
 
 -- one slot: the count grows by one at most, the words keep their number, and no other slot changes
 module _ (s : ℕ) (x : Dropped) where
-  one-most : (giveUp s x).count ≤ x.count + 1
-  unfolding giveUp
+  one-most : (give_up s x).count ≤ x.count + 1
+  unfolding give_up
   one-most =
-      by-test (λ (y : Dropped). y.count ≤ x.count + 1) (isLost (entry_at x.slots s)) _ _
+      by-test (λ (y : Dropped). y.count ≤ x.count + 1) (is_lost (entry_at x.slots s)) _ _
       (λ t. omega arith)
       (λ t. omega arith)
 
-  one-long : length (giveUp s x).slots ≡ length x.slots
-  unfolding giveUp
+  one-long : length (give_up s x).slots ≡ length x.slots
+  unfolding give_up
   one-long =
-      by-test (λ (y : Dropped). length y.slots ≡ length x.slots) (isLost (entry_at x.slots s)) _ _
+      by-test (λ (y : Dropped). length y.slots ≡ length x.slots) (is_lost (entry_at x.slots s)) _ _
       (λ t. length-write _ _ _)
       (λ t. refl)
 
-  one-other : (t : ℕ) → (t ≡ s → ⊥) → entry_at (giveUp s x).slots t ≡ entry_at x.slots t
-  unfolding giveUp
+  one-other : (t : ℕ) → (t ≡ s → ⊥) → entry_at (give_up s x).slots t ≡ entry_at x.slots t
+  unfolding give_up
   one-other t n =
-      by-test (λ (y : Dropped). entry_at y.slots t ≡ entry_at x.slots t) (isLost (entry_at x.slots s)) _ _
+      by-test (λ (y : Dropped). entry_at y.slots t ≡ entry_at x.slots t) (is_lost (entry_at x.slots s)) _ _
       (λ u. read-other _ _ t n GivenUp)
       (λ u. refl)
 
-  one_same : 3 * s + 3 ≤ length x.slots → entry_at (giveUp s x).slots s ≡ cond (isLost (entry_at x.slots s)) GivenUp (entry_at x.slots s)
-  unfolding giveUp
+  one_same : 3 * s + 3 ≤ length x.slots → entry_at (give_up s x).slots s ≡ cond (is_lost (entry_at x.slots s)) GivenUp (entry_at x.slots s)
+  unfolding give_up
   one_same h =
-      by_bool (isLost (entry_at x.slots s))
+      by_bool (is_lost (entry_at x.slots s))
       (λ t. rw t (read_same _ _ GivenUp h tt))
       (λ t. rw t)
 
-  one-past : (capacity : ℕ) → s < capacity → drop (3 * capacity) (giveUp s x).slots ≡ drop (3 * capacity) x.slots
-  unfolding giveUp
+  one-past : (capacity : ℕ) → s < capacity → drop (3 * capacity) (give_up s x).slots ≡ drop (3 * capacity) x.slots
+  unfolding give_up
   one-past capacity h =
-      by-test (λ (y : Dropped). drop (3 * capacity) y.slots ≡ drop (3 * capacity) x.slots) (isLost (entry_at x.slots s)) _ _
+      by-test (λ (y : Dropped). drop (3 * capacity) y.slots ≡ drop (3 * capacity) x.slots) (is_lost (entry_at x.slots s)) _ _
       (λ t. words-outside _ _ capacity h GivenUp)
       (λ t. refl)
 
@@ -80,7 +80,7 @@ module _ (capacity start : ℕ) (ws : List ℕ) (i : ℕ) where
 
     -- an entry in the range is given up if it was lost
     sweep-in : (n : ℕ) → 3 * capacity ≤ length ws → i + n ≤ capacity → i ≤ j → j < i + n
-        → entry_at (sweep capacity start ws i n).slots (slot_of capacity start j) ≡ cond (isLost (entry_at ws (slot_of capacity start j))) GivenUp (entry_at ws (slot_of capacity start j))
+        → entry_at (sweep capacity start ws i n).slots (slot_of capacity start j) ≡ cond (is_lost (entry_at ws (slot_of capacity start j))) GivenUp (entry_at ws (slot_of capacity start j))
     unfolding sweep
     sweep-in zero w h k l = absurd (omega arith)
     sweep-in (suc n) w h k l =
@@ -95,56 +95,56 @@ module _ (capacity start : ℕ) (ws : List ℕ) (i : ℕ) where
         (one_same (slot_of capacity start j) (sweep capacity start ws i n) (rw sweep-long (slot-words capacity start j refl hs w)) ∙ rw a))
 
 -- the count is the number of lost ones: what is given up on the way is not counted again
-pub sweep-counts : (capacity start : ℕ) (ws : List ℕ) (i n : ℕ) → start < capacity → i + n ≤ capacity → (sweep capacity start ws i n).count ≡ lostAmong capacity start ws i n
-unfolding sweep giveUp lostAmong
+pub sweep-counts : (capacity start : ℕ) (ws : List ℕ) (i n : ℕ) → start < capacity → i + n ≤ capacity → (sweep capacity start ws i n).count ≡ lost_among capacity start ws i n
+unfolding sweep give_up lost_among
 sweep-counts capacity start ws i zero hs h = refl
 sweep-counts capacity start ws i (suc n) hs h =
     let a = sweep-counts capacity start ws i n hs (omega arith) in
     let b = sweep-out capacity start ws i hs (i + n) (omega arith) n (omega arith) (λ m k p. omega arith) in
     rw b
-    (by_bool (isLost (entry_at ws (slot_of capacity start (i + n))))
+    (by_bool (is_lost (entry_at ws (slot_of capacity start (i + n))))
     (λ t. rw (t, a))
     (λ t. rw t (omega arith)))
 
 -- a drop request from first to last
 module _ (w : Window) (ws : List ℕ) (first last : ℕ) where
   abbrev pub dropped : Dropped
-  dropped = dropOf w ws first last
+  dropped = drop_of w ws first last
 
-  pub drop-most : dropped.count ≤ dropTo w last - dropFrom w first
-  unfolding dropOf
-  drop-most = sweep-most w.capacity w.start ws (dropFrom w first) (dropTo w last - dropFrom w first)
+  pub drop-most : dropped.count ≤ drop_to w last - drop_from w first
+  unfolding drop_of
+  drop-most = sweep-most w.capacity w.start ws (drop_from w first) (drop_to w last - drop_from w first)
 
   pub drop-long : length dropped.slots ≡ length ws
-  unfolding dropOf
-  drop-long = sweep-long w.capacity w.start ws (dropFrom w first) (dropTo w last - dropFrom w first)
+  unfolding drop_of
+  drop-long = sweep-long w.capacity w.start ws (drop_from w first) (drop_to w last - drop_from w first)
 
   pub drop_past : 0 < w.capacity → drop (3 * w.capacity) dropped.slots ≡ drop (3 * w.capacity) ws
-  unfolding dropOf
-  drop_past h = sweep-past w.capacity w.start ws (dropFrom w first) (dropTo w last - dropFrom w first) h
+  unfolding drop_of
+  drop_past h = sweep-past w.capacity w.start ws (drop_from w first) (drop_to w last - drop_from w first) h
 
   module _ (g : Good w ws) where
-    within : dropFrom w first + (dropTo w last - dropFrom w first) ≤ w.capacity
+    within : drop_from w first + (drop_to w last - drop_from w first) ≤ w.capacity
     unfolding end_in
     within = omega arith
 
-    pub drop-counts : dropped.count ≡ lostAmong w.capacity w.start ws (dropFrom w first) (dropTo w last - dropFrom w first)
-    unfolding dropOf
-    drop-counts = sweep-counts w.capacity w.start ws (dropFrom w first) (dropTo w last - dropFrom w first) g.ranges.starts within
+    pub drop-counts : dropped.count ≡ lost_among w.capacity w.start ws (drop_from w first) (drop_to w last - drop_from w first)
+    unfolding drop_of
+    drop-counts = sweep-counts w.capacity w.start ws (drop_from w first) (drop_to w last - drop_from w first) g.ranges.starts within
 
     -- a lost entry in the range is given up, and every other entry is as it was
-    pub drop-in : (j : ℕ) → dropFrom w first ≤ j → j < dropTo w last → entryIn w dropped.slots j ≡ cond (isLost (entryIn w ws j)) GivenUp (entryIn w ws j)
-    unfolding dropOf
+    pub drop-in : (j : ℕ) → drop_from w first ≤ j → j < drop_to w last → entry_in w dropped.slots j ≡ cond (is_lost (entry_in w ws j)) GivenUp (entry_in w ws j)
+    unfolding drop_of
     drop-in j h k =
-        sweep-in w.capacity w.start ws (dropFrom w first) g.ranges.starts j (omega (arith, within)) (dropTo w last - dropFrom w first) g.words within h
+        sweep-in w.capacity w.start ws (drop_from w first) g.ranges.starts j (omega (arith, within)) (drop_to w last - drop_from w first) g.words within h
         (omega arith)
 
-    drop-out : (j : ℕ) → j < w.capacity → ((m : ℕ) → m < dropTo w last - dropFrom w first → j ≡ dropFrom w first + m → ⊥) → entryIn w dropped.slots j ≡ entryIn w ws j
-    unfolding dropOf
-    drop-out j h f = sweep-out w.capacity w.start ws (dropFrom w first) g.ranges.starts j h (dropTo w last - dropFrom w first) within f
+    drop-out : (j : ℕ) → j < w.capacity → ((m : ℕ) → m < drop_to w last - drop_from w first → j ≡ drop_from w first + m → ⊥) → entry_in w dropped.slots j ≡ entry_in w ws j
+    unfolding drop_of
+    drop-out j h f = sweep-out w.capacity w.start ws (drop_from w first) g.ranges.starts j h (drop_to w last - drop_from w first) within f
 
-    pub drop-before : (j : ℕ) → j < w.capacity → j < dropFrom w first → entryIn w dropped.slots j ≡ entryIn w ws j
+    pub drop-before : (j : ℕ) → j < w.capacity → j < drop_from w first → entry_in w dropped.slots j ≡ entry_in w ws j
     drop-before j h k = drop-out j h (λ m l e. omega arith)
 
-    pub drop-after : (j : ℕ) → j < w.capacity → dropTo w last ≤ j → entryIn w dropped.slots j ≡ entryIn w ws j
+    pub drop-after : (j : ℕ) → j < w.capacity → drop_to w last ≤ j → entry_in w dropped.slots j ≡ entry_in w ws j
     drop-after j h k = drop-out j h (λ m l e. omega arith)

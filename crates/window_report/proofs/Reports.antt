@@ -17,7 +17,7 @@ use mir.Val.{Fits, SFits, to_z, of_z}
 use mir.Facts.{to_z_pos, to_z-of_z}
 use Rattle.numbers.proofs.Flags.{by_bool}
 use Rattle.numbers.proofs.Circle.{sum_below}
-use Rattle.slots.specs.Words.{entry_at, writeReport}
+use Rattle.slots.specs.Words.{entry_at, write_report}
 use Rattle.slots.specs.Ready.{Fit}
 use Rattle.slots.specs.Ring.{slot_of}
 use Rattle.slots.specs.declared.entry.Entry.{Entry}
@@ -25,8 +25,8 @@ use Rattle.slots.specs.declared.entry.Entry.TheVariants.{Lost, Received, GivenUp
 use Rattle.slots.proofs.Laws.{entry-fit, slot-words, slot-words-kept}
 use Rattle.window.specs.Window.{number_in}
 use Rattle.window.specs.Ready.{Good}
-use Rattle.window_report.specs.Report.{isDue, kAfter, runWords, closed, runsAfter, slotsTo, runsTo, runPut, listTo, needed, listAll, ReportOutcome, reportEnded, reportOf}
-use Rattle.window_report.specs.Inner.{Within, Reporting, reporting, reportOne, reportedTo, dueFrom, anyDue}
+use Rattle.window_report.specs.Report.{is_due, k_after, run_words, closed, runs_after, slots_to, runs_to, run_put, list_to, needed, list_all, ReportOutcome, report_ended, report_of}
+use Rattle.window_report.specs.Inner.{Within, Reporting, reporting, report_one, reported_to, due_from, any_due}
 use Rattle.window.specs.declared.Window.{Window}
 use Rattle.window_report.specs.declared.report.Runs.{Runs}
 use Rattle.window_report.specs.declared.report.ReportAnswer.TheVariants as answers
@@ -67,46 +67,46 @@ module _ {e : Entry} {k f : ℕ} (p : e ≡ Lost k f) where
     pub due-sum : SFits w64 (to_z w64 f +ℤ to_z w64 (of_z w64 (to_z w64 k *ℤ to_z w64 mean)))
     due-sum = let l = due-wait h m in rw (to_z-of_z due-product, due-feedback h, due-k h, due-mean mean m) (record { sfits = omega arith })
 
-    pub due-lost : (time : ℤ) {z : ℤ} → z ≡ time → lt_z (to_z w64 (of_z w64 (to_z w64 f +ℤ to_z w64 (of_z w64 (to_z w64 k *ℤ to_z w64 mean))))) z ≡ isDue time mean e
-    unfolding isDue
+    pub due-lost : (time : ℤ) {z : ℤ} → z ≡ time → lt_z (to_z w64 (of_z w64 (to_z w64 f +ℤ to_z w64 (of_z w64 (to_z w64 k *ℤ to_z w64 mean))))) z ≡ is_due time mean e
+    unfolding is_due
     due-lost time q = rw (to_z-of_z due-sum, to_z-of_z due-product, due-feedback h, due-k h, due-mean mean m, q, p)
 
   -- k_after
-  pub k-more : k < 65535 → k + 1 ≡ kAfter e
+  pub k-more : k < 65535 → k + 1 ≡ k_after e
   k-more h = rw p (omega arith)
 
-  pub k-most : 65535 ≤ k → 65535 ≡ kAfter e
+  pub k-most : 65535 ≤ k → 65535 ≡ k_after e
   k-most h = rw p (omega arith)
 
-pub due-received : (time : ℤ) (mean : ℕ) {e : Entry} {n l m t : ℕ} → e ≡ Received n l m t → false ≡ isDue time mean e
-unfolding isDue
+pub due-received : (time : ℤ) (mean : ℕ) {e : Entry} {n l m t : ℕ} → e ≡ Received n l m t → false ≡ is_due time mean e
+unfolding is_due
 due-received time mean p = rw p
 
-pub due-given-up : (time : ℤ) (mean : ℕ) {e : Entry} → e ≡ GivenUp → false ≡ isDue time mean e
-unfolding isDue
+pub due-given-up : (time : ℤ) (mean : ℕ) {e : Entry} → e ≡ GivenUp → false ≡ is_due time mean e
+unfolding is_due
 due-given-up time mean p = rw p
 
 -- run_words, runs_closed, runs_after
 module _ (r : Runs) (i : ℕ) where
-  pub run-one : r.going ≡ true → r.first + 1 ≡ i → 1 ≡ runWords r i
+  pub run-one : r.going ≡ true → r.first + 1 ≡ i → 1 ≡ run_words r i
   run-one t h = rw (t, eq-eqb _ _ h)
 
-  pub run-two : r.going ≡ true → (r.first + 1 ≡ i → ⊥) → 2 ≡ runWords r i
+  pub run-two : r.going ≡ true → (r.first + 1 ≡ i → ⊥) → 2 ≡ run_words r i
   run-two t h = rw (t, ne_eqb _ _ h)
 
-  pub run-closed : {n : ℕ} → n ≡ runWords r i → ◌≡◌ {A = Runs} (record { words = r.words + n; going = false; first = 0 }) (closed r i)
+  pub run-closed : {n : ℕ} → n ≡ run_words r i → ◌≡◌ {A = Runs} (record { words = r.words + n; going = false; first = 0 }) (closed r i)
   run-closed e = rw e
 
-  pub run-ended : {d : Bool} {q : Runs} → d ≡ false → q ≡ closed r i → q ≡ runsAfter r i d
+  pub run-ended : {d : Bool} {q : Runs} → d ≡ false → q ≡ closed r i → q ≡ runs_after r i d
   run-ended e f = rw e f
 
-  pub run-goes : {d : Bool} → d ≡ true → r.going ≡ true → ◌≡◌ {A = Runs} (record { words = r.words; going = true; first = r.first }) (runsAfter r i d)
+  pub run-goes : {d : Bool} → d ≡ true → r.going ≡ true → ◌≡◌ {A = Runs} (record { words = r.words; going = true; first = r.first }) (runs_after r i d)
   run-goes e f = rw (e, f)
 
-  pub run-begins : {d : Bool} → d ≡ true → r.going ≡ false → ◌≡◌ {A = Runs} (record { words = r.words; going = true; first = i }) (runsAfter r i d)
+  pub run-begins : {d : Bool} → d ≡ true → r.going ≡ false → ◌≡◌ {A = Runs} (record { words = r.words; going = true; first = i }) (runs_after r i d)
   run-begins e f = rw (e, f)
 
-pub run-sum : (r : Runs) (i : ℕ) {n : ℕ} → n ≡ runWords r i → r.words ≤ 2 * i → i ≤ 8192 → Fits w64 (r.words + n)
+pub run-sum : (r : Runs) (i : ℕ) {n : ℕ} → n ≡ run_words r i → r.words ≤ 2 * i → i ≤ 8192 → Fits w64 (r.words + n)
 run-sum r i e h k = let l = words-most r i in omega arith
 
 -- an entry that is read can be tested
@@ -115,27 +115,27 @@ due-fit ws s p = subst Fit (sym p) (entry-fit ws s)
 
 -- count_runs: the bounds, the start, a turn and the end
 module _ (w : Window) (ws : List ℕ) (time : ℤ) (mean : ℕ) where
-  pub runs-start : ◌≡◌ {A = Runs} (record { words = 0; going = false; first = 0 }) (runsTo w ws time mean 0)
-  unfolding runsTo
+  pub runs-start : ◌≡◌ {A = Runs} (record { words = 0; going = false; first = 0 }) (runs_to w ws time mean 0)
+  unfolding runs_to
   runs-start = refl
 
-  module _ (i : ℕ) {r : Runs} (a : r ≡ runsTo w ws time mean i) where
+  module _ (i : ℕ) {r : Runs} (a : r ≡ runs_to w ws time mean i) where
     pub runs-kept : Within r i
     runs-kept = subst (λ (x : Runs). Within x i) (sym a) (runs-within w ws time mean i)
 
     pub runs-again : {s : ℕ} {e : Entry} {d : Bool} {z : ℤ} {q : Runs}
-        → s ≡ slot_of w.capacity w.start i → e ≡ entry_at ws s → d ≡ isDue z mean e → z ≡ time → q ≡ runsAfter r i d
-        → q ≡ runsTo w ws time mean (i + 1)
+        → s ≡ slot_of w.capacity w.start i → e ≡ entry_at ws s → d ≡ is_due z mean e → z ≡ time → q ≡ runs_after r i d
+        → q ≡ runs_to w ws time mean (i + 1)
     runs-again b c d y e = rw (runs-more w ws time mean i, ← a, ← b, ← c, ← y, ← d) e
 
     -- the loop has the time as the machine reads it back, and here it is `time`
-    pub runs_done : (t : ℤ) → time ≡ t → i ≤ w.held → w.held ≤ i → r ≡ runsTo w ws t mean w.held
+    pub runs_done : (t : ℤ) → time ≡ t → i ≤ w.held → w.held ≤ i → r ≡ runs_to w ws t mean w.held
     runs_done t q h k = let e : i ≡ w.held = omega arith in a ∙ rw (q, e)
 
 -- run_put: by the number of words of the run
 module _ (r : Runs) (i : ℕ) where
-  by-words : {P : Type 0} → (r.going ≡ false → runWords r i ≡ 0 → P) → (r.going ≡ true → r.first + 1 ≡ i → runWords r i ≡ 1 → P) → (r.going ≡ true → (r.first + 1 ≡ i → ⊥) → runWords r i ≡ 2 → P) → P
-  by-words f g h =
+  by_words : {P : Type 0} → (r.going ≡ false → run_words r i ≡ 0 → P) → (r.going ≡ true → r.first + 1 ≡ i → run_words r i ≡ 1 → P) → (r.going ≡ true → (r.first + 1 ≡ i → ⊥) → run_words r i ≡ 2 → P) → P
+  by_words f g h =
       by_bool r.going
       (λ t.
       by_bool (eqb (r.first + 1) i)
@@ -143,37 +143,37 @@ module _ (r : Runs) (i : ℕ) where
       (λ u. let e = eqb-false _ _ u in h t e (sym (run-two r i t e))))
       (λ t. f t (rw t))
 
-  pub put-past : {n : ℕ} → n ≡ runWords r i → (n ≡ 0 → ⊥) → Within r i → 1 ≤ i
+  pub put-past : {n : ℕ} → n ≡ run_words r i → (n ≡ 0 → ⊥) → Within r i → 1 ≤ i
   put-past e z h =
-      by-words
+      by_words
       (λ t u. absurd (z (e ∙ u)))
       (λ t u v. let l = h.before t in omega arith)
       (λ t u v. let l = h.before t in omega arith)
 
-  module _ (w : Window) (list : List ℕ) {n : ℕ} (e : n ≡ runWords r i) where
-    pub put-none : n ≡ 0 → list ≡ runPut w list r i
-    unfolding runPut
-    put-none z = by-words (λ t u. rw t) (λ t u v. absurd (omega arith)) (λ t u v. absurd (omega arith))
+  module _ (w : Window) (list : List ℕ) {n : ℕ} (e : n ≡ run_words r i) where
+    pub put-none : n ≡ 0 → list ≡ run_put w list r i
+    unfolding run_put
+    put-none z = by_words (λ t u. rw t) (λ t u v. absurd (omega arith)) (λ t u v. absurd (omega arith))
 
-    pub put_one : {m : ℕ} → n ≡ 1 → m ≡ number_in w r.first → set list r.words m ≡ runPut w list r i
-    unfolding runPut
+    pub put_one : {m : ℕ} → n ≡ 1 → m ≡ number_in w r.first → set list r.words m ≡ run_put w list r i
+    unfolding run_put
     put_one z f =
-        by-words
+        by_words
         (λ t u. absurd (omega arith))
         (λ t u v. rw (t, eq-eqb _ _ u, f))
         (λ t u v. absurd (omega arith))
 
     pub put-run : {m l : ℕ} → (n ≡ 0 → ⊥) → (n ≡ 1 → ⊥) → m ≡ number_in w r.first → l ≡ number_in w (i - 1)
-        → set (set list r.words (2 ^ 31 + m)) (r.words + 1) l ≡ runPut w list r i
-    unfolding runPut
+        → set (set list r.words (2 ^ 31 + m)) (r.words + 1) l ≡ run_put w list r i
+    unfolding run_put
     put-run z o f g =
-        by-words
+        by_words
         (λ t u. absurd (z (e ∙ u)))
         (λ t u v. absurd (o (e ∙ v)))
         (λ t u v. rw (t, ne_eqb _ _ u, f, g))
 
 pub put_second : (r : Runs) (i : ℕ) (list : List ℕ) (j v at : ℕ) {n : ℕ}
-    → n ≡ runWords r i → (n ≡ 0 → ⊥) → (n ≡ 1 → ⊥) → r.words + runWords r i ≤ length list → at ≡ r.words
+    → n ≡ run_words r i → (n ≡ 0 → ⊥) → (n ≡ 1 → ⊥) → r.words + run_words r i ≤ length list → at ≡ r.words
     → at + 1 < length (set list j v)
 put_second r i list j v at e z o h f = rw length-set (omega (arith, z, o))
 
@@ -182,34 +182,34 @@ put-fits w i e = omega (arith, sum_below 31 w.seqno0 i)
 
 -- run_end: where no run is going
 module _ (r : Runs) (i : ℕ) (t : r.going ≡ false) where
-  pub end_list : (w : Window) (list : List ℕ) → list ≡ runPut w list r i
-  unfolding runPut
+  pub end_list : (w : Window) (list : List ℕ) → list ≡ run_put w list r i
+  unfolding run_put
   end_list w list = rw t
 
   pub end-runs : ◌≡◌ {A = Runs} (record { words = r.words; going = false; first = 0 }) (closed r i)
-  end-runs = let z : r.words + runWords r i ≡ r.words = rw t (omega arith) in rw z
+  end-runs = let z : r.words + run_words r i ≡ r.words = rw t (omega arith) in rw z
 
 -- report_one
 module _ (w : Window) (time : ℤ) (mean s i : ℕ) (ws list : List ℕ) (r : Runs) {e : Entry} {d : Bool} {z : ℤ} {q : Runs}
-    (a : e ≡ entry_at ws s) (b : d ≡ isDue z mean e) (y : z ≡ time) where
-  pub one-due : {k f : ℕ} {z₁ : ℤ} {ws₁ : List ℕ} → d ≡ true → k ≡ kAfter e → f ≡ nat_abs z₁ → z₁ ≡ time → ws₁ ≡ writeReport ws s k f → q ≡ runsAfter r i true
-      → reporting ws₁ list q ≡ reportOne w time mean s i (reporting ws list r)
-  unfolding reportOne
+    (a : e ≡ entry_at ws s) (b : d ≡ is_due z mean e) (y : z ≡ time) where
+  pub one-due : {k f : ℕ} {z₁ : ℤ} {ws₁ : List ℕ} → d ≡ true → k ≡ k_after e → f ≡ nat_abs z₁ → z₁ ≡ time → ws₁ ≡ write_report ws s k f → q ≡ runs_after r i true
+      → reporting ws₁ list q ≡ report_one w time mean s i (reporting ws list r)
+  unfolding report_one
   one-due t f h x g c = rw (g, f, h, x, c, ← y, ← a, ← b, t)
 
-  pub one-not : {list₁ : List ℕ} → d ≡ false → list₁ ≡ runPut w list r i → q ≡ closed r i
-      → reporting ws list₁ q ≡ reportOne w time mean s i (reporting ws list r)
-  unfolding reportOne
+  pub one-not : {list₁ : List ℕ} → d ≡ false → list₁ ≡ run_put w list r i → q ≡ closed r i
+      → reporting ws list₁ q ≡ report_one w time mean s i (reporting ws list r)
+  unfolding report_one
   one-not t g c = rw (g, c, ← y, ← a, ← b, t)
 
 -- report_entries: the start, what a turn needs, a turn and the end
 module _ (w : Window) (ws : List ℕ) (time : ℤ) (mean : ℕ) (list : List ℕ) where
-  pub report-start : reporting ws list (record { words = 0; going = false; first = 0 }) ≡ reportedTo w ws time mean list 0
-  unfolding slotsTo listTo runsTo
+  pub report-start : reporting ws list (record { words = 0; going = false; first = 0 }) ≡ reported_to w ws time mean list 0
+  unfolding slots_to list_to runs_to
   report-start = refl
 
-  module _ (i : ℕ) {words l : List ℕ} {r : Runs} (a : reporting words l r ≡ reportedTo w ws time mean list i) where
-    report-runs : r ≡ runsTo w ws time mean i
+  module _ (i : ℕ) {words l : List ℕ} {r : Runs} (a : reporting words l r ≡ reported_to w ws time mean list i) where
+    report-runs : r ≡ runs_to w ws time mean i
     report-runs = ap (λ (x : Reporting). x.runs) a
 
     pub report-slots-long : length words ≡ length ws
@@ -224,24 +224,24 @@ module _ (w : Window) (ws : List ℕ) (time : ℤ) (mean : ℕ) (list : List ℕ
     pub report-within : Within r i
     report-within = runs-kept w ws time mean i report-runs
 
-    pub report-room : i < w.held → needed w ws time mean ≤ length list → r.words + runWords r i ≤ length l
+    pub report-room : i < w.held → needed w ws time mean ≤ length list → r.words + run_words r i ≤ length l
     report-room h n =
         rw report-runs (omega (arith, words-rise w ws time mean i w.held (omega arith), report-list-long))
 
-    pub report-last : i ≡ w.held → needed w ws time mean ≤ length list → r.words + runWords r i ≤ length l
+    pub report-last : i ≡ w.held → needed w ws time mean ≤ length list → r.words + run_words r i ≤ length l
     report-last e n = rw report-runs (omega (arith, words-rise w ws time mean i w.held (omega arith), report-list-long))
 
     pub report-again : {s : ℕ} {z : ℤ} {y : Reporting} → i < w.held → w.held ≤ w.capacity → w.start < w.capacity → s ≡ slot_of w.capacity w.start i
-        → y ≡ reportOne w z mean s i (reporting words l r) → z ≡ time → y ≡ reportedTo w ws time mean list (i + 1)
+        → y ≡ report_one w z mean s i (reporting words l r) → z ≡ time → y ≡ reported_to w ws time mean list (i + 1)
     report-again h k hs b c q = c ∙ rw (q, a, b) (report-more w ws time mean list i hs (omega arith))
 
-    pub report-done : (t : ℤ) → time ≡ t → i ≤ w.held → w.held ≤ i → reporting words l r ≡ reportedTo w ws t mean list w.held
+    pub report-done : (t : ℤ) → time ≡ t → i ≤ w.held → w.held ≤ i → reporting words l r ≡ reported_to w ws t mean list w.held
     report-done t q h k = let e : i ≡ w.held = omega arith in a ∙ rw (q, e)
 
 -- due_between: a turn, its way out in the middle and its end; the loop has the time as the machine reads it back, m
-module _ (ws : List ℕ) (m : ℤ) (mean s to : ℕ) {r : Bool} (a : r ≡ dueFrom ws m mean s (to - s)) where
-  module _ {e : Entry} {d : Bool} {z : ℤ} (h : s < to) (c : e ≡ entry_at ws s) (f : d ≡ isDue z mean e) (q : z ≡ m) where
-    pub due-again : d ≡ false → r ≡ dueFrom ws m mean (s + 1) (to - (s + 1))
+module _ (ws : List ℕ) (m : ℤ) (mean s to : ℕ) {r : Bool} (a : r ≡ due_from ws m mean s (to - s)) where
+  module _ {e : Entry} {d : Bool} {z : ℤ} (h : s < to) (c : e ≡ entry_at ws s) (f : d ≡ is_due z mean e) (q : z ≡ m) where
+    pub due-again : d ≡ false → r ≡ due_from ws m mean (s + 1) (to - (s + 1))
     due-again g = a ∙ due-on ws m mean s to h (rw (← c, ← q, ← f) g)
 
     found : d ≡ true → true ≡ r
@@ -251,11 +251,11 @@ module _ (ws : List ℕ) (m : ℤ) (mean s to : ℕ) {r : Bool} (a : r ≡ dueFr
   ended h = sym (a ∙ due-end ws m mean s to h)
 
 module _ (ws : List ℕ) (time m : ℤ) (mean from s to : ℕ)
-    (a : dueFrom ws m mean from (to - from) ≡ dueFrom ws m mean s (to - s)) (q : m ≡ time) where
-  pub due-found : {e : Entry} {d : Bool} {z : ℤ} → s < to → e ≡ entry_at ws s → d ≡ isDue z mean e → z ≡ m → d ≡ true → true ≡ dueFrom ws time mean from (to - from)
+    (a : due_from ws m mean from (to - from) ≡ due_from ws m mean s (to - s)) (q : m ≡ time) where
+  pub due-found : {e : Entry} {d : Bool} {z : ℤ} → s < to → e ≡ entry_at ws s → d ≡ is_due z mean e → z ≡ m → d ≡ true → true ≡ due_from ws time mean from (to - from)
   due-found h c f y g = found ws m mean s to a h c f y g ∙ rw q
 
-  pub due-done : to ≤ s → false ≡ dueFrom ws time mean from (to - from)
+  pub due-done : to ≤ s → false ≡ due_from ws time mean from (to - from)
   due-done h = ended ws m mean s to a h ∙ rw q
 
 cond-id : (d : Bool) → cond d true false ≡ d
@@ -264,56 +264,56 @@ cond-id false = refl
 
 -- words_needed, report_counted
 module _ (w : Window) (ws : List ℕ) (time : ℤ) (mean : ℕ) where
-  pub needs-words : {r q : Runs} {z : ℤ} → r ≡ runsTo w ws z mean w.held → z ≡ time → q ≡ closed r w.held → q.words ≡ needed w ws time mean
+  pub needs-words : {r q : Runs} {z : ℤ} → r ≡ runs_to w ws z mean w.held → z ≡ time → q ≡ closed r w.held → q.words ≡ needed w ws time mean
   needs-words e x f = rw (f, e, x)
 
   -- what is said of the time as it is read back
   pub needs-on : {n : ℕ} {z : ℤ} → z ≡ time → needed w ws time mean ≤ n → needed w ws z mean ≤ n
   needs-on q h = rw q h
 
-  pub reports-on : {o : ReportOutcome} {z : ℤ} (list : List ℕ) → o ≡ reportOf w ws z mean list → z ≡ time → o ≡ reportOf w ws time mean list
+  pub reports-on : {o : ReportOutcome} {z : ℤ} (list : List ℕ) → o ≡ report_of w ws z mean list → z ≡ time → o ≡ report_of w ws time mean list
   reports-on list e q = e ∙ rw q
 
   pub report-fits : (list : List ℕ) {n : ℕ} → n ≡ needed w ws time mean → n ≤ length list → needed w ws time mean ≤ length list
   report-fits list a h = rw (← a) h
 
   module _ (list : List ℕ) {n : ℕ} {z : ℤ} (a : n ≡ needed w ws z mean) (q : z ≡ time) where
-    pub report-none : n ≡ 0 → reportEnded answers.Nothing ws list ≡ reportOf w ws time mean list
-    unfolding reportOf
+    pub report-none : n ≡ 0 → report_ended answers.Nothing ws list ≡ report_of w ws time mean list
+    unfolding report_of
     report-none o = rw (← q, eq-eqb _ _ (sym a ∙ o))
 
     module _ (o : n ≡ 0 → ⊥) where
-      pub report-short : length list < n → reportEnded answers.ListShort ws list ≡ reportOf w ws time mean list
-      unfolding reportOf
+      pub report-short : length list < n → report_ended answers.ListShort ws list ≡ report_of w ws time mean list
+      unfolding report_of
       report-short h = rw (← q, ← a, ne_eqb _ _ o, lt-ltb _ _ h)
 
-      report-long : {ws₁ list₁ : List ℕ} → n ≤ length list → ws₁ ≡ slotsTo w ws z mean w.held → list₁ ≡ listAll w ws z mean list
-          → reportEnded (answers.Report n) ws₁ list₁ ≡ reportOf w ws time mean list
-      unfolding reportOf
+      report-long : {ws₁ list₁ : List ℕ} → n ≤ length list → ws₁ ≡ slots_to w ws z mean w.held → list₁ ≡ list_all w ws z mean list
+          → report_ended (answers.Report n) ws₁ list₁ ≡ report_of w ws time mean list
+      unfolding report_of
       report-long h b c = rw (← q, ← a, ne_eqb _ _ o, le-ltb _ _ h, b, c)
 
   -- any_due: one stretch, or the first of two, or both
-  pub any-one : {r : Bool} {z : ℤ} → w.start + w.held ≤ w.capacity → r ≡ dueFrom ws z mean w.start (w.start + w.held - w.start) → z ≡ time → r ≡ anyDue w ws time mean
-  unfolding dueFrom
+  pub any-one : {r : Bool} {z : ℤ} → w.start + w.held ≤ w.capacity → r ≡ due_from ws z mean w.start (w.start + w.held - w.start) → z ≡ time → r ≡ any_due w ws time mean
+  unfolding due_from
   any-one h e q =
       let a : min w.held (w.capacity - w.start) ≡ w.start + w.held - w.start = omega arith in
       let b : w.held - (w.capacity - w.start) ≡ 0 = omega arith in
       rw (a, b, ← q, ← e) (sym (cond-id _))
 
-  module _ {d : Bool} {z : ℤ} (h : w.capacity < w.start + w.held) (g : w.start < w.capacity) (e : d ≡ dueFrom ws z mean w.start (w.capacity - w.start)) (q : z ≡ time) where
-    any-front : dueFrom ws time mean w.start (min w.held (w.capacity - w.start)) ≡ d
+  module _ {d : Bool} {z : ℤ} (h : w.capacity < w.start + w.held) (g : w.start < w.capacity) (e : d ≡ due_from ws z mean w.start (w.capacity - w.start)) (q : z ≡ time) where
+    any-front : due_from ws time mean w.start (min w.held (w.capacity - w.start)) ≡ d
     any-front = let a : min w.held (w.capacity - w.start) ≡ w.capacity - w.start = omega arith in rw (a, ← q) (sym e)
 
-    pub any-first : d ≡ true → true ≡ anyDue w ws time mean
+    pub any-first : d ≡ true → true ≡ any_due w ws time mean
     any-first f = rw (any-front, f)
 
-    pub any-second : {r : Bool} {z₁ : ℤ} → d ≡ false → r ≡ dueFrom ws z₁ mean 0 (w.start + w.held - w.capacity - 0) → z₁ ≡ time → r ≡ anyDue w ws time mean
+    pub any-second : {r : Bool} {z₁ : ℤ} → d ≡ false → r ≡ due_from ws z₁ mean 0 (w.start + w.held - w.capacity - 0) → z₁ ≡ time → r ≡ any_due w ws time mean
     any-second f k q₁ =
         let b : w.held - (w.capacity - w.start) ≡ w.start + w.held - w.capacity - 0 = omega arith in
         rw (any-front, f, b) (k ∙ rw q₁)
 
   -- loss_report
-  pub lost-none : (list : List ℕ) {d : Bool} {z : ℤ} → Good w ws → d ≡ anyDue w ws z mean → z ≡ time → d ≡ false → reportEnded answers.Nothing ws list ≡ reportOf w ws time mean list
+  pub lost-none : (list : List ℕ) {d : Bool} {z : ℤ} → Good w ws → d ≡ any_due w ws z mean → z ≡ time → d ≡ false → report_ended answers.Nothing ws list ≡ report_of w ws time mean list
   lost-none list g e q f = report-none list (sym (any-needs w ws time mean g (rw q at (sym e ∙ f)))) refl refl
 
   pub held_fits : (list : List ℕ) → w.held ≤ length list → needed w ws time mean ≤ length list
@@ -321,28 +321,28 @@ module _ (w : Window) (ws : List ℕ) (time : ℤ) (mean : ℕ) where
 
 -- report_in: the list has room for the run at the end
 pub last-room : (w : Window) (ws : List ℕ) (time : ℤ) (mean : ℕ) (list : List ℕ) {ws₁ l : List ℕ} {z : ℤ} {r : Runs}
-    → reporting ws₁ l r ≡ reportedTo w ws z mean list w.held → z ≡ time → needed w ws time mean ≤ length list → r.words + runWords r w.held ≤ length l
+    → reporting ws₁ l r ≡ reported_to w ws z mean list w.held → z ≡ time → needed w ws time mean ≤ length list → r.words + run_words r w.held ≤ length l
 last-room w ws time mean list {z = z} a q n = report-last w ws z mean list w.held a refl (rw q n)
 
 -- the run at the end is written, and the words are those of the runs that came out
 module _ (w : Window) (ws : List ℕ) (time : ℤ) (mean : ℕ) (list : List ℕ) {ws₁ l list₁ : List ℕ} {z : ℤ} {r q : Runs}
-    (a : reporting ws₁ l r ≡ reportedTo w ws z mean list w.held) (y : z ≡ time) (b : list₁ ≡ runPut w l r w.held) (c : q ≡ closed r w.held) where
-  all_slots : ws₁ ≡ slotsTo w ws z mean w.held
+    (a : reporting ws₁ l r ≡ reported_to w ws z mean list w.held) (y : z ≡ time) (b : list₁ ≡ run_put w l r w.held) (c : q ≡ closed r w.held) where
+  all_slots : ws₁ ≡ slots_to w ws z mean w.held
   all_slots = ap (λ (x : Reporting). x.slots) a
 
-  all_list : list₁ ≡ listAll w ws z mean list
-  all_list = b ∙ ap (λ (x : Reporting). runPut w x.list x.runs w.held) a
+  all_list : list₁ ≡ list_all w ws z mean list
+  all_list = b ∙ ap (λ (x : Reporting). run_put w x.list x.runs w.held) a
 
   all_words : q.words ≡ needed w ws z mean
   all_words = needs-words w ws z mean (ap (λ (x : Reporting). x.runs) a) refl c
 
-  pub all_none : q.words ≡ 0 → reportEnded answers.Nothing ws₁ list₁ ≡ reportOf w ws time mean list
+  pub all_none : q.words ≡ 0 → report_ended answers.Nothing ws₁ list₁ ≡ report_of w ws time mean list
   all_none o =
       let e : needed w ws z mean ≡ 0 = sym all_words ∙ o in
       rw (all_slots ∙ slots_same w ws z mean e, all_list ∙ list_same w ws z mean e list) (report-none w ws time mean list all_words y o)
 
   pub all-some : (q.words ≡ 0 → ⊥) → needed w ws time mean ≤ length list
-      → reportEnded (answers.Report q.words) ws₁ list₁ ≡ reportOf w ws time mean list
+      → report_ended (answers.Report q.words) ws₁ list₁ ≡ report_of w ws time mean list
   all-some o h = report-long w ws time mean list all_words y o (rw (all_words, y) h) all_slots all_list
 
 pub ruleset reports = (

@@ -1,7 +1,7 @@
 -- The loss report: 01, "Window", from "Loss report: lost entries" to "No entry, no report."
 use Rattle.std.specs.Prelude.{Bool, true, false, cond, List, ℕ, zero, suc, ◌+◌, ◌-◌, ◌*◌, ◌^◌, min, ltb, eqb, ℤ, pos, nat_abs, ◌+ℤ◌, length, set}
 use Rattle.std.specs.Int.Signed.{lt_z}
-use Rattle.slots.specs.Words.{entry_at, writeReport}
+use Rattle.slots.specs.Words.{entry_at, write_report}
 use Rattle.slots.specs.Ring.{slot_of}
 use Rattle.slots.specs.declared.entry.Entry.{Entry}
 use Rattle.slots.specs.declared.entry.Entry.TheVariants.{Lost, Received, GivenUp}
@@ -17,34 +17,34 @@ pub record ReportOutcome : Type 0 where
   pub slots : List ℕ
   pub list : List ℕ
 
-abbrev pub reportEnded : ReportAnswer → List ℕ → List ℕ → ReportOutcome
-reportEnded r ws list = record { answer = r; slots = ws; list = list }
+abbrev pub report_ended : ReportAnswer → List ℕ → List ℕ → ReportOutcome
+report_ended r ws list = record { answer = r; slots = ws; list = list }
 
 -- lost entries with now > feedback + k × mean RTT
-unfoldable pub isDue : ℤ → ℕ → Entry → Bool
-isDue time mean (Lost k f) = lt_z (pos f +ℤ pos (k * mean)) time
-isDue time mean (Received n l m t) = false
-isDue time mean GivenUp = false
+unfoldable pub is_due : ℤ → ℕ → Entry → Bool
+is_due time mean (Lost k f) = lt_z (pos f +ℤ pos (k * mean)) time
+is_due time mean (Received n l m t) = false
+is_due time mean GivenUp = false
 
--- each gets k + 1 (at most 65,535), and, in `slotsTo`, feedback now, as a word, which has no sign
-abbrev pub kAfter : Entry → ℕ
-kAfter (Lost k f) = min (k + 1) 65535
-kAfter (Received n l m t) = 0
-kAfter GivenUp = 0
+-- each gets k + 1 (at most 65,535), and, in `slots_to`, feedback now, as a word, which has no sign
+abbrev pub k_after : Entry → ℕ
+k_after (Lost k f) = min (k + 1) 65535
+k_after (Received n l m t) = 0
+k_after GivenUp = 0
 
 -- words so far, and the run that is open before entry i: its first entry. A run of one is one word, a run of two or more two
-abbrev pub runWords : Runs → ℕ → ℕ
-runWords r i = cond r.going (cond (eqb (r.first + 1) i) 1 2) 0
+abbrev pub run_words : Runs → ℕ → ℕ
+run_words r i = cond r.going (cond (eqb (r.first + 1) i) 1 2) 0
 
 abbrev pub closed : Runs → ℕ → Runs
-closed r i = record { words = r.words + runWords r i; going = false; first = 0 }
+closed r i = record { words = r.words + run_words r i; going = false; first = 0 }
 
-abbrev pub runsAfter : Runs → ℕ → Bool → Runs
-runsAfter r i due = cond due (record { words = r.words; going = true; first = cond r.going r.first i }) (closed r i)
+abbrev pub runs_after : Runs → ℕ → Bool → Runs
+runs_after r i due = cond due (record { words = r.words; going = true; first = cond r.going r.first i }) (closed r i)
 
 -- a single number; a run of two or more consecutive as first with bit 31 set, then last
-unfoldable pub runPut : Window → List ℕ → Runs → ℕ → List ℕ
-runPut w list r i =
+unfoldable pub run_put : Window → List ℕ → Runs → ℕ → List ℕ
+run_put w list r i =
     cond r.going
     (cond (eqb (r.first + 1) i)
     (set list r.words (number_in w r.first))
@@ -53,39 +53,39 @@ runPut w list r i =
 
 module _ (w : Window) (ws : List ℕ) (time : ℤ) (mean : ℕ) where
   -- the slot of entry i, and whether it is due
-  abbrev pub slotNo : ℕ → ℕ
-  slotNo i = slot_of w.capacity w.start i
+  abbrev pub slot_no : ℕ → ℕ
+  slot_no i = slot_of w.capacity w.start i
 
   abbrev pub due_at : ℕ → Bool
-  due_at i = isDue time mean (entry_at ws (slotNo i))
+  due_at i = is_due time mean (entry_at ws (slot_no i))
 
   -- the slot area after the first i entries
-  unfoldable pub slotsTo : ℕ → List ℕ
-  slotsTo zero = ws
-  slotsTo (suc i) = cond (due_at i) (writeReport (slotsTo i) (slotNo i) (kAfter (entry_at ws (slotNo i))) (nat_abs time)) (slotsTo i)
+  unfoldable pub slots_to : ℕ → List ℕ
+  slots_to zero = ws
+  slots_to (suc i) = cond (due_at i) (write_report (slots_to i) (slot_no i) (k_after (entry_at ws (slot_no i))) (nat_abs time)) (slots_to i)
 
   -- the runs of the first i entries, and the words that all of them need
-  unfoldable pub runsTo : ℕ → Runs
-  runsTo zero = record { words = 0; going = false; first = 0 }
-  runsTo (suc i) = runsAfter (runsTo i) i (due_at i)
+  unfoldable pub runs_to : ℕ → Runs
+  runs_to zero = record { words = 0; going = false; first = 0 }
+  runs_to (suc i) = runs_after (runs_to i) i (due_at i)
 
   abbrev pub needed : ℕ
-  needed = (closed (runsTo w.held) w.held).words
+  needed = (closed (runs_to w.held) w.held).words
 
   -- the list after the first i entries: a run is written when it has ended
-  unfoldable pub listTo : List ℕ → ℕ → List ℕ
-  listTo list zero = list
-  listTo list (suc i) = cond (due_at i) (listTo list i) (runPut w (listTo list i) (runsTo i) i)
+  unfoldable pub list_to : List ℕ → ℕ → List ℕ
+  list_to list zero = list
+  list_to list (suc i) = cond (due_at i) (list_to list i) (run_put w (list_to list i) (runs_to i) i)
 
   -- with the run that is going on at the end
-  abbrev pub listAll : List ℕ → List ℕ
-  listAll list = runPut w (listTo list w.held) (runsTo w.held) w.held
+  abbrev pub list_all : List ℕ → List ℕ
+  list_all list = run_put w (list_to list w.held) (runs_to w.held) w.held
 
   -- no entry, no report; refusal 12 if the report needs more words than lent
-  unfoldable pub reportOf : List ℕ → ReportOutcome
-  reportOf list =
+  unfoldable pub report_of : List ℕ → ReportOutcome
+  report_of list =
       cond (eqb needed 0)
-      (reportEnded answers.Nothing ws list)
+      (report_ended answers.Nothing ws list)
       (cond (ltb (length list) needed)
-      (reportEnded answers.ListShort ws list)
-      (reportEnded (answers.Report needed) (slotsTo w.held) (listAll list)))
+      (report_ended answers.ListShort ws list)
+      (report_ended (answers.Report needed) (slots_to w.held) (list_all list)))

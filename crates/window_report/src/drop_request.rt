@@ -1,7 +1,7 @@
 // A drop request, buffer.rs `drop_packets`: 01, "Window".
 ghost use Rattle.std.specs.Prelude.{◌≡◌, ◌+◌, ◌-◌, ◌*◌, ◌<◌, ◌≤◌, length};
 ghost use Rattle.window.specs.Ready.{Ring, Good};
-ghost use Rattle.window_report.specs.Drop.{dropEnded, giveUp, sweep, end_in, dropOf};
+ghost use Rattle.window_report.specs.Drop.{drop_ended, give_up, sweep, end_in, drop_of};
 
 use slots::entry::Entry;
 
@@ -16,7 +16,7 @@ fn end_in(w: window::Window, number: u32) -> usize
 // Gives up the entry in slot s if it is lost, and counts it, n being those before it.
 fn give_up_one(words: &mut [u64], s: usize, n: usize) -> usize
     requires { (3 * s + 3 ≤ length words.old) × (n ≤ 8192) }
-    ensures { dropEnded result words.new ≡ giveUp s (dropEnded n words.old) }
+    ensures { drop_ended result words.new ≡ give_up s (drop_ended n words.old) }
 {
     if slots::entry::is_lost(slots::entry::read_at(words, s)) {
         slots::entry::write_at(words, s, Entry::GivenUp);
@@ -28,7 +28,7 @@ fn give_up_one(words: &mut [u64], s: usize, n: usize) -> usize
 // Gives up the lost entries from `from` to before `to`, and counts them.
 fn give_up(words: &mut [u64], capacity: usize, start: usize, from: usize, to: usize) -> usize
     requires { Ring capacity start to words.old × (from ≤ to) }
-    ensures { dropEnded result words.new ≡ sweep capacity start words.old from (to - from) }
+    ensures { drop_ended result words.new ≡ sweep capacity start words.old from (to - from) }
 {
     let mut n = 0;
     let mut i = from;
@@ -45,7 +45,7 @@ fn give_up(words: &mut [u64], capacity: usize, start: usize, from: usize, to: us
 // The drop request, first to last: how many entries it gave up.
 pub fn drop_packets(w: window::Window, words: &mut [u64], first: u32, last: u32) -> usize
     requires { Good w words.old }
-    ensures { dropEnded result words.new ≡ dropOf w words.old first last }
+    ensures { drop_ended result words.new ≡ drop_of w words.old first last }
 {
     let from = end_in(w, first);
     let to = end_in(w, numbers::seq::sum(last, 1));

@@ -2,8 +2,8 @@
 ghost use Rattle.std.specs.Prelude.{◌≡◌, ◌+◌, ◌-◌, ◌*◌, ◌<◌, ◌≤◌, ◌^◌, length};
 ghost use Rattle.slots.specs.Ready.{Fit};
 ghost use Rattle.window.specs.Ready.{Good};
-ghost use Rattle.window_report.specs.Report.{isDue, kAfter, reportEnded, runWords, closed, runsAfter, runsTo, runPut, needed, reportOf};
-ghost use Rattle.window_report.specs.Inner.{Within, reporting, reportOne, reportedTo, dueFrom, anyDue};
+ghost use Rattle.window_report.specs.Report.{is_due, k_after, report_ended, run_words, closed, runs_after, runs_to, run_put, needed, report_of};
+ghost use Rattle.window_report.specs.Inner.{Within, reporting, report_one, reported_to, due_from, any_due};
 
 use slots::entry::Entry;
 
@@ -25,7 +25,7 @@ pub enum ReportAnswer {
 // A lost entry whose feedback time is more than k mean round trips ago.
 fn is_due(e: Entry, time: i64, mean: u32) -> bool
     requires { Fit e × (mean < 2 ^ 31) }
-    ensures { result ≡ isDue time mean e }
+    ensures { result ≡ is_due time mean e }
 {
     match e {
         Entry::Lost { k, feedback } => (feedback as i64) + (k as i64) * (mean as i64) < time,
@@ -41,7 +41,7 @@ fn is_due(e: Entry, time: i64, mean: u32) -> bool
 
 // k of a reported entry.
 fn k_after(e: Entry) -> u32
-    ensures { result ≡ kAfter e }
+    ensures { result ≡ k_after e }
 {
     match e {
         Entry::Lost { k, feedback: _ } => if k < 65535 { k + 1 } else { 65535 },
@@ -58,7 +58,7 @@ fn k_after(e: Entry) -> u32
 // The words of the run that ends before entry i.
 fn run_words(r: Runs, i: usize) -> usize
     requires { r.first ≤ 8192 }
-    ensures { result ≡ runWords r i }
+    ensures { result ≡ run_words r i }
 {
     if r.going {} else {
         return 0;
@@ -80,7 +80,7 @@ fn runs_closed(r: Runs, i: usize) -> Runs
 // Entry i goes on with the run, begins one, or ends it.
 fn runs_after(r: Runs, i: usize, due: bool) -> Runs
     requires { Within r i × (i ≤ 8192) }
-    ensures { result ≡ runsAfter r i due }
+    ensures { result ≡ runs_after r i due }
 {
     if due {} else {
         return runs_closed(r, i);
@@ -96,7 +96,7 @@ fn runs_after(r: Runs, i: usize, due: bool) -> Runs
 // The runs of all entries, and so how many words they need.
 fn count_runs(w: window::Window, words: &[u64], time: i64, mean: u32) -> Runs
     requires { Good w words.now × (mean < 2 ^ 31) }
-    ensures { result ≡ runsTo w words.now time mean w.held }
+    ensures { result ≡ runs_to w words.now time mean w.held }
 {
     let mut r = Runs {
         words: 0,
@@ -125,8 +125,8 @@ fn words_needed(w: window::Window, words: &[u64], time: i64, mean: u32) -> usize
 
 // The run that ends before entry i: its number, or its first with bit 31 set and its last.
 fn run_put(w: window::Window, list: &mut [u32], r: Runs, i: usize)
-    requires { Within r i × (i ≤ 8192) × (r.words + runWords r i ≤ length list.old) }
-    ensures { list.new ≡ runPut w list.old r i }
+    requires { Within r i × (i ≤ 8192) × (r.words + run_words r i ≤ length list.old) }
+    ensures { list.new ≡ run_put w list.old r i }
 {
     let n = run_words(r, i);
     if n == 0 {
@@ -145,8 +145,8 @@ fn run_put(w: window::Window, list: &mut [u32], r: Runs, i: usize)
 
 // An entry that is not due ends the run before it; most often none is going.
 fn run_end(w: window::Window, list: &mut [u32], r: Runs, i: usize) -> Runs
-    requires { Within r i × (i ≤ 8192) × (r.words + runWords r i ≤ length list.old) }
-    ensures { (list.new ≡ runPut w list.old r i) × (result ≡ closed r i) }
+    requires { Within r i × (i ≤ 8192) × (r.words + run_words r i ≤ length list.old) }
+    ensures { (list.new ≡ run_put w list.old r i) × (result ≡ closed r i) }
 {
     if r.going {} else {
         return Runs {
@@ -170,8 +170,8 @@ fn report_one(
     i: usize,
     r: Runs,
 ) -> Runs
-    requires { (3 * s + 3 ≤ length words.old) × (mean < 2 ^ 31) × Within r i × (i ≤ 8192) × (r.words + runWords r i ≤ length list.old) }
-    ensures { reporting words.new list.new result ≡ reportOne w time mean s i (reporting words.old list.old r) }
+    requires { (3 * s + 3 ≤ length words.old) × (mean < 2 ^ 31) × Within r i × (i ≤ 8192) × (r.words + run_words r i ≤ length list.old) }
+    ensures { reporting words.new list.new result ≡ report_one w time mean s i (reporting words.old list.old r) }
 {
     let e = slots::entry::read_at(words, s);
     if is_due(e, time, mean) {
@@ -192,7 +192,7 @@ fn report_entries(
     mean: u32,
 ) -> Runs
     requires { Good w words.old × (mean < 2 ^ 31) × (needed w words.old time mean ≤ length list.old) }
-    ensures { reporting words.new list.new result ≡ reportedTo w words.old time mean list.old w.held }
+    ensures { reporting words.new list.new result ≡ reported_to w words.old time mean list.old w.held }
 {
     let mut r = Runs {
         words: 0,
@@ -219,7 +219,7 @@ fn report_in(
     mean: u32,
 ) -> ReportAnswer
     requires { Good w words.old × (mean < 2 ^ 31) × (needed w words.old time mean ≤ length list.old) }
-    ensures { reportEnded result words.new list.new ≡ reportOf w words.old time mean list.old }
+    ensures { report_ended result words.new list.new ≡ report_of w words.old time mean list.old }
 {
     let r = report_entries(w, words, list, time, mean);
     let q = run_end(w, list, r, w.held);
@@ -238,7 +238,7 @@ fn report_counted(
     mean: u32,
 ) -> ReportAnswer
     requires { Good w words.old × (mean < 2 ^ 31) }
-    ensures { reportEnded result words.new list.new ≡ reportOf w words.old time mean list.old }
+    ensures { report_ended result words.new list.new ≡ report_of w words.old time mean list.old }
 {
     let n = words_needed(w, words, time, mean);
     if n == 0 {
@@ -253,7 +253,7 @@ fn report_counted(
 // Whether one of the slots from `from` to before `to` holds an entry that is due.
 fn due_between(words: &[u64], from: usize, to: usize, time: i64, mean: u32) -> bool
     requires { (3 * to ≤ length words.now) × (mean < 2 ^ 31) }
-    ensures { result ≡ dueFrom words.now time mean from (to - from) }
+    ensures { result ≡ due_from words.now time mean from (to - from) }
 {
     let mut s = from;
     while s < to {
@@ -269,7 +269,7 @@ fn due_between(words: &[u64], from: usize, to: usize, time: i64, mean: u32) -> b
 // stretches of slots, so that a step is one addition.
 fn any_due(w: window::Window, words: &[u64], time: i64, mean: u32) -> bool
     requires { Good w words.now × (mean < 2 ^ 31) }
-    ensures { result ≡ anyDue w words.now time mean }
+    ensures { result ≡ any_due w words.now time mean }
 {
     let end = w.start + w.held;
     if end <= w.capacity {
@@ -290,7 +290,7 @@ pub fn loss_report(
     mean: u32,
 ) -> ReportAnswer
     requires { Good w words.old × (mean < 2 ^ 31) }
-    ensures { reportEnded result words.new list.new ≡ reportOf w words.old time mean list.old }
+    ensures { report_ended result words.new list.new ≡ report_of w words.old time mean list.old }
 {
     if any_due(w, words, time, mean) {} else {
         return ReportAnswer::Nothing;

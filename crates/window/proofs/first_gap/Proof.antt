@@ -1,14 +1,14 @@
 use mathlib.Core.Path.{◌≡◌}
 use Prim.Native.Nat.{◌-◌, ◌≤◌}
 use Rattle.slots.specs.Ring.{slot_of}
-use Rattle.window.specs.Window.{firstGap}
+use Rattle.window.specs.Window.{first_gap}
 use Rattle.window.proofs.Walks.{walks}
 use Rattle.window.proofs.first_gap.Statement.{statement}
 use Rattle.window.proofs.first_gap.Tie as tie
 
 abbrev invariant-loop : tie.invariant-loop
 invariant-loop words capacity start from held i₀ s₀ i s =
-    (from ≤ i) × (i ≤ held) × (s ≡ slot_of capacity start i) × (firstGap capacity start words from (held - from) ≡ firstGap capacity start words i (held - i))
+    (from ≤ i) × (i ≤ held) × (s ≡ slot_of capacity start i) × (first_gap capacity start words from (held - from) ≡ first_gap capacity start words i (held - i))
 
 abbrev decreases-loop : tie.decreases-loop
 decreases-loop words capacity start from held i₀ s₀ i s = held - i

@@ -2,7 +2,7 @@
 use Rattle.std.proofs.Common.{T, sym, ap, ◌∙◌, subst, to_z-of_z, w32, w64, SFits, rules}
 use lib.Ieee.{of_bits, neg}
 use Rattle.numbers.specs.Instants.{clamp}
-use Rattle.clock.specs.Samples.{truncatedOf}
+use Rattle.clock.specs.Samples.{truncated_of}
 use Rattle.clock.proofs.Casts.{signed-most, signed-least, signed-nan, signed-clamped}
 use Rattle.clock.proofs.stats.truncated.Statement.{statement}
 use Rattle.clock.proofs.stats.truncated.Tie as tie
@@ -15,7 +15,7 @@ clamp-requires : tie.Need-clamp-requires
 clamp-requires c κs = search rules
 
 returns : tie.Need-returns
-unfolding truncatedOf
+unfolding truncated_of
 returns c =
     let f : SFits w32 c.clamp.result = record { sfits = c.clamp.type-inv } in
     let g : SFits w64 c.before.truncating-f64-to-i64.result = record { sfits = c.before.truncating-f64-to-i64.type-inv } in
@@ -23,15 +23,15 @@ returns c =
     rw (to_z-of_z f) (e ∙ ap clamp c.before.truncating-f64-to-i64.ensures ∙ signed-clamped c.before.before.before.before.args.m)
 
 returns-2 : tie.Need-returns-2
-unfolding truncatedOf of_bits neg
+unfolding truncated_of of_bits neg
 returns-2 c = sym (signed-most c.before.before.args.m c.before.if1.true c.if2.false)
 
 returns-3 : tie.Need-returns-3
-unfolding truncatedOf of_bits neg
+unfolding truncated_of of_bits neg
 returns-3 c = sym (signed-least c.before.before.args.m c.before.if1.false c.if3.true)
 
 returns-4 : tie.Need-returns-4
-unfolding truncatedOf of_bits neg
+unfolding truncated_of of_bits neg
 returns-4 c = sym (signed-nan c.before.before.args.m c.before.if1.false c.if3.false)
 
 pub truncated-spec : {M : Type 1} → statement M

@@ -2,7 +2,7 @@
 -- the difference fits. So it is with begin - 2^31 where begin is above 0. Assumes nothing.
 use Rattle.std.proofs.Common.{◌≡◌, ◌^◌, true, false, ℤ, pos, negsuc, ◌+ℤ◌, ◌-ℤ◌, sym, arith, to_z-of_z, w32, w64, SFits, rules}
 use lib.Signed.{lt_z, le_z}
-use Rattle.numbers.specs.Instants.{clamp, intervalOf}
+use Rattle.numbers.specs.Instants.{clamp, interval_of}
 use Rattle.numbers.proofs.Halves.{apart, range, in-range, above-+, below-+, above--, below--, lt-true, lt-false, le-true, le-false}
 use Rattle.numbers.proofs.Signs.{clamp-low, clamp-high}
 use Rattle.numbers.proofs.instant.interval.Statement.{statement}
@@ -16,8 +16,8 @@ module _ (b e : ℤ) (fb : SFits w64 b) (fe : SFits w64 e) where
         let o = le-true b (pos 0) h in
         record { sfits = in-range (2 ^ 63) (b +ℤ pos 2147483647) (rw above-+ (omega arith)) (rw below-+ (omega arith)) }
 
-    past : lt_z (b +ℤ pos 2147483647) e ≡ true → pos 2147483647 ≡ intervalOf b e
-    unfolding intervalOf
+    past : lt_z (b +ℤ pos 2147483647) e ≡ true → pos 2147483647 ≡ interval_of b e
+    unfolding interval_of
     past t =
         let o = lt-true (b +ℤ pos 2147483647) e t in
         sym (clamp-high (e -ℤ b) (rw above-- (omega (arith, above-+ b (pos 2147483647), below-+ b (pos 2147483647), apart b, apart e))))
@@ -36,8 +36,8 @@ module _ (b e : ℤ) (fb : SFits w64 b) (fe : SFits w64 e) where
         let o = le-false b (pos 0) h in
         record { sfits = in-range (2 ^ 63) (b -ℤ pos 2147483648) (rw above-- (omega arith)) (rw below-- (omega (arith, apart b))) }
 
-    short : lt_z e (b -ℤ pos 2147483648) ≡ true → negsuc 2147483647 ≡ intervalOf b e
-    unfolding intervalOf
+    short : lt_z e (b -ℤ pos 2147483648) ≡ true → negsuc 2147483647 ≡ interval_of b e
+    unfolding interval_of
     short t =
         let o = lt-true e (b -ℤ pos 2147483648) t in
         sym (clamp-low (e -ℤ b) (rw below-- (omega (arith, above-- b (pos 2147483648), below-- b (pos 2147483648), apart b, apart e))))
@@ -96,7 +96,7 @@ clamp-requires : tie.Need-clamp-requires
 clamp-requires c κs = search rules
 
 returns-2 : tie.Need-returns-2
-unfolding intervalOf
+unfolding interval_of
 returns-2 c =
     let s = c.before.before.before in
     let g : SFits w32 c.clamp.result = record { sfits = c.clamp.type-inv } in
@@ -118,7 +118,7 @@ clamp-requires-2 : tie.Need-clamp-requires-2
 clamp-requires-2 c κs = search rules
 
 returns-4 : tie.Need-returns-4
-unfolding intervalOf
+unfolding interval_of
 returns-4 c =
     let s = c.before.before.before in
     let g : SFits w32 c.clamp2.result = record { sfits = c.clamp2.type-inv } in

@@ -2,7 +2,7 @@
 use mathlib.Core.Path.{◌≡◌, ◌∙◌, ap}
 use mir.Facts.{to_z-of_z}
 use Rattle.head.specs.declared.state.Head.{Head}
-use Rattle.packing.specs.Packed.{packOf, unpackOf}
+use Rattle.packing.specs.Packed.{pack_of, unpack_of}
 use Rattle.packing.specs.Holds.{Holds}
 use Rattle.packing.proofs.Undo.{unpack-pack}
 use Rattle.packing.proofs.Puts.{puts, puts-all}
@@ -16,7 +16,7 @@ module _ (c : tie.After-put-history) where
   abbrev h : Head
   h = first.before.before.before.args.h
 
-  all : c.put-history.new.0 ≡ packOf h
+  all : c.put-history.new.0 ≡ pack_of h
   all =
       puts-all
       h
@@ -45,7 +45,7 @@ module _ (c : tie.After-put-history) where
       }
 
 returns : tie.Need-returns
-returns c = (all c, ap unpackOf (all c) ∙ unpack-pack (h c) (holds c))
+returns c = (all c, ap unpack_of (all c) ∙ unpack-pack (h c) (holds c))
 
 pub pack-spec : {M : Type 1} → statement M
 pack-spec =

@@ -1,12 +1,12 @@
 use mathlib.Core.Path.{◌≡◌}
 use Prim.Native.Nat.{◌-◌, ◌≤◌}
-use Rattle.packing.specs.Puts.{readNumbers}
+use Rattle.packing.specs.Puts.{read_numbers}
 use Rattle.packing.proofs.Says.{Says-All}
 use Rattle.packing.proofs.unpack.sixteen.Statement.{statement}
 use Rattle.packing.proofs.unpack.sixteen.Tie as tie
 
 abbrev invariant-loop : tie.invariant-loop
-invariant-loop ws at numbers₀ i₀ numbers i = (i ≤ 16) × (numbers ≡ readNumbers ws at i)
+invariant-loop ws at numbers₀ i₀ numbers i = (i ≤ 16) × (numbers ≡ read_numbers ws at i)
 
 abbrev decreases-loop : tie.decreases-loop
 decreases-loop ws at numbers₀ i₀ numbers i = 16 - i

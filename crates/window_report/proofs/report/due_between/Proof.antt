@@ -2,13 +2,13 @@ use mathlib.Core.Path.{◌≡◌}
 use Prim.Native.Nat.{◌-◌}
 use mir.Syntax.{w64}
 use mir.Val.{to_z}
-use Rattle.window_report.specs.Inner.{dueFrom}
+use Rattle.window_report.specs.Inner.{due_from}
 use Rattle.window_report.proofs.Reports.{reports}
 use Rattle.window_report.proofs.report.due_between.Statement.{statement}
 use Rattle.window_report.proofs.report.due_between.Tie as tie
 
 abbrev invariant-loop : tie.invariant-loop
-invariant-loop words from to time mean s₀ s = dueFrom words (to_z w64 time) mean from (to - from) ≡ dueFrom words (to_z w64 time) mean s (to - s)
+invariant-loop words from to time mean s₀ s = due_from words (to_z w64 time) mean from (to - from) ≡ due_from words (to_z w64 time) mean s (to - s)
 
 abbrev decreases-loop : tie.decreases-loop
 decreases-loop words from to time mean s₀ s = to - s

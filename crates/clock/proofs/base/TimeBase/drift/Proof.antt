@@ -1,12 +1,12 @@
 -- `TimeBase::drift` meets its contract. Assumes nothing.
 use Rattle.std.proofs.Common.{ℕ, ap, ◌∙◌, to_z-of_z, w32, SFits, rules}
 use Rattle.numbers.specs.Circular.{difference}
-use Rattle.clock.specs.Base.{driftOf}
+use Rattle.clock.specs.Base.{drift_of}
 use Rattle.clock.proofs.base.TimeBase.drift.Statement.{statement}
 use Rattle.clock.proofs.base.TimeBase.drift.Tie as tie
 
 returns : tie.Need-returns
-unfolding driftOf
+unfolding drift_of
 returns c =
     let f : SFits w32 c.difference.result = record { sfits = c.difference.type-inv } in
     let e = rw (to_z-of_z c.before.before.ranges.now) at c.before.timestamp-from.ensures in

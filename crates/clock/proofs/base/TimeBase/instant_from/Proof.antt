@@ -2,7 +2,7 @@
 use Rattle.std.proofs.Common.{ℤ, ◌+ℤ◌, ap, arith, to_z-of_z, w32, w64, SFits, rules}
 use mir.Facts.{sfits_widen}
 use Rattle.numbers.proofs.Halves.{size-+, fits-size, size_fits}
-use Rattle.clock.specs.Base.{instantOf}
+use Rattle.clock.specs.Base.{instant_of}
 use Rattle.clock.proofs.base.TimeBase.instant_from.Statement.{statement}
 use Rattle.clock.proofs.base.TimeBase.instant_from.Tie as tie
 
@@ -30,7 +30,7 @@ add-result : tie.Need-overflow-add-result
 add-result c = let a = c.before.before in search (rules, narrow a, wide a, time-fits a, sum_fits a)
 
 returns : tie.Need-returns
-unfolding instantOf
+unfolding instant_of
 returns c =
     let a = c.before.before in
     rw (to_z-of_z (narrow a), to_z-of_z (wide a), to_z-of_z (time-fits a), to_z-of_z (sum_fits a)) (ap (λ (z : ℤ). t a +ℤ z) a.difference.ensures)

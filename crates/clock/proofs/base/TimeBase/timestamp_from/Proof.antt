@@ -2,7 +2,7 @@
 use Rattle.std.proofs.Common.{◌≡◌, ℕ, ◌^◌, ◌<◌, ℤ, pos, ◌+ℤ◌, ◌-ℤ◌, arith, to_z-of_z, w64, SFits, to_z, of_z, rules}
 use mir.Facts.{to_z_pos}
 use Rattle.numbers.proofs.Halves.{size-+, size--, fits-size}
-use Rattle.clock.specs.Base.{stampOf}
+use Rattle.clock.specs.Base.{stamp_of}
 use Rattle.clock.proofs.base.TimeBase.timestamp_from.Statement.{statement}
 use Rattle.clock.proofs.base.TimeBase.timestamp_from.Tie as tie
 
@@ -42,7 +42,7 @@ sub-wrap : tie.Need-overflow-sub-wrap
 sub-wrap c = let s = c.before.before in rw (stamp-reads s, now-reads s, to_z-of_z (sum_fits s), time-reads s) (span_fits s)
 
 returns : tie.Need-returns
-unfolding stampOf
+unfolding stamp_of
 returns c =
     let s = c.before.before.before in
     rw (stamp-reads s, now-reads s, to_z-of_z (sum_fits s), time-reads s, to_z-of_z (span_fits s)) at c.wrap.ensures
