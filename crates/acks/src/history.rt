@@ -4,7 +4,7 @@ ghost use Rattle.acks.specs.History.{number_at, departure_at, write_ack, fresh_h
 ghost use Rattle.acks.specs.Ready.{HistoryReady};
 
 // Entry i, under count, has the ACK number first + i and lies at (start + i) mod 1,024. `largest` is largest_ack2_dsn, `lastack` last_ack_dsn.
-#[derive(Drop)]
+#[derive(Clone, Copy)]
 pub struct History {
     pub start: usize,
     pub count: usize,

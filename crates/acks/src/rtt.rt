@@ -2,7 +2,7 @@
 ghost use Rattle.std.specs.Prelude.{◌≡◌};
 ghost use Rattle.acks.specs.Rtt.{fresh_rtt, apart, updated, rtt_ok};
 
-#[derive(Drop)]
+#[derive(Clone, Copy)]
 pub struct Rtt {
     pub mean: u32,
     pub variance: u32,

@@ -5,7 +5,7 @@ use counts::Counters;
 use head::state::Head;
 
 // A head and its counters.
-#[derive(Drop)]
+#[derive(Clone, Copy)]
 struct State {
     head: Head,
     counters: Counters,

@@ -39,7 +39,7 @@ enum DropCall {
 }
 
 // What the calls hand on, with the two settings that pop takes.
-#[derive(Drop)]
+#[derive(Clone, Copy)]
 pub struct State {
     pub window: Window,
     pub clock: SynchronizedRemoteClock,

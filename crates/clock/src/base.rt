@@ -3,13 +3,13 @@ ghost use Rattle.std.specs.Prelude.{◌≡◌, ◌+◌, ◌^◌, ◌<◌, ◌≤
 ghost use Rattle.clock.specs.Base.{fresh_base, instant_of, stamp_of, drift_of, in_reference, shifted, adjusted};
 
 // The reference: one point as a time of the receiver and as a stamp of the sender.
-#[derive(Drop)]
+#[derive(Clone, Copy)]
 pub struct TimeBase {
     pub time: i64,
     pub stamp: u32,
 }
 
-#[derive(Drop)]
+#[derive(Clone, Copy)]
 pub enum Adjusted {
     Base(TimeBase),
     OutOfRange,

@@ -3,7 +3,7 @@ ghost use Rattle.std.specs.Prelude.{◌≡◌, ◌<◌};
 ghost use Rattle.clock.specs.Samples.{no_samples, sampled, variance_of, deviation_of, truncated_of};
 
 // A running mean and a running sum of squares.
-#[derive(Drop)]
+#[derive(Clone, Copy)]
 pub struct OnlineStats {
     pub mean: f64,
     pub squares: f64,

@@ -10,7 +10,7 @@ use crate::stats::OnlineStats;
 use numbers::instant::Moment;
 
 // `seen` is the first-drift flag; `last` is the last released time.
-#[derive(Drop)]
+#[derive(Clone, Copy)]
 pub struct SynchronizedRemoteClock {
     pub base: TimeBase,
     pub last: Moment,

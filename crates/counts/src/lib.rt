@@ -6,7 +6,7 @@ ghost use Rattle.counts.specs.Counts.{fresh, raised};
 pub mod after;
 
 // By 003's names; decryption is left out. Any values are taken.
-#[derive(Drop)]
+#[derive(Clone, Copy)]
 pub struct Counters {
     pub rx_data: u64,
     pub rx_bytes: u64,

@@ -4,7 +4,7 @@ ghost use Rattle.dlt.specs.Record.{least_size, data_in, data_of, fields_of, reco
 
 use crate::bytes::{half, time, wide, word};
 
-#[derive(Drop)]
+#[derive(Clone, Copy)]
 pub enum RecordRead {
     // Fewer bytes than the record has, or none.
     Short,

@@ -13,7 +13,7 @@ use intervals::rates::{Arrivals, Links, Rate};
 use window::Window;
 
 // The rates have the names that the Rust's AckStatistics gives them.
-#[derive(Drop)]
+#[derive(Clone, Copy)]
 pub enum FullAckAnswer {
     Nothing,
     Ack {
@@ -35,7 +35,7 @@ pub struct FullAcked {
     pub answer: FullAckAnswer,
 }
 
-#[derive(Drop)]
+#[derive(Clone, Copy)]
 pub enum RttAnswer {
     Nothing,
     Rtt { mean: u32, variance: u32 },

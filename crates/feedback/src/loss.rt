@@ -6,7 +6,7 @@ ghost use Rattle.feedback.specs.Ready.{ReportReady};
 use head::state::Head;
 use window_report::report::ReportAnswer;
 
-#[derive(Drop)]
+#[derive(Clone, Copy)]
 pub enum LossAnswer {
     Nothing,
     Report { words: usize },

@@ -7,7 +7,7 @@ ghost use Rattle.head.specs.Parts.{with_clock, with_latest};
 use clock::time::{Step, Synchronized, SynchronizedRemoteClock};
 use head::state::Head;
 
-#[derive(Drop)]
+#[derive(Clone, Copy)]
 pub enum ClockAnswer {
     Nothing,
     Adjusted { mean: i32, deviation: u32 },

@@ -11,7 +11,7 @@ use clock::time::SynchronizedRemoteClock;
 use intervals::rates::{Arrivals, Links};
 use window::Window;
 
-#[derive(Drop)]
+#[derive(Clone, Copy)]
 pub struct Head {
     pub latest: i64,
     pub window: Window,

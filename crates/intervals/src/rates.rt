@@ -6,7 +6,7 @@ ghost use Rattle.intervals.specs.Inner.{first_under};
 use numbers::instant::{Moment, since};
 
 // Intervals between arrivals, with the sizes of what came; `at` is the next place to be written, `last` the last arrival.
-#[derive(Drop)]
+#[derive(Clone, Copy)]
 pub struct Arrivals {
     pub gaps: [u32; 16],
     pub sizes: [u32; 16],
@@ -16,7 +16,7 @@ pub struct Arrivals {
 }
 
 // Intervals between the packets of a pair.
-#[derive(Drop)]
+#[derive(Clone, Copy)]
 pub struct Links {
     pub gaps: [u32; 16],
     pub at: usize,
@@ -33,7 +33,7 @@ struct Kept {
 }
 
 // A rate, which may be unknown.
-#[derive(Drop)]
+#[derive(Clone, Copy)]
 pub enum Rate {
     Unknown,
     PerSecond(u32),

@@ -4,7 +4,7 @@ ghost use Rattle.std.specs.Int.Signed.{mag};
 ghost use Rattle.numbers.specs.Instants.{clamp, interval_of, is_reading, since_time};
 
 // A time that may be unset.
-#[derive(Drop)]
+#[derive(Clone, Copy)]
 pub enum Moment {
     Unset,
     At(i64),

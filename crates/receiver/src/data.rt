@@ -8,7 +8,7 @@ use head::state::Head;
 use window::Window;
 use window::push::{Packet, PushAnswer, Pushed};
 
-#[derive(Drop)]
+#[derive(Clone, Copy)]
 pub enum DataAnswer {
     Got { lrsn: u32, recovered: bool },
     Light { lrsn: u32, recovered: bool },

@@ -8,7 +8,7 @@ use head::state::Head;
 use window::Window;
 use window_pop::pop::PopAnswer;
 
-#[derive(Drop)]
+#[derive(Clone, Copy)]
 pub enum MessageAnswer {
     Nothing,
     Message {

@@ -36,7 +36,7 @@ fn loss_words() -> [u32; 64]
 }
 
 // What is to be done next.
-#[derive(Drop)]
+#[derive(Clone, Copy)]
 enum Want {
     // The header, or a turn of the trace.
     Header,
@@ -57,7 +57,7 @@ enum Want {
 
 // Between two turns: the bytes at hand are those from `at` to `end` of the buffer, and `used` bytes of lines are still to be written out. `last`
 // says that the file has no more.
-#[derive(Drop)]
+#[derive(Clone, Copy)]
 struct State {
     trace: Trace,
     at: usize,
@@ -107,7 +107,7 @@ fn wanting(s: State, want: Want) -> State
 }
 
 // What a read gave: the bytes at hand end here, and its answer.
-#[derive(Drop)]
+#[derive(Clone, Copy)]
 struct Got {
     end: usize,
     answer: isize,
@@ -546,7 +546,7 @@ fn argument(i: usize) -> Word {
 }
 
 // What the words ask for: the file's place among them (0: standard input), how many name one, the counters, and whether all are understood.
-#[derive(Drop)]
+#[derive(Clone, Copy)]
 struct Asked {
     file: usize,
     named: usize,

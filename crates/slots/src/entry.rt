@@ -3,7 +3,7 @@ ghost use Rattle.std.specs.Prelude.{◌≡◌, ◌+◌, ◌*◌, ◌<◌, ◌≤
 ghost use Rattle.slots.specs.Words.{is_lost, is_received, entry_of, entry_at, write_at, write_report, words_of, length_read, length_in, stamp_in, message_in, is_first, is_last, in_message};
 ghost use Rattle.slots.specs.Ready.{Fit};
 
-#[derive(Drop)]
+#[derive(Clone, Copy)]
 pub enum Entry {
     Lost {
         k: u32,

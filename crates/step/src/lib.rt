@@ -46,7 +46,7 @@ pub enum Call {
 }
 
 // What it answered, one case a call.
-#[derive(Drop)]
+#[derive(Clone, Copy)]
 pub enum Answer {
     Data(DataAnswer),
     Pop(MessageAnswer),

@@ -8,7 +8,7 @@ use counts::after::{after_ack2, after_clock, after_data, after_drop};
 use step::Answer;
 
 // The counters, and whether they are asked for: if not, nothing is counted and no line written.
-#[derive(Drop)]
+#[derive(Clone, Copy)]
 pub struct Tally {
     pub asked: bool,
     pub counters: Counters,

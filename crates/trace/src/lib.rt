@@ -18,7 +18,7 @@ use step::{Answer, Call};
 use tally::Tally;
 
 // A replay between two records: the receiver's head, the counters, how many records were read, and where the next begins in the file.
-#[derive(Drop)]
+#[derive(Clone, Copy)]
 pub struct Trace {
     pub head: Head,
     pub tally: Tally,

@@ -4,25 +4,25 @@ ghost use Rattle.upkeep.specs.Request.{drop_ended, drop_call_of, cleared_of, cle
 
 use head::state::Head;
 
-#[derive(Drop)]
+#[derive(Clone, Copy)]
 pub enum DropAnswer {
     Gone(usize),
     Refused(u32),
 }
 
-#[derive(Drop)]
+#[derive(Clone, Copy)]
 pub enum ClearAnswer {
     Cleared,
     Refused(u32),
 }
 
-#[derive(Drop)]
+#[derive(Clone, Copy)]
 pub struct Cleared {
     pub head: Head,
     pub answer: ClearAnswer,
 }
 
-#[derive(Drop)]
+#[derive(Clone, Copy)]
 pub enum RoomAnswer {
     Room(usize),
     Refused(u32),

@@ -7,7 +7,7 @@ use head::state::Head;
 use window::show::Part;
 
 // Why a part is empty, or that it is a received entry's.
-#[derive(Drop)]
+#[derive(Clone, Copy)]
 pub enum ShowAnswer {
     Received,
     Other,

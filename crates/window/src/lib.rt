@@ -7,7 +7,7 @@ ghost use Rattle.window.specs.Window.{number_in, first_gap, lrsn_from, cut, room
 ghost use Rattle.window.specs.Ready.{Ring, Good};
 
 // Entry i, under held, has the number seqno0 + i and lies in slot (start + i) mod capacity.
-#[derive(Drop)]
+#[derive(Clone, Copy)]
 pub struct Window {
     pub capacity: usize,
     pub start: usize,

@@ -12,7 +12,7 @@ use crate::Window;
 use numbers::seq::Order;
 use slots::entry::Entry;
 
-#[derive(Drop)]
+#[derive(Clone, Copy)]
 pub struct Packet {
     pub number: u32,
     pub message: u32,

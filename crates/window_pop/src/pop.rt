@@ -13,7 +13,7 @@ use slots::entry::Entry;
 use window::Window;
 
 // A message in front; 0 packets where there is no whole one.
-#[derive(Drop)]
+#[derive(Clone, Copy)]
 pub struct Message {
     pub packets: usize,
     pub bytes: usize,

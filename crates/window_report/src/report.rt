@@ -8,7 +8,7 @@ ghost use Rattle.window_report.specs.Inner.{Within, reporting, report_one, repor
 use slots::entry::Entry;
 
 // Words so far, and whether a run of reported entries is going on, with its first entry.
-#[derive(Drop)]
+#[derive(Clone, Copy)]
 pub struct Runs {
     pub words: usize,
     pub going: bool,
