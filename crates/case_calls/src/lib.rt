@@ -1,4 +1,5 @@
 // One call of the receiver each, with a line: the call's name, then its answer in the words of 01's trace lines ("Trace, mark DLT"). For the case programs.
+#![tactic(auto)]
 use case_print::{
     put, put_bytes, put_count, put_early, put_end, put_first, put_flag, put_number, put_refused,
     put_small, put_word, put_words,

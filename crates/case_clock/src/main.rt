@@ -1,4 +1,5 @@
 // Runs the clock call over made-up stamps and writes each answer but none, in the words of 01's trace lines.
+#![tactic(auto)]
 ghost use Rattle.std.specs.Prelude.{◌≤◌};
 
 use clock::time::{Step, Synchronized, SynchronizedRemoteClock};

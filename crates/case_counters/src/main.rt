@@ -1,4 +1,5 @@
 // Runs the calls of the counter layer and writes a line for each: its name, then the ten counters in 003's order. Carries 01, "Counters follow 003" and "7 to 10 still count in the counters", by example.
+#![tactic(auto)]
 use case_print::{put, put_count};
 use clock::base::TimeBase;
 use counts::Counters;

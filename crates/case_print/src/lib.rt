@@ -1,4 +1,5 @@
 // What the case programs write: values after a blank, as in 01's trace lines ("Trace, mark DLT").
+#![tactic(auto)]
 use libc::STDOUT_FILENO;
 
 pub fn put(text: &[u8]) {

@@ -1,4 +1,5 @@
 // Runs every public call of the receiver and writes a line for each: its name, then its answer in the words of 01's trace lines. Carries 01, "Window", "ACKs, RTT, rates" and "Clock", by example.
+#![tactic(auto)]
 use case_calls::{
     ack2, clear, clock, data, drop_request, end, full, history_area, nak, new, payload_area, pop,
     room, show, slot_area,

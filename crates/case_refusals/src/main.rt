@@ -1,4 +1,5 @@
 // Runs refusals 1 to 15 and writes a line for each call: its name, then its answer in the words of 01's trace lines. Carries 01, "Refused, in order of test", by example.
+#![tactic(auto)]
 use case_calls::{
     ack2, ack2_short, clear, clock, data, data_long, data_part, drop_request, end, full,
     full_short, history_area, nak, nak_short, new, payload_area, pop, pop_short, room, show,

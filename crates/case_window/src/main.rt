@@ -1,4 +1,5 @@
 // Scenarios of the window in capacity 4, call by call, worked out by hand: 01, "Window".
+#![tactic(auto)]
 use case_print::put;
 use case_window_calls::{
     drop_request, end, fresh, longest, part, payload_area, pop, pop_short, push, report,

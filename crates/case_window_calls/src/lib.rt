@@ -1,4 +1,5 @@
 // One call of the window each, behind range tests of its own, with its answer in the words of 01's trace lines, without their numbers. For case_window.
+#![tactic(auto)]
 ghost use Rattle.std.specs.Prelude.{◌≡◌};
 ghost use Rattle.window.specs.Window.{window_ok};
 ghost use Rattle.case_window_calls.specs.Tests.{words_ok, areas_ok, packet_ok};

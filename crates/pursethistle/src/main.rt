@@ -1,4 +1,5 @@
 // The operator's program: a subcommand and its words. 01, "Trace, mark DLT", for replay.
+#![tactic(auto)]
 use libc::{STDERR_FILENO, STDOUT_FILENO};
 use replaying::same;
 

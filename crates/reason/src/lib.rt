@@ -1,5 +1,6 @@
 // Why a file is bad: what replay says on standard error beside the line `bad`. 01, "Trace, mark DLT". Each function asks again what the trace read, so that
 // the reason and the line cannot disagree.
+#![tactic(auto)]
 ghost use Rattle.std.specs.Prelude.{◌≡◌, ◌≤◌, length};
 ghost use Rattle.head.specs.Head.{made_of};
 ghost use Rattle.dlt.specs.Bytes.{byte_at};

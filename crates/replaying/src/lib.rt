@@ -1,6 +1,7 @@
 // Replaying a file: 01, "Trace, mark DLT". A file of any length is read in pieces into a fixed buffer, and each turn of the trace writes its line
 // behind the lines that are still to be written out. That the turns give together what the whole file gives is the trace's law `loop-whole`; no contract
 // can speak of what is read or written, so here the code only follows that loop.
+#![tactic(auto)]
 ghost use Rattle.std.specs.Prelude.{◌≡◌, ◌-◌, ◌≤◌, length};
 ghost use Rattle.io.specs.Counts.{IsPrefixLen};
 ghost use Rattle.trace.specs.Lends.{slots_lent, payloads_lent, history_lent, list_lent};

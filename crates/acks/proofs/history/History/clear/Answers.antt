@@ -1,0 +1,5 @@
+use Rattle.acks.proofs.HistorySteps.{histories}
+use Rattle.acks.proofs.history.History.clear.Goals as goal
+
+pub returns : goal.returns
+returns c = search histories

@@ -1,0 +1,5 @@
+use Rattle.acks.proofs.RttSteps.{rttSteps}
+use Rattle.acks.proofs.rtt.Rtt.new.Goals as goal
+
+pub returns : goal.returns
+returns c = search rttSteps

@@ -1,9 +1,0 @@
-use mir.Facts.{to_z-of_z}
-use Rattle.cells.proofs.eight.Statement.{statement}
-use Rattle.cells.proofs.eight.Tie as tie
-
-returns : tie.Need-returns
-returns c = rw (to_z-of_z c.ranges.code, to_z-of_z c.ranges.a, to_z-of_z c.ranges.b, to_z-of_z c.ranges.c, to_z-of_z c.ranges.d, to_z-of_z c.ranges.e, to_z-of_z c.ranges.f, to_z-of_z c.ranges.g, to_z-of_z c.ranges.h)
-
-pub eight-spec : {M : Type 1} → statement M
-eight-spec = tie.close (tie.spec returns)

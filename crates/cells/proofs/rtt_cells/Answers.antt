@@ -1,0 +1,35 @@
+use Rattle.cells.proofs.Answers.{answers}
+use Rattle.cells.proofs.rtt_cells.Goals as goal
+
+pub enum_told-1 : goal.enum_told-1
+enum_told-1 c = search answers
+
+pub none-requires : goal.none-requires
+none-requires c = search answers
+
+pub enum_known-a : goal.enum_known-a
+enum_known-a c = search answers
+
+pub small-requires : goal.small-requires
+small-requires c = search answers
+
+pub small-requires-in-Rtt : goal.small-requires-in-Rtt
+small-requires-in-Rtt c = search answers
+
+pub two-requires : goal.two-requires
+two-requires c = search answers
+
+pub enum_told-in-Refused : goal.enum_told-in-Refused
+enum_told-in-Refused c = search answers
+
+pub none-requires-in-Refused : goal.none-requires-in-Refused
+none-requires-in-Refused c = search answers
+
+pub returns-in-Nothing : goal.returns-in-Nothing
+returns-in-Nothing c = search answers
+
+pub returns-in-Rtt : goal.returns-in-Rtt
+returns-in-Rtt c = search answers
+
+pub returns-in-Refused : goal.returns-in-Refused
+returns-in-Refused c = search answers

@@ -1,0 +1,5 @@
+use Rattle.intervals.proofs.RateSteps.{rateSteps}
+use Rattle.intervals.proofs.rates.Links.new.Goals as goal
+
+pub returns : goal.returns
+returns c = search rateSteps

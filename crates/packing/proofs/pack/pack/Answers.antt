@@ -1,0 +1,71 @@
+-- `pack::pack` meets its contract. Its end has more behind it than `search` enters, so it goes by its paths. Assumes nothing.
+use mathlib.Core.Path.{◌≡◌, ◌∙◌, ap}
+use mir.Facts.{to_z-of_z}
+use Rattle.head.specs.declared.state.Head.{Head}
+use Rattle.packing.specs.Packed.{pack_of, unpack_of}
+use Rattle.packing.specs.Holds.{Holds}
+use Rattle.packing.proofs.Undo.{unpack-pack}
+use Rattle.packing.proofs.Puts.{puts, puts-all}
+use Rattle.packing.proofs.pack.pack.Goals as goal
+
+module _ (c : goal.After-put-history) where
+  abbrev first : goal.After-put-settings
+  first = c.before.before.before.before.before.before.before.before.before.before.before.before.before.before
+
+  abbrev h : Head
+  h = first.before.before.before.args.h
+
+  all : c.put_history.new.0 ≡ pack_of h
+  all =
+      puts-all
+      h
+      first.put_settings.ensures.0
+      (to_z-of_z (record { sfits = first.before.struct_told-1.given.0.1 }))
+      c.before.before.before.before.before.before.before.before.before.before.before.before.put_window.ensures.0
+      c.before.before.before.before.before.before.before.before.before.before.put_base.ensures.0
+      c.before.before.before.before.before.before.before.before.put_stats.ensures.0
+      c.before.before.before.before.before.before.put_rtt.ensures.0
+      c.before.before.before.before.put_arrivals.ensures.0
+      c.before.before.put_links.ensures.0
+      c.put_history.ensures.0
+
+  holds : Holds h
+  holds =
+      record {
+        latest = first.before.struct_told-1.given.0.1;
+        latency = first.put_settings.ensures.1.1;
+        window = c.before.before.before.before.before.before.before.before.before.before.before.before.put_window.ensures.1;
+        base = c.before.before.before.before.before.before.before.before.before.before.put_base.ensures.1;
+        stats = c.before.before.before.before.before.before.before.before.put_stats.ensures.1;
+        rtt = c.before.before.before.before.before.before.put_rtt.ensures.1;
+        arrivals = c.before.before.before.before.put_arrivals.ensures.1;
+        links = c.before.before.put_links.ensures.1;
+        history = c.put_history.ensures.1;
+      }
+
+pub returns : goal.returns
+returns c = (all c, ap unpack_of (all c) ∙ unpack-pack (h c) (holds c))
+
+pub put_settings-requires : goal.put_settings-requires
+put_settings-requires c = search puts
+
+pub put_window-requires : goal.put_window-requires
+put_window-requires c = search puts
+
+pub put_base-requires : goal.put_base-requires
+put_base-requires c = search puts
+
+pub put_stats-requires : goal.put_stats-requires
+put_stats-requires c = search puts
+
+pub put_rtt-requires : goal.put_rtt-requires
+put_rtt-requires c = search puts
+
+pub put_arrivals-requires : goal.put_arrivals-requires
+put_arrivals-requires c = search puts
+
+pub put_links-requires : goal.put_links-requires
+put_links-requires c = search puts
+
+pub put_history-requires : goal.put_history-requires
+put_history-requires c = search puts

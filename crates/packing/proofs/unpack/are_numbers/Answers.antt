@@ -1,0 +1,26 @@
+use Rattle.packing.proofs.Says.{Says-All}
+use Rattle.packing.proofs.unpack.are_numbers.Goals as goal
+
+pub loop-i-init : goal.loop-i-init
+loop-i-init c = search Says-All
+
+pub overflow_add-ok : goal.overflow_add-ok
+overflow_add-ok c = search Says-All
+
+pub offset_bounds-ws-at : goal.offset_bounds-ws-at
+offset_bounds-ws-at c = search Says-All
+
+pub bounds-ws-at : goal.bounds-ws-at
+bounds-ws-at c = search Says-All
+
+pub overflow_add-i : goal.overflow_add-i
+overflow_add-i c = search Says-All
+
+pub loop-i-smaller : goal.loop-i-smaller
+loop-i-smaller c = search Says-All
+
+pub loop-i-preserved : goal.loop-i-preserved
+loop-i-preserved c = search Says-All
+
+pub returns : goal.returns
+returns c = search Says-All

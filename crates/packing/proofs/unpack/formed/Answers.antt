@@ -1,0 +1,17 @@
+use Rattle.packing.proofs.Says.{Says-All}
+use Rattle.packing.proofs.unpack.formed.Goals as goal
+
+pub first_formed-requires : goal.first_formed-requires
+first_formed-requires c = search Says-All
+
+pub last_formed-requires : goal.last_formed-requires
+last_formed-requires c = search Says-All
+
+pub rates_formed-requires : goal.rates_formed-requires
+rates_formed-requires c = search Says-All
+
+pub returns-then-first_formed-last_formed : goal.returns-then-first_formed-last_formed
+returns-then-first_formed-last_formed c = search Says-All
+
+pub returns : goal.returns
+returns c = search Says-All

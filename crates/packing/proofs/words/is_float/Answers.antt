@@ -1,0 +1,5 @@
+use Rattle.packing.proofs.Steps.{steps}
+use Rattle.packing.proofs.words.is_float.Goals as goal
+
+pub returns : goal.returns
+returns c = search steps

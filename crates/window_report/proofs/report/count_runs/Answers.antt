@@ -1,0 +1,35 @@
+use mathlib.Core.Path.{◌≡◌}
+use Prim.Native.Nat.{◌-◌, ◌≤◌}
+use mir.Syntax.{w64}
+use mir.Val.{to_z}
+use Rattle.slots.specs.Ring.{slot_of}
+use Rattle.window_report.specs.Report.{runs_to}
+use Rattle.window_report.proofs.Reports.{reports}
+use Rattle.window_report.proofs.report.count_runs.Goals as goal
+
+pub loop-i-init : goal.loop-i-init
+loop-i-init c = search reports
+
+pub read_at-requires : goal.read_at-requires
+read_at-requires c = search reports
+
+pub is_due-due-requires : goal.is_due-due-requires
+is_due-due-requires c = search reports
+
+pub runs_after-r-requires : goal.runs_after-r-requires
+runs_after-r-requires c = search reports
+
+pub next_slot-s-requires : goal.next_slot-s-requires
+next_slot-s-requires c = search reports
+
+pub overflow_add-i : goal.overflow_add-i
+overflow_add-i c = search reports
+
+pub loop-i-smaller : goal.loop-i-smaller
+loop-i-smaller c = search reports
+
+pub loop-i-preserved : goal.loop-i-preserved
+loop-i-preserved c = (search reports, search reports, search reports)
+
+pub returns : goal.returns
+returns c = search reports
