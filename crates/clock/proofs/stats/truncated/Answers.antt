@@ -16,8 +16,8 @@ clamp-requires c = search rules
 pub returns-then-m-2 : goal.returns-then-m-2
 unfolding truncated_of
 returns-then-m-2 c =
-    let f : SFits w32 c.clamp.result = record { sfits = c.clamp.type-inv } in
-    let g : SFits w64 c.before.truncating_f64_to_i64.result = record { sfits = c.before.truncating_f64_to_i64.type-inv } in
+    let f : SFits w32 c.clamp.result = record { sfits = c.clamp.type_inv } in
+    let g : SFits w64 c.before.truncating_f64_to_i64.result = record { sfits = c.before.truncating_f64_to_i64.type_inv } in
     let e = rw (to_z-of_z g) at c.clamp.ensures in
     rw (to_z-of_z f) (e ∙ ap clamp c.before.truncating_f64_to_i64.ensures ∙ signed-clamped c.before.before.before.before.args.m)
 

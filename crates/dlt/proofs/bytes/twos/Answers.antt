@@ -10,6 +10,7 @@ use mir.Facts.{to_z-of_z, to_z_pos}
 use Rattle.numbers.specs.Circular.{signed}
 use Rattle.numbers.proofs.Halves.{same, in-range, above--, below--}
 use Rattle.numbers.proofs.Signs.{signed_low, signed_high}
+use Rattle.dlt.proofs.bytes.twos.Goals.{Else-n-lt9223372036854775808}
 use Rattle.dlt.proofs.bytes.twos.Goals as goal
 
 module _ (m : ℕ) (h : m < 2 ^ 63) where
@@ -28,7 +29,7 @@ returns-then-n-lt9223372036854775808 c =
     let h : n < 2 ^ 63 = omega arith in
     to_z_pos w64 h ∙ sym (signed_low 64 n h)
 
-module _ (c : goal.Else-n-lt9223372036854775808) where
+module _ (c : Else-n-lt9223372036854775808) where
   abbrev n : ℕ
   n = c.before.args.n
 

@@ -5,6 +5,7 @@ use lib.Signed.{lt_z, le_z}
 use Rattle.numbers.specs.Instants.{clamp, interval_of}
 use Rattle.numbers.proofs.Halves.{apart, range, in-range, above-+, below-+, above--, below--, lt-true, lt-false, le-true, le-false}
 use Rattle.numbers.proofs.Signs.{clamp-low, clamp-high}
+use Rattle.numbers.proofs.instant.interval.Goals.{Else-begin-end, Else-begin-le0, Else-end-begin, Start, Then-begin-le0}
 use Rattle.numbers.proofs.instant.interval.Goals as goal
 
 module _ (b e : ℤ) (fb : SFits w64 b) (fe : SFits w64 e) where
@@ -49,31 +50,31 @@ module _ (b e : ℤ) (fb : SFits w64 b) (fe : SFits w64 e) where
         record { sfits = in-range (2 ^ 63) (e -ℤ b) (rw above-- (omega (arith, apart b, apart e))) (rw below-- (omega (arith, above-- b (pos 2147483648), below-- b (pos 2147483648), apart b, apart e))) }
 
 -- each branch, over the numbers
-abbrev b : goal.Start → ℤ
+abbrev b : Start → ℤ
 b s = s.args.begin
 
-abbrev e : goal.Start → ℤ
+abbrev e : Start → ℤ
 e s = s.args.end
 
-not-above : (c : goal.Then-begin-le0) → le_z (b c.before) (pos 0) ≡ true
+not-above : (c : Then-begin-le0) → le_z (b c.before) (pos 0) ≡ true
 not-above c = rw (to_z-of_z c.before.ranges.begin) at c.if-begin-le0.true
 
-is-above : (c : goal.Else-begin-le0) → le_z (b c.before) (pos 0) ≡ false
+is-above : (c : Else-begin-le0) → le_z (b c.before) (pos 0) ≡ false
 is-above c = rw (to_z-of_z c.before.ranges.begin) at c.if-begin-le0.false
 
-high : (c : goal.Then-begin-le0) → SFits w64 (b c.before +ℤ pos 2147483647)
+high : (c : Then-begin-le0) → SFits w64 (b c.before +ℤ pos 2147483647)
 high c = high_fits (b c.before) (e c.before) c.before.ranges.begin c.before.ranges.end (not-above c)
 
-low : (c : goal.Else-begin-le0) → SFits w64 (b c.before -ℤ pos 2147483648)
+low : (c : Else-begin-le0) → SFits w64 (b c.before -ℤ pos 2147483648)
 low c = low_fits (b c.before) (e c.before) c.before.ranges.begin c.before.ranges.end (is-above c)
 
-near : (c : goal.Else-begin-end) → SFits w64 (e c.before.before -ℤ b c.before.before)
+near : (c : Else-begin-end) → SFits w64 (e c.before.before -ℤ b c.before.before)
 near c =
     let s = c.before.before in
     near_fits (b s) (e s) s.ranges.begin s.ranges.end (not-above c.before)
     (rw (to_z-of_z s.ranges.begin, to_z-of_z (high c.before), to_z-of_z s.ranges.end) at c.if-begin-end.false)
 
-close : (c : goal.Else-end-begin) → SFits w64 (e c.before.before -ℤ b c.before.before)
+close : (c : Else-end-begin) → SFits w64 (e c.before.before -ℤ b c.before.before)
 close c =
     let s = c.before.before in
     close-fits (b s) (e s) s.ranges.begin s.ranges.end (is-above c.before)
@@ -98,7 +99,7 @@ pub returns-then-begin-le0 : goal.returns-then-begin-le0
 unfolding interval_of
 returns-then-begin-le0 c =
     let s = c.before.before.before in
-    let g : SFits w32 c.clamp.result = record { sfits = c.clamp.type-inv } in
+    let g : SFits w32 c.clamp.result = record { sfits = c.clamp.type_inv } in
     rw (to_z-of_z g) (rw (to_z-of_z s.ranges.end, to_z-of_z s.ranges.begin, to_z-of_z (near c.before)) at c.clamp.ensures)
 
 pub overflow_sub-begin : goal.overflow_sub-begin
@@ -120,6 +121,6 @@ pub returns : goal.returns
 unfolding interval_of
 returns c =
     let s = c.before.before.before in
-    let g : SFits w32 c.clamp-2.result = record { sfits = c.clamp-2.type-inv } in
+    let g : SFits w32 c.clamp-2.result = record { sfits = c.clamp-2.type_inv } in
     rw (to_z-of_z g) (rw (to_z-of_z s.ranges.end, to_z-of_z s.ranges.begin, to_z-of_z (close c.before)) at c.clamp-2.ensures)
 

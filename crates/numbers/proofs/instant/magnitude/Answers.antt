@@ -4,6 +4,7 @@ use lib.Signed.{mag, le_z, non_neg}
 use mir.Facts.{Fits-nat_abs}
 use Rattle.numbers.proofs.Halves.{apart, same, range, in-range, not_negative, above-+, below-+, above--, below--, le-true, le-false, size}
 use Rattle.numbers.proofs.Steps.{mag-above, mag-below}
+use Rattle.numbers.proofs.instant.magnitude.Goals.{Else-z-ge0, Then-z-ge0}
 use Rattle.numbers.proofs.instant.magnitude.Goals as goal
 
 whole : (z : ℤ) → le_z (pos 0) z ≡ true → T (non_neg z)
@@ -28,10 +29,10 @@ module _ (z : ℤ) (f : SFits w64 z) (h : le_z (pos 0) z ≡ false) where
   past_fits : SFits w64 (pos 0 -ℤ (z +ℤ pos 1))
   past_fits = rw past (record { sfits = f.sfits })
 
-is_whole : (c : goal.Then-z-ge0) → le_z (pos 0) c.before.args.z ≡ true
+is_whole : (c : Then-z-ge0) → le_z (pos 0) c.before.args.z ≡ true
 is_whole c = rw (to_z-of_z c.before.ranges.z) at c.if-z-ge0.true
 
-is_below : (c : goal.Else-z-ge0) → le_z (pos 0) c.before.args.z ≡ false
+is_below : (c : Else-z-ge0) → le_z (pos 0) c.before.args.z ≡ false
 is_below c = rw (to_z-of_z c.before.ranges.z) at c.if-z-ge0.false
 
 pub overflow_cast-result : goal.overflow_cast-result

@@ -4,6 +4,7 @@ use mir.Facts.{to_z_pos, sfits_widen}
 use Rattle.numbers.specs.Circular.{distance, difference, signed}
 use Rattle.numbers.proofs.Halves.{in-range, above--, below--}
 use Rattle.numbers.proofs.Signs.{signed_low, signed_high}
+use Rattle.numbers.proofs.stamp.difference.Goals.{Else-d-lt2147483648}
 use Rattle.numbers.proofs.stamp.difference.Goals as goal
 
 turn-less-fits : (d : ℕ) → 2 ^ 31 ≤ d → d < 2 ^ 32 → SFits w32 (pos d -ℤ pos 4294967296)
@@ -20,7 +21,7 @@ returns-then-d-lt2147483648 c =
     to_z_pos w32 h ∙ sym (signed_low 32 d h) ∙ ap (signed 32) c.before.distance-d.ensures
 
 -- the distance with a turn taken off, at both widths
-module _ (c : goal.Else-d-lt2147483648) where
+module _ (c : Else-d-lt2147483648) where
   abbrev d : ℕ
   d = c.before.distance-d.result
 

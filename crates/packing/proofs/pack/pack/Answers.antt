@@ -6,10 +6,11 @@ use Rattle.packing.specs.Packed.{pack_of, unpack_of}
 use Rattle.packing.specs.Holds.{Holds}
 use Rattle.packing.proofs.Undo.{unpack-pack}
 use Rattle.packing.proofs.Puts.{puts, puts-all}
+use Rattle.packing.proofs.pack.pack.Goals.{After-put-history, After-put-settings}
 use Rattle.packing.proofs.pack.pack.Goals as goal
 
-module _ (c : goal.After-put-history) where
-  abbrev first : goal.After-put-settings
+module _ (c : After-put-history) where
+  abbrev first : After-put-settings
   first = c.before.before.before.before.before.before.before.before.before.before.before.before.before.before
 
   abbrev h : Head

@@ -9,7 +9,7 @@ pub returns : goal.returns
 returns c =
     let d = c.before.before.before.before in
     let w = d.before.before.before.before.before in
-    let f : SFits w64 w.before.whole.result = record { sfits = w.before.whole.type-inv } in
+    let f : SFits w64 w.before.whole.result = record { sfits = w.before.whole.type_inv } in
     says-head
     w.before.before.before.args.ws.now
     w.before.whole.ensures

@@ -3,15 +3,16 @@ use Rattle.std.proofs.Common.{ℤ, ◌+ℤ◌, ap, arith, to_z-of_z, w32, w64, S
 use mir.Facts.{sfits_widen}
 use Rattle.numbers.proofs.Halves.{size-+, fits-size, size_fits}
 use Rattle.clock.specs.Base.{instant_of}
+use Rattle.clock.proofs.base.TimeBase.instant_from.Goals.{After-difference}
 use Rattle.clock.proofs.base.TimeBase.instant_from.Goals as goal
 
 -- the difference and the sum fit
-module _ (c : goal.After-difference) where
+module _ (c : After-difference) where
   abbrev t : ℤ
   t = c.before.args.self.time
 
   narrow : SFits w32 c.difference.result
-  narrow = record { sfits = c.difference.type-inv }
+  narrow = record { sfits = c.difference.type_inv }
 
   wide : SFits w64 c.difference.result
   wide = sfits_widen tt narrow

@@ -3,9 +3,10 @@ use Rattle.std.proofs.Common.{ℤ, ◌-ℤ◌, arith, to_z-of_z, w64, SFits}
 use mir.Facts.{sfits_widen}
 use Rattle.numbers.proofs.Halves.{size--, fits-size, size_fits}
 use Rattle.clock.specs.Base.{shifted}
+use Rattle.clock.proofs.base.TimeBase.shift.Goals.{Start}
 use Rattle.clock.proofs.base.TimeBase.shift.Goals as goal
 
-module _ (s : goal.Start) where
+module _ (s : Start) where
   abbrev t : ℤ
   t = s.args.self.time
 
