@@ -87,11 +87,11 @@ module _ (a : List ℕ) (start count : ℕ) (m : ℤ) (wait i : ℕ) {r : ℕ} (
 
     pub kept_again : b ≡ true → r ≡ first_kept a start m wait (i + 1) (count - 1 - (i + 1))
     unfolding first_kept
-    kept_again g = e ∙ rw left (rw (← y, ← f, g))
+    kept_again g = let at_m = rw y at f in e ∙ rw left (rw (← at_m, g))
 
     found : b ≡ false → i ≡ r
     unfolding first_kept
-    found g = sym (e ∙ rw left (rw (← y, ← f, g)))
+    found g = let at_m = rw y at f in sym (e ∙ rw left (rw (← at_m, g)))
 
   ended : count ≤ i + 1 → i ≡ r
   unfolding first_kept

@@ -9,7 +9,7 @@ use Rattle.clock.proofs.stats.deviation.Goals as goal
 
 pub truncating_f64_to_u64-requires : goal.truncating_f64_to_u64-requires
 unfolding of_bits neg
-truncating_f64_to_u64-requires c = (subst T (sym c.before.if-v.true) tt, subst T (sym c.if-v-2.true) tt)
+truncating_f64_to_u64-requires c = record { lower_bound = subst T (sym c.before.if-v.true) tt; upper_bound = subst T (sym c.if-v-2.true) tt }
 
 pub root31-requires : goal.root31-requires
 root31-requires c = search rules

@@ -8,7 +8,7 @@ use Rattle.clock.proofs.stats.truncated.Goals as goal
 
 pub truncating_f64_to_i64-requires : goal.truncating_f64_to_i64-requires
 unfolding of_bits neg
-truncating_f64_to_i64-requires c = (subst T (sym c.before.if-m.true) tt, subst T (sym c.if-m-2.true) tt)
+truncating_f64_to_i64-requires c = record { lower_bound = subst T (sym c.before.if-m.true) tt; upper_bound = subst T (sym c.if-m-2.true) tt }
 
 pub clamp-requires : goal.clamp-requires
 clamp-requires c = search rules

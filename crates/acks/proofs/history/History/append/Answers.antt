@@ -31,9 +31,9 @@ pub shape_of-area : goal.shape_of-area
 shape_of-area c = search histories
 
 pub returns : goal.returns
-returns = (λ c.
+returns c =
     let w = c.before.before in
     let f = w.before.before.before.before in
     let n = f.before.before.before in
     let back = to_z-of_z n.before.before.ranges.time in
-    appended _ _ _ _ _ n.next_number-number.ensures f.before.leaving-n.ensures back f.first_after-first.ensures w.write_ack.ensures back)
+    appended _ _ _ _ _ n.next_number-number.ensures f.before.leaving-n.ensures back f.first_after-first.ensures w.write_ack.ensures back

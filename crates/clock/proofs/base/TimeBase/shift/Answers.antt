@@ -14,13 +14,13 @@ module _ (s : Start) where
   d = s.args.drift
 
   wide : SFits w64 d
-  wide = sfits_widen tt s.fits.drift
+  wide = sfits_widen tt s.ranges.drift
 
   time-fits : SFits w64 t
   time-fits = fits-size w64 t (omega arith)
 
   less-fits : SFits w64 (t -ℤ d)
-  less-fits = fits-size w64 (t -ℤ d) (omega (arith, size-- t d, size_fits s.fits.drift))
+  less-fits = fits-size w64 (t -ℤ d) (omega (arith, size-- t d, size_fits s.ranges.drift))
 
 pub overflow_cast-result : goal.overflow_cast-result
 overflow_cast-result c = rw (to_z-of_z c.ranges.drift) (wide c)

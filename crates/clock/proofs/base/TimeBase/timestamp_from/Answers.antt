@@ -3,11 +3,11 @@ use Rattle.std.proofs.Common.{◌≡◌, ℕ, ◌^◌, ◌<◌, ℤ, pos, ◌+�
 use mir.Facts.{to_z_pos}
 use Rattle.numbers.proofs.Halves.{size-+, size--, fits-size}
 use Rattle.clock.specs.Base.{stamp_of}
-use Rattle.clock.proofs.base.TimeBase.timestamp_from.Goals.{After-struct-known}
+use Rattle.clock.proofs.base.TimeBase.timestamp_from.Goals.{After-struct_known-1}
 use Rattle.clock.proofs.base.TimeBase.timestamp_from.Goals as goal
 
 -- the numbers on the way: each fits, and the machine reads it back
-module _ (c : After-struct-known) where
+module _ (c : After-struct_known-1) where
   abbrev p : ℕ
   p = c.before.args.self.stamp
 
