@@ -1,12 +1,10 @@
 use mathlib.Core.Path.{◌≡◌}
 use Prim.Native.Nat.{◌-◌}
-use mir.Syntax.{w64}
-use mir.Val.{to_z}
 use Rattle.window_report.specs.Inner.{due_from}
 use Rattle.window_report.proofs.report.due_between.Given as goal
 
 abbrev pub invariant-loop-s : goal.invariant-loop-s
-invariant-loop-s l = due_from l.words (to_z w64 l.time) l.mean l.from (l.to - l.from) ≡ due_from l.words (to_z w64 l.time) l.mean l.s (l.to - l.s)
+invariant-loop-s l = due_from l.words l.time l.mean l.from (l.to - l.from) ≡ due_from l.words l.time l.mean l.s (l.to - l.s)
 
 abbrev pub decreases-loop-s : goal.decreases-loop-s
 decreases-loop-s l = l.to - l.s
