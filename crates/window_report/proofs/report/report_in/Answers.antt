@@ -6,10 +6,10 @@ pub report_entries-r-requires : goal.report_entries-r-requires
 report_entries-r-requires c = search reports
 
 pub run_end-q-requires : goal.run_end-q-requires
-run_end-q-requires = (λ c κs.
+run_end-q-requires c =
     let e = c.before.before.before.before.before in
     let s = e.before.before.before.before.before in
-    (search reports, search reports, last-room _ _ _ _ _ e.report_entries-r.ensures (to_z-of_z s.ranges.time) s.requires.2))
+    (search reports, search reports, last-room _ _ _ _ _ e.report_entries-r.ensures (to_z-of_z s.ranges.time) s.requires.2)
 
 pub shape_of-words-then-q-eq0 : goal.shape_of-words-then-q-eq0
 shape_of-words-then-q-eq0 c = search reports
