@@ -6,41 +6,38 @@ use Rattle.packing.specs.Packed.{pack_of, unpack_of}
 use Rattle.packing.specs.Holds.{Holds}
 use Rattle.packing.proofs.Undo.{unpack-pack}
 use Rattle.packing.proofs.Puts.{puts, puts-all}
-use Rattle.packing.proofs.pack.pack.Goals.{After-put-history, After-put-settings}
+use Rattle.packing.proofs.pack.pack.Goals.{After-put_history}
 use Rattle.packing.proofs.pack.pack.Goals as goal
 
-module _ (c : After-put-history) where
-  abbrev first : After-put-settings
-  first = c.before.before.before.before.before.before.before.before.before.before.before.before.before.before
-
+module _ (c : After-put_history) where
   abbrev h : Head
-  h = first.before.before.before.args.h
+  h = c.args.h
 
-  all : c.put_history.new.0 ≡ pack_of h
+  all : c.put_history.new.ws ≡ pack_of h
   all =
       puts-all
       h
-      first.put_settings.ensures.0
-      (to_z-of_z (record { sfits = first.before.struct_told-1.given.0.1 }))
-      c.before.before.before.before.before.before.before.before.before.before.before.before.put_window.ensures.0
-      c.before.before.before.before.before.before.before.before.before.before.put_base.ensures.0
-      c.before.before.before.before.before.before.before.before.put_stats.ensures.0
-      c.before.before.before.before.before.before.put_rtt.ensures.0
-      c.before.before.before.before.put_arrivals.ensures.0
-      c.before.before.put_links.ensures.0
+      c.put_settings.ensures.0
+      (to_z-of_z (record { sfits = c.struct_told-1.given.0.1 }))
+      c.put_window.ensures.0
+      c.put_base.ensures.0
+      c.put_stats.ensures.0
+      c.put_rtt.ensures.0
+      c.put_arrivals.ensures.0
+      c.put_links.ensures.0
       c.put_history.ensures.0
 
   holds : Holds h
   holds =
       record {
-        latest = first.before.struct_told-1.given.0.1;
-        latency = first.put_settings.ensures.1.1;
-        window = c.before.before.before.before.before.before.before.before.before.before.before.before.put_window.ensures.1;
-        base = c.before.before.before.before.before.before.before.before.before.before.put_base.ensures.1;
-        stats = c.before.before.before.before.before.before.before.before.put_stats.ensures.1;
-        rtt = c.before.before.before.before.before.before.put_rtt.ensures.1;
-        arrivals = c.before.before.before.before.put_arrivals.ensures.1;
-        links = c.before.before.put_links.ensures.1;
+        latest = c.struct_told-1.given.0.1;
+        latency = c.put_settings.ensures.1.1;
+        window = c.put_window.ensures.1;
+        base = c.put_base.ensures.1;
+        stats = c.put_stats.ensures.1;
+        rtt = c.put_rtt.ensures.1;
+        arrivals = c.put_arrivals.ensures.1;
+        links = c.put_links.ensures.1;
         history = c.put_history.ensures.1;
       }
 
