@@ -1,5 +1,6 @@
 -- `pack::pack` meets its contract. Its end has more behind it than `search` enters, so it goes by its paths. Assumes nothing.
 use mathlib.Core.Path.{◌≡◌, ◌∙◌, ap}
+use mir.Syntax.{w64}
 use mir.Facts.{to_z-of_z}
 use Rattle.head.specs.declared.state.Head.{Head}
 use Rattle.packing.specs.Packed.{pack_of, unpack_of}
@@ -18,7 +19,7 @@ module _ (c : After-put_history) where
       puts-all
       h
       c.put_settings.ensures.0
-      (to_z-of_z (record { sfits = c.struct_told-1.given.0.1 }))
+      (to_z-of_z {w = w64} {z = h.latest} (record { sfits = c.struct_told-1.given.0.1 }))
       c.put_window.ensures.0
       c.put_base.ensures.0
       c.put_stats.ensures.0
