@@ -2,8 +2,7 @@
 ghost use Rattle.std.specs.Prelude.{◌≡◌, [], ◌∷◌};
 ghost use Rattle.exports.specs.Calls.{left, ack2_export_of, full_ack_export_of};
 
-#[unsafe(no_mangle)]
-pub extern "C" fn pt_on_full_ack_event(
+pub fn pt_on_full_ack_event(
     words: &mut [u64; 79],
     answer: &mut [i64; 10],
     history: &mut [u64],
@@ -21,8 +20,7 @@ pub extern "C" fn pt_on_full_ack_event(
     n
 }
 
-#[unsafe(no_mangle)]
-pub extern "C" fn pt_handle_ack2_packet(
+pub fn pt_handle_ack2_packet(
     words: &mut [u64; 79],
     answer: &mut [i64; 10],
     history: &[u64],

@@ -3,8 +3,7 @@ ghost use Rattle.std.specs.Prelude.{◌≡◌, [], ◌∷◌};
 ghost use Rattle.receiver.specs.Data.{packet};
 ghost use Rattle.exports.specs.Calls.{left, ack2_counted_of, clock_counted_of, data_counted_of, drop_counted_of};
 
-#[unsafe(no_mangle)]
-pub extern "C" fn pt_counted_handle_data_packet(
+pub fn pt_counted_handle_data_packet(
     words: &mut [u64; 79],
     counts: &mut [u64; 10],
     answer: &mut [i64; 10],
@@ -29,8 +28,7 @@ pub extern "C" fn pt_counted_handle_data_packet(
     cells::data_refusal(a)
 }
 
-#[unsafe(no_mangle)]
-pub extern "C" fn pt_counted_handle_ack2_packet(
+pub fn pt_counted_handle_ack2_packet(
     words: &mut [u64; 79],
     counts: &mut [u64; 10],
     answer: &mut [i64; 10],
@@ -54,8 +52,7 @@ pub extern "C" fn pt_counted_handle_ack2_packet(
     n
 }
 
-#[unsafe(no_mangle)]
-pub extern "C" fn pt_counted_handle_drop_request(
+pub fn pt_counted_handle_drop_request(
     words: &[u64; 79],
     counts: &mut [u64; 10],
     answer: &mut [i64; 10],
@@ -75,8 +72,7 @@ pub extern "C" fn pt_counted_handle_drop_request(
     cells::drop_refusal(a)
 }
 
-#[unsafe(no_mangle)]
-pub extern "C" fn pt_counted_synchronize_clock(
+pub fn pt_counted_synchronize_clock(
     words: &mut [u64; 79],
     counts: &mut [u64; 10],
     answer: &mut [i64; 10],

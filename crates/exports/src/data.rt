@@ -3,8 +3,7 @@ ghost use Rattle.std.specs.Prelude.{◌≡◌, [], ◌∷◌};
 ghost use Rattle.receiver.specs.Data.{packet};
 ghost use Rattle.exports.specs.Calls.{left, data_export_of};
 
-#[unsafe(no_mangle)]
-pub extern "C" fn pt_handle_data_packet(
+pub fn pt_handle_data_packet(
     words: &mut [u64; 79],
     answer: &mut [i64; 10],
     slots: &mut [u64],

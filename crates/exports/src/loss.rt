@@ -2,8 +2,7 @@
 ghost use Rattle.std.specs.Prelude.{◌≡◌, [], ◌∷◌};
 ghost use Rattle.exports.specs.Calls.{left, loss_export_of};
 
-#[unsafe(no_mangle)]
-pub extern "C" fn pt_on_nak_event(
+pub fn pt_on_nak_event(
     words: &mut [u64; 79],
     answer: &mut [i64; 10],
     slots: &mut [u64],

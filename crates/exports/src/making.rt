@@ -4,8 +4,7 @@ ghost use Rattle.exports.specs.Calls.{left, new_of};
 
 use head::state::Head;
 
-#[unsafe(no_mangle)]
-pub extern "C" fn pt_new(
+pub fn pt_new(
     words: &mut [u64; 79],
     answer: &mut [i64; 10],
     start: i64,

@@ -2,8 +2,7 @@
 ghost use Rattle.std.specs.Prelude.{◌≡◌, [], ◌∷◌};
 ghost use Rattle.exports.specs.Calls.{left, message_export_of};
 
-#[unsafe(no_mangle)]
-pub extern "C" fn pt_pop_next_message(
+pub fn pt_pop_next_message(
     words: &mut [u64; 79],
     answer: &mut [i64; 10],
     slots: &[u64],

@@ -2,8 +2,7 @@
 ghost use Rattle.std.specs.Prelude.{◌≡◌, [], ◌∷◌};
 ghost use Rattle.exports.specs.Calls.{left, clear_export_of, drop_export_of, room_export_of};
 
-#[unsafe(no_mangle)]
-pub extern "C" fn pt_handle_drop_request(
+pub fn pt_handle_drop_request(
     words: &[u64; 79],
     answer: &mut [i64; 10],
     slots: &mut [u64],
@@ -18,8 +17,7 @@ pub extern "C" fn pt_handle_drop_request(
     cells::drop_refusal(a)
 }
 
-#[unsafe(no_mangle)]
-pub extern "C" fn pt_clear(words: &mut [u64; 79], answer: &mut [i64; 10]) -> u32
+pub fn pt_clear(words: &mut [u64; 79], answer: &mut [i64; 10]) -> u32
     ensures { left result words.new answer.new [] ≡ clear_export_of words.old }
 {
     let h = packing::unpack::unpack(words);
@@ -32,8 +30,7 @@ pub extern "C" fn pt_clear(words: &mut [u64; 79], answer: &mut [i64; 10]) -> u32
     n
 }
 
-#[unsafe(no_mangle)]
-pub extern "C" fn pt_buffer_available(words: &[u64; 79], answer: &mut [i64; 10]) -> u32
+pub fn pt_buffer_available(words: &[u64; 79], answer: &mut [i64; 10]) -> u32
     ensures { left result words.now answer.new [] ≡ room_export_of words.now }
 {
     let h = packing::unpack::unpack(words);

@@ -2,8 +2,7 @@
 ghost use Rattle.std.specs.Prelude.{◌≡◌, []};
 ghost use Rattle.exports.specs.Calls.{left, show_export_of};
 
-#[unsafe(no_mangle)]
-pub extern "C" fn pt_show(
+pub fn pt_show(
     words: &[u64; 79],
     answer: &mut [i64; 10],
     slots: &[u64],

@@ -2,8 +2,7 @@
 ghost use Rattle.std.specs.Prelude.{◌≡◌, []};
 ghost use Rattle.exports.specs.Calls.{left, clock_export_of};
 
-#[unsafe(no_mangle)]
-pub extern "C" fn pt_synchronize_clock(
+pub fn pt_synchronize_clock(
     words: &mut [u64; 79],
     answer: &mut [i64; 10],
     time: i64,

@@ -1,0 +1,17 @@
+// The next message: 01, "Window", with refusals 1 to 4 and 11.
+ghost use Rattle.std.specs.Prelude.{◌≡◌, [], ◌∷◌};
+ghost use Rattle.exports.specs.Calls.{left, message_export_of};
+
+#[unsafe(no_mangle)]
+pub extern "C" fn pt_pop_next_message(
+    words: &mut [u64; 79],
+    answer: &mut [i64; 10],
+    slots: &[u64],
+    payloads: &[u8],
+    output: &mut [u8],
+    time: i64,
+) -> u32
+    ensures { left result words.new answer.new (output.new ∷ []) ≡ message_export_of words.old slots.now payloads.now output.old time }
+{
+    exports::message::pt_pop_next_message(words, answer, slots, payloads, output, time)
+}
