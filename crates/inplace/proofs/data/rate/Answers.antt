@@ -27,7 +27,7 @@ pub put_arrival-requires : goal.put_arrival-requires
 put_arrival-requires c = search rates-in
 
 pub put_link-requires : goal.put_link-requires
-put_link-requires c = link-ready _ _ _ _ _ _ c.before.put_arrival.ensures (search rules) (search rules)
+put_link-requires c = link-ready _ _ _ _ _ _ c.put_arrival.ensures (search rules) (search rules)
 
 pub returns : goal.returns
 returns c = search rates-in

@@ -9,7 +9,7 @@ pub is_usual-requires : goal.is_usual-requires
 is_usual-requires c = search takes-single
 
 pub release_usual-requires : goal.release_usual-requires
-release_usual-requires c = take-usual _ _ _ _ c.before.before.before.before.before.before.before.before.before.before.args.time _ (search rules) c.before.before.before.is_usual.ensures (search rules)
+release_usual-requires c = take-usual _ _ _ _ c.args.time _ (search rules) c.is_usual.ensures (search rules)
 
 pub shape_of-out-then-is_usual : goal.shape_of-out-then-is_usual
 shape_of-out-then-is_usual c = search takes-single

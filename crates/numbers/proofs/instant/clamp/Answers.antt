@@ -35,4 +35,3 @@ returns c =
     let p : lt_z z (negsuc 2147483647) ≡ false = rw r at c.before.if-z-ltminus2147483648.false in
     let q : lt_z (pos 2147483647) z ≡ false = rw r at c.if-z-gt2147483647.false in
     rw (r, to_z-of_z (cut_fits z p q), p, q)
-

@@ -2,7 +2,7 @@
 -- the difference fits. So it is with begin - 2^31 where begin is above 0. Assumes nothing.
 use Rattle.std.proofs.Common.{◌≡◌, ◌^◌, true, false, ℤ, pos, negsuc, ◌+ℤ◌, ◌-ℤ◌, sym, arith, to_z-of_z, w32, w64, SFits, rules}
 use lib.Signed.{lt_z, le_z}
-use Rattle.numbers.specs.Instants.{clamp, interval_of}
+use Rattle.numbers.specs.Instants.{interval_of}
 use Rattle.numbers.proofs.Halves.{apart, range, in-range, above-+, below-+, above--, below--, lt-true, lt-false, le-true, le-false}
 use Rattle.numbers.proofs.Signs.{clamp-low, clamp-high}
 use Rattle.numbers.proofs.instant.interval.Goals.{Else-begin-end, Else-begin-le0, Else-end-begin, Start, Then-begin-le0}
@@ -123,4 +123,3 @@ returns c =
     let s = c.before.before.before in
     let g : SFits w32 c.clamp-2.result = record { sfits = c.clamp-2.type_inv } in
     rw (to_z-of_z g) (rw (to_z-of_z s.ranges.end, to_z-of_z s.ranges.begin, to_z-of_z (close c.before)) at c.clamp-2.ensures)
-

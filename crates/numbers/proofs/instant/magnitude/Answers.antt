@@ -62,4 +62,3 @@ returns c =
     let z = c.before.args.z in
     let f = c.before.ranges.z in
     rw (to_z-of_z f, to_z-of_z (next_fits z f (is_below c)), to_z-of_z (past_fits z f (is_below c)), past z f (is_below c))
-

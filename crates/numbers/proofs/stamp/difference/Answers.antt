@@ -1,7 +1,7 @@
 -- `stamp::difference` meets its contract: from 2^31 on, the distance less 2^32 is the signed number. Assumes nothing.
 use Rattle.std.proofs.Common.{ℕ, ◌^◌, ◌<◌, ◌≤◌, pos, ◌-ℤ◌, sym, ap, ◌∙◌, arith, to_z-of_z, w32, w64, SFits, rules}
 use mir.Facts.{to_z_pos, sfits_widen}
-use Rattle.numbers.specs.Circular.{distance, difference, signed}
+use Rattle.numbers.specs.Circular.{difference, signed}
 use Rattle.numbers.proofs.Halves.{in-range, above--, below--}
 use Rattle.numbers.proofs.Signs.{signed_low, signed_high}
 use Rattle.numbers.proofs.stamp.difference.Goals.{Else-d-lt2147483648}
@@ -48,4 +48,3 @@ unfolding difference
 returns c =
     rw (to_z_pos w64 (wide c), to_z-of_z (less-wide c), to_z-of_z (less-fits c))
     (sym (signed_high 32 (d c) (past c)) ∙ ap (signed 32) c.before.distance-d.ensures)
-

@@ -8,4 +8,3 @@ returns c =
     let r = c.wrapping_sub_u32.result in
     let h : r < 2 ^ 32 = search rules in
     sym (mod-eq_of_lt h) ∙ narrow-distance 0 32 c.before.args.a c.before.args.b r c.wrapping_sub_u32.ensures.value
-
