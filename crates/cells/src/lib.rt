@@ -1,6 +1,7 @@
 // An answer as ten numbers, for a caller in another language: the word's code, the values of 01's line ("Trace, mark DLT") in order, 0 where
 // there is none, and the bits of an f64. For each answer its cells, and the number of its refusal, 0 for none.
 #![tactic(auto)]
+
 ghost use Rattle.std.specs.Prelude.{◌≡◌, [], ◌∷◌, pos};
 ghost use Rattle.std.specs.Float.{binary64};
 ghost use Rattle.std.specs.Float.Ieee.{to_bits};

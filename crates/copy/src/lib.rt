@@ -1,5 +1,6 @@
 // Copies a run of bytes: into a slot's payload, out of it, and into the text of a line.
 #![tactic(auto)]
+
 ghost use Rattle.std.specs.Prelude.{◌≡◌, ◌+◌, ◌≤◌, length};
 ghost use Rattle.std.proofs.Math.Seq.{paste};
 

@@ -1,5 +1,6 @@
 // The ten counters of receiver/mod.rs and what each answer raises: 01, "Counters follow 003, mod 2^64".
 #![tactic(auto)]
+
 ghost use Rattle.std.specs.Prelude.{◌≡◌};
 ghost use Rattle.numbers.specs.Circular.{sum};
 ghost use Rattle.counts.specs.Counts.{fresh, raised};

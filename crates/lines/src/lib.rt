@@ -1,6 +1,7 @@
 // The lines of the trace: 01, "Trace, mark DLT", "After the record's number (from 1) a line has ..". A function for each call's answer writes
 // the whole line at the cursor and answers the cursor behind it; `nth` is the record's number. Each needs room: only the trace calls them.
 #![tactic(auto)]
+
 ghost use Rattle.std.specs.Prelude.{◌≡◌, [], ◌+◌, ◌*◌, ◌≤◌, min, length};
 ghost use Rattle.head.specs.Paper.{refused_by};
 ghost use Rattle.receiver.specs.Paper.{data_line, message_line};

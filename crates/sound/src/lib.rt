@@ -1,5 +1,6 @@
 // Refusal 1, from the words themselves: 01, "Head and lent areas".
 #![tactic(auto)]
+
 ghost use Rattle.std.specs.Prelude.{◌≡◌, ◌≤◌};
 ghost use Rattle.head.specs.Head.{head_ok};
 ghost use Rattle.packing.specs.Packed.{unpack_of};

@@ -1,5 +1,6 @@
 // One call of the receiver and its answer as values, so that a list of calls can be spoken of and a trace replayed: 01, "Trace, mark DLT".
 #![tactic(auto)]
+
 ghost use Rattle.std.specs.Prelude.{◌≡◌, []};
 ghost use Rattle.receiver.specs.Data.{packet};
 ghost use Rattle.step.specs.Step.{call_left, pop_call_left, data_left, pop_left, report_left, full_ack_left, ack2_left, drop_left, clock_left, clear_left, state_of, lent_for, ended, step_of};

@@ -1,5 +1,6 @@
 // The counters of a replay: what the answer of a step raises, and the line that `--counters` adds behind the end line. 01, "Counters follow 003".
 #![tactic(auto)]
+
 ghost use Rattle.std.specs.Prelude.{◌≡◌, ◌+◌, ◌≤◌, length};
 ghost use Rattle.shapes.specs.Ready.{Wrote};
 ghost use Rattle.tally.specs.Tally.{fresh_tally, counted_of, tallied, named, packet_bytes, loss_bytes, other_bytes, all_bytes, counters_bytes, tally_bytes};

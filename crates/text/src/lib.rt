@@ -1,6 +1,7 @@
 // Writing the lines of a trace as bytes, piece by piece, into a lent output at a cursor: 01, "Trace, mark DLT". Each function needs room
 // for what it writes, writes nothing else, and answers the cursor behind it.
 #![tactic(auto)]
+
 ghost use Rattle.std.specs.Prelude.{◌≡◌, [], ◌∷◌, ◌+◌, ◌<◌, ◌≤◌, length, drop};
 ghost use Rattle.text.specs.Decimal.{decimal, signed_decimal};
 ghost use Rattle.text.specs.Put.{put_ended, put_of};

@@ -1,6 +1,7 @@
 // The trace: 01's file format read record by record, each record a call of the receiver, each answer a line. 01, "Trace, mark DLT".
 // Nothing here reads or writes a file: the bytes at hand and a line are lent.
 #![tactic(auto)]
+
 ghost use Rattle.std.specs.Prelude.{◌≡◌, ◌≤◌, true, false, not, ◌&&◌, length, drop, if◌then◌else◌, ◌==◌, nat_le};
 ghost use Rattle.dlt.specs.Record.{record_of};
 ghost use Rattle.dlt.specs.declared.header.HeaderRead.TheVariants as headers;

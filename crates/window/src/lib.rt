@@ -1,5 +1,6 @@
 // The window over lent areas, buffer.rs: 01, "Window". The numbers of the window are a value, its entries lie in lent words and bytes.
 #![tactic(auto)]
+
 pub mod push;
 pub mod show;
 

@@ -1,6 +1,6 @@
 -- `root::root31` meets its contract. The invariant: low's square is at most w, and high's is above w unless high is still 2^31.
 -- Assumes nothing.
-use Rattle.std.proofs.Common.{◌-◌, ◌*◌, ◌<◌, ◌≤◌, lt_of_le_of_lt, arith, lit<}
+use Rattle.std.proofs.Common.{◌-◌, ◌<◌, ◌≤◌, lt_of_le_of_lt, arith, lit<}
 use Rattle.numbers.proofs.Flags.{by-order}
 use Rattle.clock.specs.Root.{root}
 use Rattle.clock.proofs.Roots.{squares, root-least, root_below}

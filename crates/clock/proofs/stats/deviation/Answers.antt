@@ -29,4 +29,3 @@ unfolding deviation_of of_bits neg
 returns c =
     let e = unsigned-none c.before.args.v c.if-v.false in
     rw e (omega (arith, root_below 0 1 (lit< tt)))
-

@@ -32,4 +32,3 @@ returns-then-m-3 c = sym (signed-least c.before.before.args.m c.before.if-m.fals
 pub returns : goal.returns
 unfolding truncated_of of_bits neg
 returns c = sym (signed-nan c.before.before.args.m c.before.if-m.false c.if-m-3.false)
-

@@ -2,14 +2,13 @@
 use mathlib.Core.Path.{◌≡◌, sym, ◌∙◌}
 use Prim.Native.Nat.{ℕ, ◌-◌, ◌<◌, ◌≤◌, ◌^◌}
 use native.Mathlib.Omega.{arith}
-use borrow.Author.Rules.{rules}
 use lib.IntN.{pos, ◌-ℤ◌}
 use mir.Syntax.{w64}
 use mir.Val.{SFits}
 use mir.Facts.{to_z-of_z, to_z_pos}
 use Rattle.numbers.specs.Circular.{signed}
-use Rattle.numbers.proofs.Halves.{same, in-range, above--, below--}
-use Rattle.numbers.proofs.Signs.{signed_low, signed_high}
+use Rattle.numbers.proofs.Halves.{same, in-range}
+use Rattle.numbers.proofs.Signs.{signed_low}
 use Rattle.dlt.proofs.bytes.twos.Goals.{Else-n-lt9223372036854775808}
 use Rattle.dlt.proofs.bytes.twos.Goals as goal
 
@@ -52,4 +51,3 @@ pub returns : goal.returns
 returns c =
     rw (to_z_pos w64 (low c), to_z-of_z (less-fits (m c) (low c)), to_z-of_z (one_less_fits (m c) (low c)))
     (turned (n c) (past c) (omega arith))
-

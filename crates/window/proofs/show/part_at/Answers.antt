@@ -2,7 +2,6 @@
 use mathlib.Core.Path.{◌≡◌, refl}
 use Prim.Native.Nat.{◌+◌, ◌-◌}
 use native.Mathlib.Omega.{arith}
-use borrow.Author.Rules.{rules}
 use Rattle.window.proofs.show.part_at.Goals as goal
 
 pub returns : goal.returns
@@ -10,4 +9,3 @@ returns c =
     let x = c.before.args in
     let q : x.at + x.len - x.at ≡ x.len = omega arith in
     record { block = refl; place = omega arith; bytes = rw q }
-

@@ -1,9 +1,4 @@
-use mathlib.Core.Path.{◌≡◌}
-use Prim.Native.Nat.{◌-◌, ◌≤◌}
-use mir.Syntax.{w64}
-use mir.Val.{to_z}
-use Rattle.slots.specs.Ring.{slot_of}
-use Rattle.window_pop.specs.Pop.{walk_from, no_walk}
+use Prim.Native.Nat.{◌-◌}
 use Rattle.window_pop.proofs.Lates.{lates}
 use Rattle.window_pop.proofs.pop.walk_late.Goals as goal
 

@@ -1,9 +1,4 @@
-use mathlib.Core.Path.{◌≡◌}
-use Prim.Native.Nat.{◌-◌, ◌≤◌}
-use mir.Syntax.{w64}
-use mir.Val.{to_z}
-use Rattle.slots.specs.Ring.{slot_of}
-use Rattle.window_report.specs.Report.{runs_to}
+use Prim.Native.Nat.{◌-◌}
 use Rattle.window_report.proofs.Reports.{reports}
 use Rattle.window_report.proofs.report.count_runs.Goals as goal
 

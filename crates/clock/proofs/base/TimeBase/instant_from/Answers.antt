@@ -34,4 +34,3 @@ unfolding instant_of
 returns c =
     let a = c.before.before in
     rw (to_z-of_z (narrow a), to_z-of_z (wide a), to_z-of_z (time-fits a), to_z-of_z (sum_fits a)) (ap (λ (z : ℤ). t a +ℤ z) a.difference.ensures)
-

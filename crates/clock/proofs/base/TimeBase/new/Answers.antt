@@ -6,4 +6,3 @@ use Rattle.clock.proofs.base.TimeBase.new.Goals as goal
 pub returns : goal.returns
 unfolding fresh_base
 returns c = rw (to_z-of_z c.ranges.start)
-

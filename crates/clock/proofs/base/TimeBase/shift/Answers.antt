@@ -1,7 +1,7 @@
 -- `TimeBase::shift` meets its contract: the difference fits. Assumes nothing.
 use Rattle.std.proofs.Common.{ℤ, ◌-ℤ◌, arith, to_z-of_z, w64, SFits}
 use mir.Facts.{sfits_widen}
-use Rattle.numbers.proofs.Halves.{size--, fits-size, size_fits}
+use Rattle.numbers.proofs.Halves.{fits-size}
 use Rattle.clock.specs.Base.{shifted}
 use Rattle.clock.proofs.base.TimeBase.shift.Goals.{Start}
 use Rattle.clock.proofs.base.TimeBase.shift.Goals as goal
@@ -33,4 +33,3 @@ unfolding shifted
 returns c =
     let s = c.before.before in
     rw (to_z-of_z s.ranges.drift, to_z-of_z (wide s), to_z-of_z (time-fits s), to_z-of_z (less-fits s))
-

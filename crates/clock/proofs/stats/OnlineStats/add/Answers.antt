@@ -15,4 +15,3 @@ int_to_float-mean c = search rules
 pub returns : goal.returns
 unfolding sampled mean_with squares_with distance_of
 returns c = rw (to_z-of_z c.before.before.before.before.ranges.x)
-

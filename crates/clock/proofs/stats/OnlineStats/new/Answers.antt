@@ -7,4 +7,3 @@ use Rattle.clock.proofs.stats.OnlineStats.new.Goals as goal
 pub returns : goal.returns
 unfolding no_samples of_bits
 returns c = refl
-

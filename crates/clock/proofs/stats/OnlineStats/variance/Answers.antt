@@ -9,4 +9,3 @@ int_to_float-result c = search rules
 pub returns : goal.returns
 unfolding variance_of
 returns c = refl
-
