@@ -7,8 +7,8 @@ use mir.Syntax.{w64}
 use mir.Val.{SFits}
 use mir.Facts.{to_z-of_z, to_z_pos}
 use Rattle.numbers.specs.Circular.{signed}
-use Rattle.numbers.proofs.Halves.{same, in-range}
-use Rattle.numbers.proofs.Signs.{signed_low}
+use Rattle.numbers.proofs.Halves.{same, in-range, above--, below--}
+use Rattle.numbers.proofs.Signs.{signed_low, signed_high}
 use Rattle.dlt.proofs.bytes.twos.Goals.{Else-n-lt9223372036854775808}
 use Rattle.dlt.proofs.bytes.twos.Goals as goal
 

@@ -3,7 +3,7 @@
 use Rattle.std.proofs.Common.{◌≡◌, ◌^◌, true, false, ℤ, pos, negsuc, ◌+ℤ◌, ◌-ℤ◌, sym, arith, to_z-of_z, w32, w64, SFits, rules}
 use lib.Signed.{lt_z, le_z}
 use Rattle.numbers.specs.Instants.{interval_of}
-use Rattle.numbers.proofs.Halves.{range, in-range, above-+, below-+, lt-true, lt-false, le-true, le-false}
+use Rattle.numbers.proofs.Halves.{apart, range, in-range, above-+, below-+, above--, below--, lt-true, lt-false, le-true, le-false}
 use Rattle.numbers.proofs.Signs.{clamp-low, clamp-high}
 use Rattle.numbers.proofs.instant.interval.Goals.{Else-begin-end, Else-begin-le0, Else-end-begin, Start, Then-begin-le0}
 use Rattle.numbers.proofs.instant.interval.Goals as goal

@@ -2,7 +2,7 @@
 use Rattle.std.proofs.Common.{◌≡◌, ◌^◌, true, false, T, ℤ, pos, ◌+ℤ◌, ◌-ℤ◌, sym, arith, to_z-of_z, w64, SFits}
 use lib.Signed.{mag, le_z, non_neg}
 use mir.Facts.{Fits-nat_abs}
-use Rattle.numbers.proofs.Halves.{apart, same, range, in-range, not_negative, above-+, below-+, le-true, le-false, size}
+use Rattle.numbers.proofs.Halves.{apart, same, range, in-range, not_negative, above-+, below-+, above--, below--, le-true, le-false, size}
 use Rattle.numbers.proofs.Steps.{mag-above, mag-below}
 use Rattle.numbers.proofs.instant.magnitude.Goals.{Else-z-ge0, Then-z-ge0}
 use Rattle.numbers.proofs.instant.magnitude.Goals as goal

@@ -2,7 +2,7 @@
 use Rattle.std.proofs.Common.{ℕ, ◌^◌, ◌<◌, ◌≤◌, pos, ◌-ℤ◌, sym, ap, ◌∙◌, arith, to_z-of_z, w32, w64, SFits, rules}
 use mir.Facts.{to_z_pos, sfits_widen}
 use Rattle.numbers.specs.Circular.{difference, signed}
-use Rattle.numbers.proofs.Halves.{in-range}
+use Rattle.numbers.proofs.Halves.{in-range, above--, below--}
 use Rattle.numbers.proofs.Signs.{signed_low, signed_high}
 use Rattle.numbers.proofs.stamp.difference.Goals.{Else-d-lt2147483648}
 use Rattle.numbers.proofs.stamp.difference.Goals as goal

@@ -1,7 +1,7 @@
 -- `TimeBase::shift` meets its contract: the difference fits. Assumes nothing.
 use Rattle.std.proofs.Common.{ℤ, ◌-ℤ◌, arith, to_z-of_z, w64, SFits}
 use mir.Facts.{sfits_widen}
-use Rattle.numbers.proofs.Halves.{fits-size}
+use Rattle.numbers.proofs.Halves.{size--, fits-size, size_fits}
 use Rattle.clock.specs.Base.{shifted}
 use Rattle.clock.proofs.base.TimeBase.shift.Goals.{Start}
 use Rattle.clock.proofs.base.TimeBase.shift.Goals as goal

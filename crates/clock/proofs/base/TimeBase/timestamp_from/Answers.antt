@@ -1,7 +1,7 @@
 -- `TimeBase::timestamp_from` meets its contract. Assumes nothing.
 use Rattle.std.proofs.Common.{◌≡◌, ℕ, ◌^◌, ◌<◌, ℤ, pos, ◌+ℤ◌, ◌-ℤ◌, arith, to_z-of_z, w64, SFits, to_z, of_z}
 use mir.Facts.{to_z_pos}
-use Rattle.numbers.proofs.Halves.{size-+, fits-size}
+use Rattle.numbers.proofs.Halves.{size-+, size--, fits-size}
 use Rattle.clock.specs.Base.{stamp_of}
 use Rattle.clock.proofs.base.TimeBase.timestamp_from.Goals.{After-struct_known-1}
 use Rattle.clock.proofs.base.TimeBase.timestamp_from.Goals as goal
