@@ -155,4 +155,4 @@ module _ (ws : List ℕ) where
   unfolding unpack_of
   says-not p e q = rw (sym p ∙ e, q)
 
-pub ruleset Says-All = (no-capacity, read-start, read-turn, read-end, test-start, test-turn, test-end, says-window, says-base, says-stats, says-clock, says-rtt, says-arrivals, says-links, says-history, says-head, tests-first, tests-rates, tests-last, tests-all, tests-not, says, says-not, rules)
+pub ruleset says_all = (no-capacity, read-start, read-turn, read-end, test-start, test-turn, test-end, says-window, says-base, says-stats, says-clock, says-rtt, says-arrivals, says-links, says-history, says-head, tests-first, tests-rates, tests-last, tests-all, tests-not, says, says-not, rules)

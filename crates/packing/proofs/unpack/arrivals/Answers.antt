@@ -1,32 +1,32 @@
-use Rattle.packing.proofs.Says.{Says-All}
+use Rattle.packing.proofs.Says.{says_all}
 use Rattle.packing.proofs.unpack.arrivals.Goals as goal
 
 pub sixteen-requires : goal.sixteen-requires
-sixteen-requires c = search Says-All
+sixteen-requires c = search says_all
 
 pub sixteen-requires-2 : goal.sixteen-requires-2
-sixteen-requires-2 c = search Says-All
+sixteen-requires-2 c = search says_all
 
 pub bounds-ws-50 : goal.bounds-ws-50
-bounds-ws-50 c = search Says-All
+bounds-ws-50 c = search says_all
 
 pub size-requires : goal.size-requires
-size-requires c = search Says-All
+size-requires c = search says_all
 
 pub bounds-ws-51 : goal.bounds-ws-51
-bounds-ws-51 c = search Says-All
+bounds-ws-51 c = search says_all
 
 pub size-requires-2 : goal.size-requires-2
-size-requires-2 c = search Says-All
+size-requires-2 c = search says_all
 
 pub bounds-ws-52 : goal.bounds-ws-52
-bounds-ws-52 c = search Says-All
+bounds-ws-52 c = search says_all
 
 pub bounds-ws-53 : goal.bounds-ws-53
-bounds-ws-53 c = search Says-All
+bounds-ws-53 c = search says_all
 
 pub moment-requires : goal.moment-requires
-moment-requires c = search Says-All
+moment-requires c = search says_all
 
 pub returns : goal.returns
-returns c = search Says-All
+returns c = search says_all

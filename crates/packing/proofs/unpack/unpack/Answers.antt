@@ -1,17 +1,17 @@
-use Rattle.packing.proofs.Says.{Says-All}
+use Rattle.packing.proofs.Says.{says_all}
 use Rattle.packing.proofs.unpack.unpack.Goals as goal
 
 pub formed-requires : goal.formed-requires
-formed-requires c = search Says-All
+formed-requires c = search says_all
 
 pub head-requires : goal.head-requires
-head-requires c = search Says-All
+head-requires c = search says_all
 
 pub returns-then-formed : goal.returns-then-formed
-returns-then-formed c = search Says-All
+returns-then-formed c = search says_all
 
 pub nowhere-requires : goal.nowhere-requires
-nowhere-requires c = search Says-All
+nowhere-requires c = search says_all
 
 pub returns : goal.returns
-returns c = search Says-All
+returns c = search says_all
