@@ -1,9 +1,10 @@
 // Runs the clock call over made-up stamps and writes each answer but none, in the words of 01's trace lines.
+// What comes is compared with what must come, so a write that fails shows there and is let pass here.
 #![tactic(auto)]
+
 ghost use Rattle.std.specs.Prelude.{◌≤◌};
 
 use clock::time::{Step, Synchronized, SynchronizedRemoteClock};
-use libc::STDOUT_FILENO;
 
 #[derive(Drop)]
 enum Called {
@@ -22,102 +23,120 @@ fn call(clock: SynchronizedRemoteClock, now: i64, ts: u32) -> Called {
     Called::Refused(1)
 }
 
-fn put_number(z: i32) {
-    io::write_all(STDOUT_FILENO, b" ");
+fn put_text(rt: &impl Print, text: &[u8]) {
+    let _ = rt.write_all(text);
+}
+
+fn put_number(rt: &impl Print, z: i32) {
+    put_text(rt, b" ");
     if z < 0 {
-        io::write_all(STDOUT_FILENO, b"-");
+        put_text(rt, b"-");
     }
-    io::print_decimal(STDOUT_FILENO, numbers::instant::size(z as i64));
+    let _ = rt.print(numbers::instant::size(z as i64));
 }
 
-fn put_count(n: u32) {
-    io::write_all(STDOUT_FILENO, b" ");
-    io::print_decimal(STDOUT_FILENO, n as u64);
+fn put_count(rt: &impl Print, n: u32) {
+    put_text(rt, b" ");
+    let _ = rt.print(n);
 }
 
-fn put_refused(n: u64) {
-    io::write_all(STDOUT_FILENO, b"refused ");
-    io::print_decimal(STDOUT_FILENO, n);
-    io::write_all(STDOUT_FILENO, b"\n");
+fn put_refused(rt: &impl Print, n: u64) {
+    put_text(rt, b"refused ");
+    let _ = rt.print(n);
+    put_text(rt, b"\n");
 }
 
-fn put(answer: Synchronized) {
+fn put(rt: &impl Print, answer: Synchronized) {
     match answer {
         Synchronized::Nothing => {}
         Synchronized::Adjusted { mean, deviation } => {
-            io::write_all(STDOUT_FILENO, b"adjusted");
-            put_number(mean);
-            put_count(deviation);
-            io::write_all(STDOUT_FILENO, b"\n");
+            put_text(rt, b"adjusted");
+            put_number(rt, mean);
+            put_count(rt, deviation);
+            put_text(rt, b"\n");
         }
         Synchronized::Unsteady {
             deviation,
             variance: _,
         } => {
-            io::write_all(STDOUT_FILENO, b"unsteady");
-            put_count(deviation);
-            io::write_all(STDOUT_FILENO, b"\n");
+            put_text(rt, b"unsteady");
+            put_count(rt, deviation);
+            put_text(rt, b"\n");
         }
         Synchronized::DriftRange => {
-            put_refused(14);
+            put_refused(rt, 14);
         }
     }
 }
 
 // One call; the clock after it.
-fn go_on(clock: SynchronizedRemoteClock, now: i64, ts: u32) -> SynchronizedRemoteClock {
+fn go_on(
+    rt: &impl Print,
+    clock: SynchronizedRemoteClock,
+    now: i64,
+    ts: u32,
+) -> SynchronizedRemoteClock {
     let called = call(clock, now, ts);
     match called {
         Called::Done(step) => {
             let answer = step.answer;
-            put(answer);
+            put(rt, answer);
             let next = step.clock;
             next
         }
         Called::Refused(n) => {
-            put_refused(n);
+            put_refused(rt, n);
             clock
         }
     }
 }
 
 // `count` calls, 100 µs apart; each stamp lies `behind` the reading, and every second one `swing` behind that.
-fn run(title: &[u8], behind: u32, swing: u32, count: u32)
+fn run(rt: &impl Print, title: &[u8], behind: u32, swing: u32, count: u32)
     requires { count ≤ 10000 }
 {
-    io::write_all(STDOUT_FILENO, title);
+    put_text(rt, title);
     let mut clock = SynchronizedRemoteClock::new(0);
-    let mut i: u32 = 0;
-    while i < count {
+    for i in 0..count {
         let n = i * 100;
-        let late = std::num::wrapping_sub_u32(n, behind);
+        let late = n.wrapping_sub(behind);
         let ts = if i % 2 == 1 {
-            std::num::wrapping_sub_u32(late, swing)
+            late.wrapping_sub(swing)
         } else {
             late
         };
-        clock = go_on(clock, n as i64, ts);
-        i += 1;
+        clock = go_on(rt, clock, n as i64, ts);
     }
 }
 
-fn main() {
-    run(b"no drift\n", 0, 0, 1001);
-    run(b"drifts 0 and 10\n", 0, 10, 1001);
-    run(b"drifts 0 and 10000\n", 0, 10000, 1001);
-    run(b"drifts 0 and 10002\n", 0, 10002, 1001);
+fn main(rt: HostRuntime) {
+    run(&rt, b"no drift\n", 0, 0, 1001);
+    run(&rt, b"drifts 0 and 10\n", 0, 10, 1001);
+    run(&rt, b"drifts 0 and 10000\n", 0, 10000, 1001);
+    run(&rt, b"drifts 0 and 10002\n", 0, 10002, 1001);
     run(
+        &rt,
         b"a constant drift of 1000, which each adjustment doubles\n",
         1000,
         0,
         4001,
     );
-    io::write_all(STDOUT_FILENO, b"a reading out of range, and one past it\n");
+    put_text(&rt, b"a reading out of range, and one past it\n");
     let clock = SynchronizedRemoteClock::new(0);
-    let next = go_on(clock, -1, 0);
-    go_on(next, 0x1000_0000_0000_0000, 0);
-    io::write_all(STDOUT_FILENO, b"a head out of range\n");
-    go_on(SynchronizedRemoteClock::new(0x2000_0000_0000_0001), 0, 0);
-    io::write_all(STDOUT_FILENO, b"an adjusted reference past its range\n");
-    go_on(SynchronizedRemoteClock::new(0x2000_0000_0000_0000), 0, 1);
+    let next = go_on(&rt, clock, -1, 0);
+    go_on(&rt, next, 0x1000_0000_0000_0000, 0);
+    put_text(&rt, b"a head out of range\n");
+    go_on(
+        &rt,
+        SynchronizedRemoteClock::new(0x2000_0000_0000_0001),
+        0,
+        0,
+    );
+    put_text(&rt, b"an adjusted reference past its range\n");
+    go_on(
+        &rt,
+        SynchronizedRemoteClock::new(0x2000_0000_0000_0000),
+        0,
+        1,
+    );
 }

@@ -1,5 +1,7 @@
-// Runs the calls of the counter layer and writes a line for each: its name, then the ten counters in 003's order. Carries 01, "Counters follow 003" and "7 to 10 still count in the counters", by example.
+// Runs the calls of the counter layer and writes a line for each: its name, then the ten counters in 003's order.
+// Carries 01, "Counters follow 003" and "7 to 10 still count in the counters", by example.
 #![tactic(auto)]
+
 use case_print::{put, put_count};
 use clock::base::TimeBase;
 use counts::Counters;
@@ -12,24 +14,24 @@ struct State {
     counters: Counters,
 }
 
-fn put_counters(c: Counters) {
-    put_count(c.rx_data);
-    put_count(c.rx_bytes);
-    put_count(c.rx_unique_data);
-    put_count(c.rx_unique_bytes);
-    put_count(c.rx_retransmit_data);
-    put_count(c.rx_dropped_data);
-    put_count(c.rx_dropped_bytes);
-    put_count(c.rx_ack2);
-    put_count(c.rx_ack2_errors);
-    put_count(c.rx_clock_adjustments);
-    put(b"\n");
+fn put_counters(rt: &impl Print, c: Counters) {
+    put_count(rt, c.rx_data);
+    put_count(rt, c.rx_bytes);
+    put_count(rt, c.rx_unique_data);
+    put_count(rt, c.rx_unique_bytes);
+    put_count(rt, c.rx_retransmit_data);
+    put_count(rt, c.rx_dropped_data);
+    put_count(rt, c.rx_dropped_bytes);
+    put_count(rt, c.rx_ack2);
+    put_count(rt, c.rx_ack2_errors);
+    put_count(rt, c.rx_clock_adjustments);
+    put(rt, b"\n");
 }
 
 // The line of a call, and what it leaves.
-fn after(name: &[u8], head: Head, counters: Counters) -> State {
-    put(name);
-    put_counters(counters);
+fn after(rt: &impl Print, name: &[u8], head: Head, counters: Counters) -> State {
+    put(rt, name);
+    put_counters(rt, counters);
     State { head, counters }
 }
 
@@ -43,6 +45,7 @@ fn new(start: i64, first: u32, capacity: usize) -> State {
 }
 
 fn data(
+    rt: &impl Print,
     s: State,
     words: &mut [u64; 12],
     bytes: &mut [u8; 5824],
@@ -54,60 +57,61 @@ fn data(
         s.counters, s.head, words, bytes, time, number, 1, 3, 0, payload,
     );
     let head = r.handled.head;
-    after(b"data", head, r.counters)
+    after(rt, b"data", head, r.counters)
 }
 
 fn data_long(
+    rt: &impl Print,
     s: State,
     words: &mut [u64; 12],
     bytes: &mut [u8; 5824],
     payload: &[u8; 1457],
 ) -> State {
-    data(s, words, bytes, 10, 0, payload)
+    data(rt, s, words, bytes, 10, 0, payload)
 }
 
-fn pop(s: State, words: &[u64; 12], bytes: &[u8; 5824], time: i64) -> State {
+fn pop(rt: &impl Print, s: State, words: &[u64; 12], bytes: &[u8; 5824], time: i64) -> State {
     let mut out = [0u8; 13];
     let r = counters::message::pop_next_message(s.counters, s.head, words, bytes, &mut out, time);
     let head = r.given.head;
-    after(b"pop", head, r.counters)
+    after(rt, b"pop", head, r.counters)
 }
 
-fn nak(s: State, words: &mut [u64; 12], time: i64) -> State {
+fn nak(rt: &impl Print, s: State, words: &mut [u64; 12], time: i64) -> State {
     let mut list = [0u32; 2];
     let r = counters::loss::on_nak_event(s.counters, s.head, words, &mut list, time);
     let head = r.reported.head;
-    after(b"nak", head, r.counters)
+    after(rt, b"nak", head, r.counters)
 }
 
-fn drop_request(s: State, words: &mut [u64; 12], first: u32, last: u32) -> State {
+fn drop_request(rt: &impl Print, s: State, words: &mut [u64; 12], first: u32, last: u32) -> State {
     let r = counters::request::handle_drop_request(s.counters, s.head, words, first, last);
     let head = s.head;
-    after(b"drop", head, r.counters)
+    after(rt, b"drop", head, r.counters)
 }
 
-fn clear(s: State) -> State {
+fn clear(rt: &impl Print, s: State) -> State {
     let r = counters::request::clear(s.counters, s.head);
     let head = r.cleared.head;
-    after(b"clear", head, r.counters)
+    after(rt, b"clear", head, r.counters)
 }
 
-fn full(s: State, area: &mut [u64; 2048], time: i64) -> State {
+fn full(rt: &impl Print, s: State, area: &mut [u64; 2048], time: i64) -> State {
     let r = counters::acking::on_full_ack_event(s.counters, s.head, area, time);
     let head = r.acked.head;
-    after(b"full", head, r.counters)
+    after(rt, b"full", head, r.counters)
 }
 
-fn ack2(s: State, area: &[u64; 2048], time: i64, number: u32) -> State {
+fn ack2(rt: &impl Print, s: State, area: &[u64; 2048], time: i64, number: u32) -> State {
     let r = counters::acking::handle_ack2_packet(s.counters, s.head, area, time, number);
     let head = r.acked2.head;
-    after(b"ack2", head, r.counters)
+    after(rt, b"ack2", head, r.counters)
 }
 
-fn clock(s: State, time: i64, stamp: u32) -> State {
+fn clock(rt: &impl Print, s: State, time: i64, stamp: u32) -> State {
     let r = counters::sync::synchronize_clock(s.counters, s.head, time, stamp);
     let head = r.clocked.head;
-    after(b"clock", head, r.counters)
+    after(rt, b"clock", head, r.counters)
 }
 
 // The areas of capacity 4, and a payload one byte too long. They come from functions, so that no proof looks into them.
@@ -187,123 +191,132 @@ fn with_last_counts(s: State) -> State {
 
 // The scenarios.
 
-// A67: got, 10 and 7, of 4 bytes each; then a message, which leaves 0 behind: 9; and 3 needs three places of one: 8, of no bytes.
-fn refusals() {
-    put(b"got, refusals 10 and 7, a message, refusals 9 and 8\n");
+// A67: got, 10 and 7, of 4 bytes each; then a message, which leaves 0 behind: 9; and 3 needs three places of one: 8, of
+// no bytes.
+fn refusals(rt: &impl Print) {
+    put(rt, b"got, refusals 10 and 7, a message, refusals 9 and 8\n");
     let mut ws = slot_area();
     let mut bs = payload_area();
     let mut s = new(0, 0, 1);
-    s = data(s, &mut ws, &mut bs, 0, 0, b"four");
-    s = data(s, &mut ws, &mut bs, 0, 0, b"four");
-    s = data(s, &mut ws, &mut bs, 0, 1, b"four");
-    s = pop(s, &ws, &bs, 0);
-    s = data(s, &mut ws, &mut bs, 0, 0, b"four");
-    data(s, &mut ws, &mut bs, 0, 3, b"");
+    s = data(rt, s, &mut ws, &mut bs, 0, 0, b"four");
+    s = data(rt, s, &mut ws, &mut bs, 0, 0, b"four");
+    s = data(rt, s, &mut ws, &mut bs, 0, 1, b"four");
+    s = pop(rt, s, &ws, &bs, 0);
+    s = data(rt, s, &mut ws, &mut bs, 0, 0, b"four");
+    data(rt, s, &mut ws, &mut bs, 0, 3, b"");
 }
 
 // 12 finds 10 and 11 lost; 10 is recovered; 11 is reported, given up once, and then a duplicate.
-fn losses() {
+fn losses(rt: &impl Print) {
     put(
+        rt,
         b"a loss, a recovery, a report, drop requests of 1, of 0 and refused 5, refusal 10, a clear\n",
     );
     let mut ws = slot_area();
     let mut bs = payload_area();
     let mut s = new(0, 10, 4);
-    s = data(s, &mut ws, &mut bs, 0, 12, b"twelve");
-    s = data(s, &mut ws, &mut bs, 0, 10, b"ten");
-    s = nak(s, &mut ws, 20_001);
-    s = drop_request(s, &mut ws, 10, 12);
-    s = drop_request(s, &mut ws, 10, 12);
-    s = drop_request(s, &mut ws, 0x8000_0000, 12);
-    s = data(s, &mut ws, &mut bs, 20_001, 11, b"eleven");
-    clear(s);
+    s = data(rt, s, &mut ws, &mut bs, 0, 12, b"twelve");
+    s = data(rt, s, &mut ws, &mut bs, 0, 10, b"ten");
+    s = nak(rt, s, &mut ws, 20_001);
+    s = drop_request(rt, s, &mut ws, 10, 12);
+    s = drop_request(rt, s, &mut ws, 10, 12);
+    s = drop_request(rt, s, &mut ws, 0x8000_0000, 12);
+    s = data(rt, s, &mut ws, &mut bs, 20_001, 11, b"eleven");
+    clear(rt, s);
 }
 
 // Two given up by one request, and then all three discarded late.
-fn late() {
-    put(b"a loss of two, a drop request of 2, a late discard\n");
+fn late(rt: &impl Print) {
+    put(rt, b"a loss of two, a drop request of 2, a late discard\n");
     let mut ws = slot_area();
     let mut bs = payload_area();
     let mut s = new(0, 10, 4);
-    s = data(s, &mut ws, &mut bs, 0, 12, b"twelve");
-    s = drop_request(s, &mut ws, 10, 11);
-    pop(s, &ws, &bs, 5_000);
+    s = data(rt, s, &mut ws, &mut bs, 0, 12, b"twelve");
+    s = drop_request(rt, s, &mut ws, 10, 11);
+    pop(rt, s, &ws, &bs, 5_000);
 }
 
 // lrsn goes from 100 to 102, which is 64 past 38, on a recovery; then to 103, which is 64 past 39, on an append.
-fn lights() {
-    put(b"a loss, a light ACK on a recovery, a light ACK on an append\n");
+fn lights(rt: &impl Print) {
+    put(
+        rt,
+        b"a loss, a light ACK on a recovery, a light ACK on an append\n",
+    );
     let mut ws = slot_area();
     let mut bs = payload_area();
     let mut s = with_last_ack(new(0, 100, 4), 38);
-    s = data(s, &mut ws, &mut bs, 0, 101, b"b");
-    s = data(s, &mut ws, &mut bs, 0, 100, b"a");
-    data(with_last_ack(s, 39), &mut ws, &mut bs, 0, 102, b"c");
+    s = data(rt, s, &mut ws, &mut bs, 0, 101, b"b");
+    s = data(rt, s, &mut ws, &mut bs, 0, 100, b"a");
+    data(rt, with_last_ack(s, 39), &mut ws, &mut bs, 0, 102, b"c");
 }
 
 // A66, then A6: ACK 1 is not held at 5, refused 4 at 3, and held once it is sent.
-fn acks() {
-    put(b"ACK2s: not held, refused 4, found, not held\n");
+fn acks(rt: &impl Print) {
+    put(rt, b"ACK2s: not held, refused 4, found, not held\n");
     let mut ws = slot_area();
     let mut bs = payload_area();
     let mut hs = history_area();
     let mut s = new(0, 0, 4);
-    s = ack2(s, &hs, 5, 1);
-    s = ack2(s, &hs, 3, 1);
-    s = data(s, &mut ws, &mut bs, 5, 0, b"");
-    s = full(s, &mut hs, 5);
-    s = ack2(s, &hs, 5, 1);
-    ack2(s, &hs, 5, 2);
+    s = ack2(rt, s, &hs, 5, 1);
+    s = ack2(rt, s, &hs, 3, 1);
+    s = data(rt, s, &mut ws, &mut bs, 5, 0, b"");
+    s = full(rt, s, &mut hs, 5);
+    s = ack2(rt, s, &hs, 5, 1);
+    ack2(rt, s, &hs, 5, 2);
 }
 
-// A first drift of 0, a sample of 0, one of 1,000 after 999 of 0, one of 1,000,000 likewise, and a drift past the upper end.
-fn clocks() {
-    put(b"the clock: first drift, a sample, adjusted, unsteady, refusals 4 and 14\n");
+// A first drift of 0, a sample of 0, one of 1,000 after 999 of 0, one of 1,000,000 likewise, and a drift past the upper
+// end.
+fn clocks(rt: &impl Print) {
+    put(
+        rt,
+        b"the clock: first drift, a sample, adjusted, unsteady, refusals 4 and 14\n",
+    );
     let mut s = new(0, 0, 4);
-    s = clock(s, 0, 0);
-    s = clock(s, 0, 0);
-    s = clock(with_samples(s), 2000, 1000);
-    s = clock(with_samples(s), 2000, 4293969297);
-    s = clock(s, 1999, 0);
-    clock(with_far_reference(s), 2000, 2001);
+    s = clock(rt, s, 0, 0);
+    s = clock(rt, s, 0, 0);
+    s = clock(rt, with_samples(s), 2000, 1000);
+    s = clock(rt, with_samples(s), 2000, 4293969297);
+    s = clock(rt, s, 1999, 0);
+    clock(rt, with_far_reference(s), 2000, 2001);
 }
 
-fn uncounted() {
-    put(b"refusals 1 to 6\n");
+fn uncounted(rt: &impl Print) {
+    put(rt, b"refusals 1 to 6\n");
     let mut ws = slot_area();
     let mut bs = payload_area();
     let long = too_long();
     let s = new(10, 0, 4);
-    data(with_bad_latency(s), &mut ws, &mut bs, 10, 0, b"four");
-    data(new(10, 0, 5), &mut ws, &mut bs, 10, 0, b"four");
-    data(s, &mut ws, &mut bs, -1, 0, b"four");
-    data(s, &mut ws, &mut bs, 9, 0, b"four");
-    data(s, &mut ws, &mut bs, 10, 0x8000_0000, b"four");
-    data_long(s, &mut ws, &mut bs, &long);
+    data(rt, with_bad_latency(s), &mut ws, &mut bs, 10, 0, b"four");
+    data(rt, new(10, 0, 5), &mut ws, &mut bs, 10, 0, b"four");
+    data(rt, s, &mut ws, &mut bs, -1, 0, b"four");
+    data(rt, s, &mut ws, &mut bs, 9, 0, b"four");
+    data(rt, s, &mut ws, &mut bs, 10, 0x8000_0000, b"four");
+    data_long(rt, s, &mut ws, &mut bs, &long);
 }
 
 // A loss, a recovery, one given up, one before seqno0, an ACK2 that is not held: each of 4 bytes.
-fn over_the_end() {
-    put(b"counters past 2^64 - 1\n");
+fn over_the_end(rt: &impl Print) {
+    put(rt, b"counters past 2^64 - 1\n");
     let mut ws = slot_area();
     let mut bs = payload_area();
     let hs = history_area();
     let mut s = with_last_counts(new(0, 10, 4));
-    s = data(s, &mut ws, &mut bs, 0, 12, b"four");
-    s = data(s, &mut ws, &mut bs, 0, 10, b"four");
-    s = drop_request(s, &mut ws, 10, 12);
-    s = data(s, &mut ws, &mut bs, 0, 9, b"four");
-    s = ack2(s, &hs, 0, 5);
-    clock(with_samples(s), 2000, 1000);
+    s = data(rt, s, &mut ws, &mut bs, 0, 12, b"four");
+    s = data(rt, s, &mut ws, &mut bs, 0, 10, b"four");
+    s = drop_request(rt, s, &mut ws, 10, 12);
+    s = data(rt, s, &mut ws, &mut bs, 0, 9, b"four");
+    s = ack2(rt, s, &hs, 0, 5);
+    clock(rt, with_samples(s), 2000, 1000);
 }
 
-fn main() {
-    refusals();
-    losses();
-    late();
-    lights();
-    acks();
-    clocks();
-    uncounted();
-    over_the_end();
+fn main(rt: HostRuntime) {
+    refusals(&rt);
+    losses(&rt);
+    late(&rt);
+    lights(&rt);
+    acks(&rt);
+    clocks(&rt);
+    uncounted(&rt);
+    over_the_end(&rt);
 }

@@ -1,85 +1,88 @@
-// What the case programs write: values after a blank, as in 01's trace lines ("Trace, mark DLT").
+// What the case programs write: values after a blank, as in 01's trace lines ("Trace, mark DLT"). What comes is
+// compared with what must come, so a write that fails shows there and is let pass here.
 #![tactic(auto)]
-use libc::STDOUT_FILENO;
 
-pub fn put(text: &[u8]) {
-    io::write_all(STDOUT_FILENO, text);
+pub fn put(rt: &impl Print, text: &[u8]) {
+    let _ = rt.write_all(text);
 }
 
-pub fn put_count(n: u64) {
-    put(b" ");
-    io::print_decimal(STDOUT_FILENO, n);
+// A number in decimal, without a blank.
+pub fn put_decimal(rt: &impl Print, n: u64) {
+    let _ = rt.print(n);
 }
 
-pub fn put_word(n: u32) {
-    put_count(n as u64);
+pub fn put_count(rt: &impl Print, n: u64) {
+    put(rt, b" ");
+    put_decimal(rt, n);
 }
 
-pub fn put_number(z: i64) {
-    put(b" ");
+pub fn put_word(rt: &impl Print, n: u32) {
+    put_count(rt, n as u64);
+}
+
+pub fn put_number(rt: &impl Print, z: i64) {
+    put(rt, b" ");
     if z < 0 {
-        put(b"-");
+        put(rt, b"-");
     }
-    io::print_decimal(STDOUT_FILENO, numbers::instant::size(z));
+    put_decimal(rt, numbers::instant::size(z));
 }
 
-pub fn put_small(z: i32) {
-    put_number(z as i64);
+pub fn put_small(rt: &impl Print, z: i32) {
+    put_number(rt, z as i64);
 }
 
 // 1 if it holds.
-pub fn put_flag(flag: bool) {
+pub fn put_flag(rt: &impl Print, flag: bool) {
     if flag {
-        put(b" 1");
+        put(rt, b" 1");
     } else {
-        put(b" 0");
+        put(rt, b" 0");
     }
 }
 
-pub fn put_refused(n: u32) {
-    put(b"refused");
-    put_word(n);
-    put(b"\n");
+pub fn put_refused(rt: &impl Print, n: u32) {
+    put(rt, b"refused");
+    put_word(rt, n);
+    put(rt, b"\n");
 }
 
 // Refusal 8 has both of its numbers.
-pub fn put_early(room: usize, need: usize) {
-    put(b"refused 8");
-    put_count(room as u64);
-    put_count(need as u64);
-    put(b"\n");
+pub fn put_early(rt: &impl Print, room: usize, need: usize) {
+    put(rt, b"refused 8");
+    put_count(rt, room as u64);
+    put_count(rt, need as u64);
+    put(rt, b"\n");
 }
 
 // The first n words of a list.
-pub fn put_words(list: &[u32], n: usize) {
-    let mut i = 0;
-    while i < list.len() {
+pub fn put_words(rt: &impl Print, list: &[u32], n: usize) {
+    for (i, word) in list.iter().enumerate() {
         if i < n {
-            put_word(list[i]);
+            put_word(rt, *word);
         }
-        i += 1;
     }
 }
 
 // Bytes in brackets, and the end of the line.
-pub fn put_bytes(part: &[u8]) {
-    put(b"[");
-    put(part);
-    put(b"]\n");
+pub fn put_bytes(rt: &impl Print, part: &[u8]) {
+    put(rt, b"[");
+    put(rt, part);
+    put(rt, b"]\n");
 }
 
 // The first n bytes of an output, so.
-pub fn put_first(out: &[u8], n: usize) {
+pub fn put_first(rt: &impl Print, out: &[u8], n: usize) {
     if n <= out.len() {
-        put_bytes(&out[0..n]);
+        put_bytes(rt, &out[0..n]);
     }
 }
 
 // The end line of a trace, without the count of records.
-pub fn put_end(lrsn: u32, seqno0: u32, held: usize) {
-    put(b"end");
-    put_word(lrsn);
-    put_word(seqno0);
-    put_count(held as u64);
-    put(b"\n");
+pub fn put_end(rt: &impl Print, lrsn: u32, seqno0: u32, held: usize) {
+    put(rt, b"end");
+    put_word(rt, lrsn);
+    put_word(rt, seqno0);
+    put_count(rt, held as u64);
+    put(rt, b"\n");
 }

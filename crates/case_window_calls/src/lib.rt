@@ -1,5 +1,7 @@
-// One call of the window each, behind range tests of its own, with its answer in the words of 01's trace lines, without their numbers. For case_window.
+// One call of the window each, behind range tests of its own, with its answer in the words of 01's trace lines, without
+// their numbers. For case_window.
 #![tactic(auto)]
+
 ghost use Rattle.std.specs.Prelude.{◌≡◌};
 ghost use Rattle.window.specs.Window.{window_ok};
 ghost use Rattle.case_window_calls.specs.Tests.{words_ok, areas_ok, packet_ok};
@@ -188,83 +190,83 @@ fn try_drop(w: Window, words: &mut [u64], first: u32, last: u32) -> DropCall {
 
 // What is written.
 
-fn put_push(answer: PushAnswer) {
+fn put_push(rt: &impl Print, answer: PushAnswer) {
     match answer {
         PushAnswer::Got { lrsn, recovered } => {
-            put(b"got");
-            put_word(lrsn);
-            put_flag(recovered);
-            put(b"\n");
+            put(rt, b"got");
+            put_word(rt, lrsn);
+            put_flag(rt, recovered);
+            put(rt, b"\n");
         }
         PushAnswer::Loss { first, last } => {
-            put(b"loss");
-            put_word(first);
-            put_word(last);
-            put(b"\n");
+            put(rt, b"loss");
+            put_word(rt, first);
+            put_word(rt, last);
+            put(rt, b"\n");
         }
         PushAnswer::BufferFull => {
-            put_refused(7);
+            put_refused(rt, 7);
         }
         PushAnswer::PacketTooEarly { room, need } => {
-            put_early(room, need);
+            put_early(rt, room, need);
         }
         PushAnswer::PacketTooLate => {
-            put_refused(9);
+            put_refused(rt, 9);
         }
         PushAnswer::DiscardedDuplicate => {
-            put_refused(10);
+            put_refused(rt, 10);
         }
     }
 }
 
-fn put_pop(answer: PopAnswer, out: &[u8]) {
+fn put_pop(rt: &impl Print, answer: PopAnswer, out: &[u8]) {
     match answer {
         PopAnswer::Nothing => {
-            put(b"none\n");
+            put(rt, b"none\n");
         }
         PopAnswer::Message {
             time,
             bytes,
             packets,
         } => {
-            put(b"message");
-            put_number(time);
-            put_count(bytes as u64);
-            put_count(packets as u64);
-            put(b"\n");
-            put_first(out, bytes);
+            put(rt, b"message");
+            put_number(rt, time);
+            put_count(rt, bytes as u64);
+            put_count(rt, packets as u64);
+            put(rt, b"\n");
+            put_first(rt, out, bytes);
         }
         PopAnswer::Late { first, end, delay } => {
-            put(b"late");
-            put_word(first);
-            put_word(end);
-            put_small(delay);
-            put(b"\n");
+            put(rt, b"late");
+            put_word(rt, first);
+            put_word(rt, end);
+            put_small(rt, delay);
+            put(rt, b"\n");
         }
         PopAnswer::OutShort => {
-            put_refused(11);
+            put_refused(rt, 11);
         }
     }
 }
 
-fn put_report(answer: ReportAnswer, list: &[u32]) {
+fn put_report(rt: &impl Print, answer: ReportAnswer, list: &[u32]) {
     match answer {
         ReportAnswer::Nothing => {
-            put(b"none\n");
+            put(rt, b"none\n");
         }
         ReportAnswer::Report { words } => {
-            put(b"report");
-            put_words(list, words);
-            put(b"\n");
+            put(rt, b"report");
+            put_words(rt, list, words);
+            put(rt, b"\n");
         }
         ReportAnswer::ListShort => {
-            put_refused(12);
+            put_refused(rt, 12);
         }
     }
 }
 
-pub fn end(s: State) {
-    put_end(s.window.lrsn, s.window.seqno0, s.window.held);
+pub fn end(rt: &impl Print, s: State) {
+    put_end(rt, s.window.lrsn, s.window.seqno0, s.window.held);
 }
 
 // One call each, with its line; the state after it.
@@ -280,6 +282,7 @@ fn with_window(s: State, window: Window) -> State {
 }
 
 pub fn push(
+    rt: &impl Print,
     s: State,
     words: &mut [u64; 12],
     bytes: &mut [u8; 5824],
@@ -292,25 +295,32 @@ pub fn push(
     match called {
         PushCall::Done(pushed) => {
             let answer = pushed.answer;
-            put_push(answer);
+            put_push(rt, answer);
             let next = pushed.window;
             with_window(s, next)
         }
         PushCall::Refused(n) => {
-            put_refused(n);
+            put_refused(rt, n);
             s
         }
     }
 }
 
-fn pop_into(s: State, words: &[u64], bytes: &[u8], out: &mut [u8], time: i64) -> State {
+fn pop_into(
+    rt: &impl Print,
+    s: State,
+    words: &[u64],
+    bytes: &[u8],
+    out: &mut [u8],
+    time: i64,
+) -> State {
     let w = s.window;
     let clock = s.clock;
     let called = try_pop(w, clock, s.latency, s.dropping, words, bytes, out, time);
     match called {
         PopCall::Done(popped) => {
             let answer = popped.answer;
-            put_pop(answer, out);
+            put_pop(rt, answer, out);
             let window = popped.window;
             let clock = popped.clock;
             State {
@@ -321,91 +331,97 @@ fn pop_into(s: State, words: &[u64], bytes: &[u8], out: &mut [u8], time: i64) ->
             }
         }
         PopCall::Refused(n) => {
-            put_refused(n);
+            put_refused(rt, n);
             s
         }
     }
 }
 
 // The longest message here has 13 bytes.
-pub fn pop(s: State, words: &[u64; 12], bytes: &[u8; 5824], time: i64) -> State {
+pub fn pop(rt: &impl Print, s: State, words: &[u64; 12], bytes: &[u8; 5824], time: i64) -> State {
     let mut out = [0u8; 13];
-    pop_into(s, words, bytes, &mut out, time)
+    pop_into(rt, s, words, bytes, &mut out, time)
 }
 
-pub fn pop_short(s: State, words: &[u64; 12], bytes: &[u8; 5824], time: i64) -> State {
+pub fn pop_short(
+    rt: &impl Print,
+    s: State,
+    words: &[u64; 12],
+    bytes: &[u8; 5824],
+    time: i64,
+) -> State {
     let mut out = [0u8; 12];
-    pop_into(s, words, bytes, &mut out, time)
+    pop_into(rt, s, words, bytes, &mut out, time)
 }
 
 // A report changes words only, and so does a drop request. The mean is 10,000.
-fn report_into(s: State, words: &mut [u64], list: &mut [u32], time: i64) {
+fn report_into(rt: &impl Print, s: State, words: &mut [u64], list: &mut [u32], time: i64) {
     let w = s.window;
     let called = try_report(w, words, list, time, 10_000);
     match called {
         ReportCall::Done(answer) => {
-            put_report(answer, list);
+            put_report(rt, answer, list);
         }
         ReportCall::Refused(n) => {
-            put_refused(n);
+            put_refused(rt, n);
         }
     }
 }
 
 // No report here needs more than two words.
-pub fn report(s: State, words: &mut [u64; 12], time: i64) {
+pub fn report(rt: &impl Print, s: State, words: &mut [u64; 12], time: i64) {
     let mut list = [0u32; 2];
-    report_into(s, words, &mut list, time);
+    report_into(rt, s, words, &mut list, time);
 }
 
-pub fn report_short(s: State, words: &mut [u64; 12], time: i64) {
+pub fn report_short(rt: &impl Print, s: State, words: &mut [u64; 12], time: i64) {
     let mut list = [0u32; 1];
-    report_into(s, words, &mut list, time);
+    report_into(rt, s, words, &mut list, time);
 }
 
-pub fn drop_request(s: State, words: &mut [u64; 12], first: u32, last: u32) {
+pub fn drop_request(rt: &impl Print, s: State, words: &mut [u64; 12], first: u32, last: u32) {
     let w = s.window;
     let called = try_drop(w, words, first, last);
     match called {
         DropCall::Done(n) => {
-            put(b"gone");
-            put_count(n as u64);
-            put(b"\n");
+            put(rt, b"gone");
+            put_count(rt, n as u64);
+            put(rt, b"\n");
         }
         DropCall::Refused(n) => {
-            put_refused(n);
+            put_refused(rt, n);
         }
     }
 }
 
 // The second question first: whether the number is received. Then the part that is shown, its length and its bytes.
-fn show_tested(w: Window, words: &[u64], bytes: &[u8], number: u32)
+fn show_tested(rt: &impl Print, w: Window, words: &[u64], bytes: &[u8], number: u32)
     requires { Tested w words.now bytes.now }
 {
     let place = window::show::find(w, words, number);
     let shown = window::show::show(w, words, bytes, number);
-    put(b"shown");
-    put_flag(place.received);
-    put_count(shown.len() as u64);
-    put(b"\n");
-    put_bytes(shown);
+    put(rt, b"shown");
+    put_flag(rt, place.received);
+    put_count(rt, shown.len() as u64);
+    put(rt, b"\n");
+    put_bytes(rt, shown);
 }
 
-fn try_show(w: Window, words: &[u64], bytes: &[u8], number: u32) {
+fn try_show(rt: &impl Print, w: Window, words: &[u64], bytes: &[u8], number: u32) {
     if window_ok(w) {} else {
-        put_refused(1);
+        put_refused(rt, 1);
         return;
     }
     if areas_ok(w.capacity, words.len(), bytes.len()) {} else {
-        put_refused(2);
+        put_refused(rt, 2);
         return;
     }
-    show_tested(w, words, bytes, number);
+    show_tested(rt, w, words, bytes, number);
 }
 
-pub fn show(s: State, words: &[u64; 12], bytes: &[u8; 5824], number: u32) {
+pub fn show(rt: &impl Print, s: State, words: &[u64; 12], bytes: &[u8; 5824], number: u32) {
     let w = s.window;
-    try_show(w, words, bytes, number);
+    try_show(rt, w, words, bytes, number);
 }
 
 // The areas of capacity 4. They come from functions, so that no proof looks into them.

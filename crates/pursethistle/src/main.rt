@@ -1,7 +1,8 @@
 // The operator's program: a subcommand and its words. 01, "Trace, mark DLT", for replay.
 #![tactic(auto)]
-use libc::{STDERR_FILENO, STDOUT_FILENO};
-use replaying::same;
+
+use replaying::{same, word_at};
+use std::env::{Env, FillError};
 
 // What the first word asks for.
 #[derive(Drop)]
@@ -26,46 +27,56 @@ fn asked(w: &[u8]) -> Wish {
     Wish::Unknown
 }
 
-fn say(fd: i32, text: &[u8]) {
-    io::write_all(fd, text);
+// What cannot be written is let pass: there is nowhere to tell it.
+fn say(to: &impl Print, text: &[u8]) {
+    let _ = to.write_all(text);
 }
 
-fn help(fd: i32) {
-    say(fd, b"usage: pursethistle SUBCOMMAND [WORDS]\n\n");
-    say(fd, b"  replay [--counters] [FILE]\n");
+fn help(to: &impl Print) {
+    say(to, b"usage: pursethistle SUBCOMMAND [WORDS]\n\n");
+    say(to, b"  replay [--counters] [FILE]\n");
     say(
-        fd,
+        to,
         b"            replay a recorded trace (or standard input) and write a line for each record;\n",
     );
     say(
-        fd,
+        to,
         b"            --counters adds a line with the ten counters behind the end line\n",
     );
-    say(fd, b"  help      this page\n");
-    say(fd, b"  version   the version\n");
+    say(to, b"  help      this page\n");
+    say(to, b"  version   the version\n");
 }
 
-fn unknown(w: &[u8]) {
-    say(STDERR_FILENO, b"pursethistle: no subcommand '");
-    say(STDERR_FILENO, w);
-    say(STDERR_FILENO, b"'; 'pursethistle help' lists them\n");
+fn unknown(err: &impl Print, w: &[u8]) {
+    say(err, b"pursethistle: no subcommand '");
+    say(err, w);
+    say(err, b"'; 'pursethistle help' lists them\n");
 }
 
-fn answer(w: &[u8]) {
+fn answer(rt: &HostRuntime, w: &[u8]) {
     match asked(w) {
-        Wish::Replay => replaying::run_subcommand(),
-        Wish::Help => help(STDOUT_FILENO),
-        Wish::Version => say(STDOUT_FILENO, b"pursethistle 0.1, trace version 1\n"),
-        Wish::Unknown => unknown(w),
+        Wish::Replay => replaying::run_subcommand(rt),
+        Wish::Help => help(rt),
+        Wish::Version => say(rt, b"pursethistle 0.1, trace version 1\n"),
+        Wish::Unknown => unknown(&rt.stderr(), w),
     }
 }
 
-fn main() {
-    if os::arg_count() <= 1 {
-        help(STDERR_FILENO);
+// Whether any word follows the program's name.
+fn is_asked(rt: &HostRuntime) -> bool {
+    let mut word = [0u8; 1];
+    match rt.arg(1, &mut word) {
+        Err(FillError::NotPresent) => false,
+        _ => true,
+    }
+}
+
+fn main(rt: HostRuntime) {
+    if !is_asked(&rt) {
+        help(&rt.stderr());
         return;
     }
-    let mut word = io::buffer();
-    let length = os::arg(1, &mut word);
-    answer(&word[..length]);
+    let mut word = [0u8; 4096];
+    let length = word_at(&rt, 1, &mut word);
+    answer(&rt, &word[..length]);
 }

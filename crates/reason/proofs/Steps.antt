@@ -56,9 +56,9 @@ pub setting-refused : (start : ℤ) (latency : ℕ) (dropping : Bool) (first cap
 setting-refused start latency dropping first capacity h e q f = rw (le-ltb _ _ h, ← q, ← e, ne_eqb _ _ f)
 
 -- of_header
-pub bad-long : (xs : List ℕ) {r : HeaderRead} → r ≡ header_of xs → r ≡ headers.Bad → 24 ≤ length xs
+pub bad_long : (xs : List ℕ) {r : HeaderRead} → r ≡ header_of xs → r ≡ headers.Bad → 24 ≤ length xs
 unfolding header_of
-bad-long xs e f =
+bad_long xs e f =
     by-order (length xs) 24
     (λ l. absurd (let z : headers.Short ≡ headers.Bad = sym (e ∙ rw (lt-ltb _ _ l)) ∙ f in let o : ◌≡◌ {A = ℕ} 0 1 = cc in omega arith))
     (λ l. l)
@@ -122,11 +122,11 @@ wrong-some [] e = absurd (let z : ◌≡◌ {A = ℕ} 0 1 = cc in omega arith)
 wrong-some (x ∷ xs) e = omega arith
 
 module _ (xs : List ℕ) {r : RecordRead} (e : r ≡ record_of xs) where
-  pub bad-whole : r ≡ records.Bad → least_size (byte_at xs 0) ≤ length xs
-  bad-whole f = wrong-whole xs (sym e ∙ f)
+  pub bad_whole : r ≡ records.Bad → least_size (byte_at xs 0) ≤ length xs
+  bad_whole f = wrong-whole xs (sym e ∙ f)
 
-  pub bad-some : r ≡ records.Bad → 1 ≤ length xs
-  bad-some f = wrong-some xs (sym e ∙ f)
+  pub bad_some : r ≡ records.Bad → 1 ≤ length xs
+  bad_some f = wrong-some xs (sym e ∙ f)
 
   pub by-record : {s : RecordRead} {x : Reason} → r ≡ s → x ≡ record_reason_by xs s → x ≡ record_reason xs
   by-record f g = rw (← e, f) g
@@ -139,7 +139,7 @@ pub ruleset reads = (
   setting-wide,
   setting-none,
   setting-refused,
-  bad-long,
+  bad_long,
   header-short,
   header-form,
   header-setting,
@@ -151,8 +151,11 @@ pub ruleset reads = (
   wrong-kind,
   cut-none,
   cut-some,
-  bad-whole,
-  bad-some,
+  bad_whole,
+  bad_some,
   by-record,
   rules,
 )
+
+-- what a reading that is bad tells the code
+pub ruleset bad_reads = (bad_long, bad_whole, bad_some)

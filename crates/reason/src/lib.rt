@@ -1,6 +1,7 @@
-// Why a file is bad: what replay says on standard error beside the line `bad`. 01, "Trace, mark DLT". Each function asks again what the trace read, so that
-// the reason and the line cannot disagree.
+// Why a file is bad: what replay says on standard error beside the line `bad`. 01, "Trace, mark DLT". Each function
+// asks again what the trace read, so that the reason and the line cannot disagree.
 #![tactic(auto)]
+
 ghost use Rattle.std.specs.Prelude.{◌≡◌, ◌≤◌, length};
 ghost use Rattle.head.specs.Head.{made_of};
 ghost use Rattle.dlt.specs.Bytes.{byte_at};
@@ -31,6 +32,7 @@ pub enum Reason {
     Length { length: u16 },
 }
 
+#[tactic(auto, unfolding(crate::specs::Reason::is_marked))]
 fn is_marked(piece: &[u8]) -> bool
     requires { 24 ≤ length piece.now }
     ensures { result ≡ is_marked piece.now }
@@ -39,6 +41,7 @@ fn is_marked(piece: &[u8]) -> bool
 }
 
 // 24 bytes that are no header.
+#[tactic(auto, unfolding(crate::specs::Reason::form_reason))]
 fn form(piece: &[u8]) -> Reason
     requires { 24 ≤ length piece.now }
     ensures { result ≡ form_reason piece.now }
@@ -67,6 +70,7 @@ fn setting(start: i64, latency: u32, dropping: bool, first: u32, capacity: usize
 }
 
 // Of the bytes that a file starts with, when no more of them come.
+#[tactic(auto, using(crate::proofs::Steps::bad_reads))]
 pub fn of_header(piece: &[u8]) -> Reason
     ensures { result ≡ header_reason piece.now }
 {
@@ -83,6 +87,7 @@ pub fn of_header(piece: &[u8]) -> Reason
     }
 }
 
+#[tactic(auto, unfolding(crate::specs::Reason::need_in))]
 fn need(rest: &[u8]) -> usize
     requires { 1 ≤ length rest.now }
     ensures { result ≡ need_in rest.now }
@@ -97,6 +102,7 @@ fn need(rest: &[u8]) -> usize
     dlt::record::fixed(kind)
 }
 
+#[tactic(auto, unfolding(crate::specs::Reason::cut_reason))]
 fn cut(rest: &[u8]) -> Reason
     ensures { result ≡ cut_reason rest.now }
 {
@@ -109,6 +115,7 @@ fn cut(rest: &[u8]) -> Reason
     }
 }
 
+#[tactic(auto, unfolding(crate::specs::Reason::wrong_reason))]
 fn wrong(rest: &[u8]) -> Reason
     requires in_bounds { 1 ≤ length rest.now }
     requires rest_in_bounds { least_size (byte_at rest.now 0) ≤ length rest.now }
@@ -124,6 +131,7 @@ fn wrong(rest: &[u8]) -> Reason
 }
 
 // Of the bytes from a record on, when no more of them come.
+#[tactic(auto, using(crate::proofs::Steps::bad_reads))]
 pub fn of_record(rest: &[u8]) -> Reason
     ensures { result ≡ record_reason rest.now }
 {

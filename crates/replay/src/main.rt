@@ -1,5 +1,7 @@
-// replay [--counters] [FILE]: writes 01's lines for a trace to standard output, and the counters behind them if they are asked for. 01, "Trace, mark DLT".
+// replay [--counters] [FILE]: writes 01's lines for a trace to standard output, and the counters behind them if they
+// are asked for. 01, "Trace, mark DLT".
 #![tactic(auto)]
-fn main() {
-    replaying::run();
+
+fn main(rt: HostRuntime) {
+    replaying::run(&rt);
 }

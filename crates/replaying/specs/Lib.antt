@@ -1,3 +1,4 @@
--- What the steps of the loop that reads do, and when two words are the same.
+-- Numbers of bytes, what the steps of the loop that reads do, and when two words are the same.
+pub mod Counts
 pub mod Reads
 pub mod Same

@@ -1,17 +1,24 @@
-// Replaying a file: 01, "Trace, mark DLT". A file of any length is read in pieces into a fixed buffer, and each turn of the trace writes its line
-// behind the lines that are still to be written out. That the turns give together what the whole file gives is the trace's law `loop-whole`; no contract
-// can speak of what is read or written, so here the code only follows that loop.
+// Replaying a file: 01, "Trace, mark DLT". A file of any length is read in pieces into a fixed buffer, and each turn of
+// the trace writes its line behind the lines that are still to be written out. That the turns give together what the
+// whole file gives is the trace's law `loop-whole`; no contract can speak of what is read or written, so here the code
+// only follows that loop. What cannot be read or written is told on standard error; the program ends as after any other
+// file.
 #![tactic(auto)]
+
 ghost use Rattle.std.specs.Prelude.{◌≡◌, ◌-◌, ◌≤◌, length};
-ghost use Rattle.io.specs.Counts.{IsPrefixLen};
 ghost use Rattle.trace.specs.Lends.{slots_lent, payloads_lent, history_lent, list_lent};
+ghost use Rattle.replaying.specs.Counts.{IsPrefixLen};
 ghost use Rattle.replaying.specs.Reads.{wanting_of, filled_of, flushed_of};
 ghost use Rattle.replaying.specs.Same.{same_bytes};
 
-use libc::{STDERR_FILENO, STDIN_FILENO, STDOUT_FILENO};
+use std::env::{Env, FillError};
+use std::fs::File;
+use std::io;
+use std::io::Read;
 use trace::{Begun, Opened, Status, Trace, Turned};
 
-// The areas of capacity 32. With them no record is refused by 2, 11 or 12: the theorem `replay-areas`. An output has the length of the payloads.
+// The areas of capacity 32. With them no record is refused by 2, 11 or 12: the theorem `replay-areas`. An output has
+// the length of the payloads.
 fn slot_area() -> [u64; 96]
     ensures { slots_lent ≡ length result }
 {
@@ -36,6 +43,28 @@ fn loss_words() -> [u32; 64]
     [0; 64]
 }
 
+// The bytes at hand, and the lines that are still to be written out.
+fn large_buffer() -> [u8; 65536]
+    ensures { 65536 ≡ length result }
+{
+    [0; 65536]
+}
+
+// A word of the command line: no path is longer.
+fn word_buffer() -> [u8; 4096]
+    ensures { 4096 ≡ length result }
+{
+    [0; 4096]
+}
+
+// Where a replay reads and where it writes, and why the last of it failed.
+#[derive(Drop)]
+struct Ports<'a, R, P> {
+    input: &'a mut R,
+    output: &'a P,
+    failure: Option<io::Error>,
+}
+
 // What is to be done next.
 #[derive(Clone, Copy)]
 enum Want {
@@ -56,8 +85,8 @@ enum Want {
     Unwritten,
 }
 
-// Between two turns: the bytes at hand are those from `at` to `end` of the buffer, and `used` bytes of lines are still to be written out. `last`
-// says that the file has no more.
+// Between two turns: the bytes at hand are those from `at` to `end` of the buffer, and `used` bytes of lines are still
+// to be written out. `last` says that the file has no more.
 #[derive(Clone, Copy)]
 struct State {
     trace: Trace,
@@ -86,10 +115,8 @@ fn shift(hand: &mut [u8], at: usize, end: usize)
     requires at_le_end { at ≤ end }
     requires end_in_bounds { end ≤ length hand.old }
 {
-    let mut i = at;
-    while i < end {
+    for i in at..end {
         hand[i - at] = hand[i];
-        i += 1;
     }
 }
 
@@ -107,29 +134,44 @@ fn wanting(s: State, want: Want) -> State
     }
 }
 
-// What a read gave: the bytes at hand end here, and its answer.
+// What a read gave: the bytes at hand end here, and its answer, which is their number, or below 0 where it failed.
 #[derive(Clone, Copy)]
 struct Got {
     end: usize,
     answer: isize,
 }
 
+// One read into a part: the answer, as above, and the bytes of it that are there.
+fn read_into<R: Read, P>(ports: &mut Ports<'_, R, P>, part: &mut [u8]) -> isize {
+    match ports.input.read(part) {
+        Ok(n) => isize::try_from(n).unwrap_or(isize::MAX),
+        Err(e) => {
+            ports.failure = Some(e);
+            -1
+        }
+    }
+}
+
 // The bytes at hand go to the front, and one read behind them.
-fn read_behind(fd: i32, hand: &mut [u8], from: usize, to: usize) -> Got {
+fn read_behind<R: Read, P>(
+    ports: &mut Ports<'_, R, P>,
+    hand: &mut [u8],
+    from: usize,
+    to: usize,
+) -> Got {
     let end = within(to, hand);
     let at = least(from, end);
     shift(hand, at, end);
     let kept = end - at;
-    let part = &mut hand[kept..];
-    let answer = libc::read(fd, part);
-    let n = io::count(answer, part);
+    let answer = read_into(ports, &mut hand[kept..]);
     Got {
-        end: std::num::wrapping_add_usize(kept, n),
+        end: std::num::wrapping_add_usize(kept, usize::try_from(answer).unwrap_or(0)),
         answer,
     }
 }
 
 // A read that gave nothing is the end of the file, and no other is.
+#[tactic(auto, unfolding(crate::specs::Reads::filled_of))]
 fn filled(s: State, got: Got, want: Want) -> State
     ensures { result ≡ filled_of s got want }
 {
@@ -147,12 +189,19 @@ fn filled(s: State, got: Got, want: Want) -> State
     }
 }
 
-fn write_out(text: &[u8], used: usize) -> bool {
+fn write_out<R, P: Print>(ports: &mut Ports<'_, R, P>, text: &[u8], used: usize) -> bool {
     let n = within(used, text);
-    io::write_all(STDOUT_FILENO, &text[..n])
+    match ports.output.write_all(&text[..n]) {
+        Ok(()) => true,
+        Err(e) => {
+            ports.failure = Some(e);
+            false
+        }
+    }
 }
 
 // The lines were written out, or not.
+#[tactic(auto, unfolding(crate::specs::Reads::flushed_of))]
 fn flushed(s: State, done: bool, want: Want) -> State
     ensures { result ≡ flushed_of s done want }
 {
@@ -278,8 +327,8 @@ fn turn(
 }
 
 // What is wanted is done once.
-fn act(
-    fd: i32,
+fn act<R: Read, P: Print>(
+    ports: &mut Ports<'_, R, P>,
     words: &mut [u64],
     bytes: &mut [u8],
     area: &mut [u64],
@@ -299,9 +348,9 @@ fn act(
             turned(s, x)
         }
         Want::Header => open(hand, text, s),
-        Want::HeaderBytes => filled(s, read_behind(fd, hand, s.at, s.end), Want::Header),
-        Want::TurnBytes => filled(s, read_behind(fd, hand, s.at, s.end), Want::Turn),
-        Want::Room => flushed(s, write_out(text, s.used), Want::Turn),
+        Want::HeaderBytes => filled(s, read_behind(ports, hand, s.at, s.end), Want::Header),
+        Want::TurnBytes => filled(s, read_behind(ports, hand, s.at, s.end), Want::Turn),
+        Want::Room => flushed(s, write_out(ports, text, s.used), Want::Turn),
         _ => s,
     }
 }
@@ -340,8 +389,8 @@ struct Going {
     state: State,
 }
 
-fn once(
-    fd: i32,
+fn once<R: Read, P: Print>(
+    ports: &mut Ports<'_, R, P>,
     words: &mut [u64],
     bytes: &mut [u8],
     area: &mut [u64],
@@ -354,7 +403,7 @@ fn once(
     ensures { result.turns ≤ g.turns - 1 }
 {
     let before = g.state;
-    let state = act(fd, words, bytes, area, out, list, hand, text, before);
+    let state = act(ports, words, bytes, area, out, list, hand, text, before);
     let want = state.want;
     Going {
         turns: left(want, g.turns),
@@ -362,8 +411,8 @@ fn once(
     }
 }
 
-fn replay_all(
-    fd: i32,
+fn replay_all<R: Read, P: Print>(
+    ports: &mut Ports<'_, R, P>,
     words: &mut [u64],
     bytes: &mut [u8],
     area: &mut [u64],
@@ -378,7 +427,7 @@ fn replay_all(
         state: start,
     };
     while g.turns > 0 {
-        g = once(fd, words, bytes, area, out, list, hand, text, g);
+        g = once(ports, words, bytes, area, out, list, hand, text, g);
     }
     g.state
 }
@@ -396,63 +445,133 @@ fn fresh(counting: bool) -> State {
     }
 }
 
-fn write_rest(text: &[u8], used: usize) {
-    if write_out(text, used) {
+fn put(out: &impl Print, text: &[u8]) {
+    let _ = out.write_all(text);
+}
+
+// The words of a failure, without the system's number for it.
+fn without_number(text: &str) -> &str {
+    match text.split_once(" (os error ") {
+        Some((words, _)) => words,
+        None => text,
+    }
+}
+
+fn put_cause(rt: &HostRuntime, failure: io::Error) {
+    match failure.to_string(rt.alloc()) {
+        Ok(text) => put(&rt.stderr(), without_number(text.as_str()).as_bytes()),
+        Err(_) => {
+            let _ = rt.eprint(failure);
+        }
+    }
+}
+
+// A line on standard error: what failed, and why.
+fn fail(rt: &HostRuntime, what: &[u8], failure: io::Error) {
+    put(&rt.stderr(), what);
+    put(&rt.stderr(), b": ");
+    put_cause(rt, failure);
+    put(&rt.stderr(), b"\n");
+}
+
+// The same of what failed between the ports.
+fn fail_ports<R, P>(rt: &HostRuntime, ports: &Ports<'_, R, P>, what: &[u8]) {
+    if let Some(failure) = ports.failure {
+        fail(rt, what, failure);
+    }
+}
+
+fn write_rest<R, P: Print>(
+    rt: &HostRuntime,
+    ports: &mut Ports<'_, R, P>,
+    text: &[u8],
+    used: usize,
+) {
+    if write_out(ports, text, used) {
         return;
     }
-    os::fail(b"standard output");
+    fail_ports(rt, ports, b"standard output");
 }
 
 // Why the header is bad, and why the record at the cursor is: on standard error.
-fn tell_header(name: &[u8], hand: &[u8], to: usize) {
+fn tell_header(err: &impl Print, name: &[u8], hand: &[u8], to: usize) {
     let end = within(to, hand);
-    reason::tell::tell(name, 0, 0, reason::of_header(&hand[..end]));
+    reason::tell::tell(err, name, 0, 0, reason::of_header(&hand[..end]));
 }
 
-fn tell_record(name: &[u8], hand: &[u8], from: usize, to: usize, offset: u64, count: u64) {
+fn tell_record(
+    err: &impl Print,
+    name: &[u8],
+    hand: &[u8],
+    from: usize,
+    to: usize,
+    offset: u64,
+    count: u64,
+) {
     let end = within(to, hand);
     let at = least(from, end);
     let nth = std::num::wrapping_add_u64(count, 1);
-    reason::tell::tell(name, offset, nth, reason::of_record(&hand[at..end]));
+    reason::tell::tell(err, name, offset, nth, reason::of_record(&hand[at..end]));
 }
 
-fn tell(want: Want, name: &[u8], hand: &[u8], at: usize, end: usize, offset: u64, count: u64) {
+fn tell(
+    err: &impl Print,
+    want: Want,
+    name: &[u8],
+    hand: &[u8],
+    at: usize,
+    end: usize,
+    offset: u64,
+    count: u64,
+) {
     match want {
-        Want::BadHeader => tell_header(name, hand, end),
-        Want::BadRecord => tell_record(name, hand, at, end, offset, count),
+        Want::BadHeader => tell_header(err, name, hand, end),
+        Want::BadRecord => tell_record(err, name, hand, at, end, offset, count),
         _ => {}
     }
 }
 
-// The lines that are left, and what failed. errno is told before anything else can change it.
-fn finish(want: Want, text: &[u8], used: usize, name: &[u8]) {
+// The lines that are left, and what failed. A failure is told before another can take its place.
+fn finish<R, P: Print>(
+    rt: &HostRuntime,
+    ports: &mut Ports<'_, R, P>,
+    want: Want,
+    text: &[u8],
+    used: usize,
+    name: &[u8],
+) {
     match want {
-        Want::Unwritten => os::fail(b"standard output"),
+        Want::Unwritten => fail_ports(rt, ports, b"standard output"),
         Want::Unread => {
-            os::fail(name);
-            write_rest(text, used);
+            fail_ports(rt, ports, name);
+            write_rest(rt, ports, text, used);
         }
-        Want::Nothing => write_rest(text, used),
-        Want::BadHeader => write_rest(text, used),
-        Want::BadRecord => write_rest(text, used),
-        Want::Turn => write_rest(text, used),
-        Want::Header => write_rest(text, used),
-        Want::HeaderBytes => write_rest(text, used),
-        Want::TurnBytes => write_rest(text, used),
-        Want::Room => write_rest(text, used),
+        Want::Nothing => write_rest(rt, ports, text, used),
+        Want::BadHeader => write_rest(rt, ports, text, used),
+        Want::BadRecord => write_rest(rt, ports, text, used),
+        Want::Turn => write_rest(rt, ports, text, used),
+        Want::Header => write_rest(rt, ports, text, used),
+        Want::HeaderBytes => write_rest(rt, ports, text, used),
+        Want::TurnBytes => write_rest(rt, ports, text, used),
+        Want::Room => write_rest(rt, ports, text, used),
     }
 }
 
-fn replay_open(fd: i32, name: &[u8], counting: bool) {
+fn replay_open<R: Read>(rt: &HostRuntime, input: &mut R, name: &[u8], counting: bool) {
+    let mut ports = Ports {
+        input,
+        output: rt,
+        failure: None,
+    };
     let mut words = slot_area();
     let mut bytes = payload_area();
     let mut area = history_area();
     let mut out = payload_area();
     let mut list = loss_words();
-    let mut hand = io::large_buffer();
-    let mut text = io::large_buffer();
+    let mut hand = large_buffer();
+    let mut text = large_buffer();
     let s = replay_all(
-        fd,
+        &mut ports,
         &mut words,
         &mut bytes,
         &mut area,
@@ -464,40 +583,68 @@ fn replay_open(fd: i32, name: &[u8], counting: bool) {
     );
     let want = s.want;
     let trace = s.trace;
-    finish(want, &text, s.used, name);
-    tell(want, name, &hand, s.at, s.end, trace.offset, trace.count);
+    finish(rt, &mut ports, want, &text, s.used, name);
+    tell(
+        &rt.stderr(),
+        want,
+        name,
+        &hand,
+        s.at,
+        s.end,
+        trace.offset,
+        trace.count,
+    );
 }
 
 // A name of no letters is shown in quotes.
-fn fail_name(path: &[u8]) {
+fn fail_name(rt: &HostRuntime, path: &[u8], failure: io::Error) {
     if path.len() == 0 {
-        os::fail(b"''");
+        fail(rt, b"''", failure);
         return;
     }
-    os::fail(path);
+    fail(rt, path, failure);
 }
 
-fn replay_file(path: &[u8], counting: bool) {
-    let fd = os::open_read(path);
-    if fd < 0 {
-        fail_name(path);
-        return;
+// std takes the name of a file as text alone, so no other name can be opened.
+fn open_file(rt: &HostRuntime, path: &[u8]) -> io::Result<File> {
+    match str::from_utf8(path) {
+        Ok(name) => File::open(rt, name),
+        Err(_) => Err(io::Error::new(
+            io::ErrorKind::InvalidFilename,
+            "a name that is not UTF-8 cannot be opened; replay it from standard input",
+        )),
     }
-    replay_open(fd, path, counting);
-    libc::close(fd);
 }
 
-fn replay_argument(i: usize, counting: bool) {
-    let mut path = io::buffer();
-    let length = os::arg(i, &mut path);
-    if os::errno() != 0 {
-        os::fail(b"argument");
-        return;
+fn replay_file(rt: &HostRuntime, path: &[u8], counting: bool) {
+    match open_file(rt, path) {
+        Ok(mut file) => replay_open(rt, &mut file, path, counting),
+        Err(failure) => fail_name(rt, path, failure),
     }
-    replay_file(&path[..length], counting);
+}
+
+// The system's numbers for a word that is missing, and for one that is too long.
+const EINVAL: i32 = 22;
+
+const ENAMETOOLONG: i32 = 36;
+
+fn word_failure(e: FillError) -> io::Error {
+    match e {
+        FillError::NotPresent => io::Error::from_raw_os_error(EINVAL),
+        FillError::TooLong => io::Error::from_raw_os_error(ENAMETOOLONG),
+    }
+}
+
+fn replay_argument(rt: &HostRuntime, i: usize, counting: bool) {
+    let mut path = word_buffer();
+    match rt.arg(i, &mut path) {
+        Ok(length) => replay_file(rt, &path[..length], counting),
+        Err(e) => fail(rt, b"argument", word_failure(e)),
+    }
 }
 
 // Whether two words are the same.
+#[tactic(auto, using(crate::proofs::Sames::sames))]
 pub fn same(a: &[u8], b: &[u8]) -> bool
     ensures { result ≡ same_bytes a.now b.now }
 {
@@ -540,13 +687,35 @@ fn kind(w: &[u8]) -> Word {
     Word::Unknown
 }
 
-fn argument(i: usize) -> Word {
-    let mut w = io::buffer();
-    let length = os::arg(i, &mut w);
+// How many words the command line has, the program's name among them.
+fn word_count(rt: &HostRuntime) -> usize {
+    let mut word = word_buffer();
+    for i in 0..usize::MAX {
+        if let Err(FillError::NotPresent) = rt.arg(i, &mut word) {
+            return i;
+        }
+    }
+    usize::MAX
+}
+
+// Word i of the command line is put at the start of `word`, and is so long: 0 if it is missing or has no room there.
+pub fn word_at(rt: &HostRuntime, i: usize, word: &mut [u8]) -> usize
+    ensures { IsPrefixLen result word.new }
+{
+    match rt.arg(i, word) {
+        Ok(length) => length,
+        Err(_) => 0,
+    }
+}
+
+fn argument(rt: &HostRuntime, i: usize) -> Word {
+    let mut w = word_buffer();
+    let length = word_at(rt, i, &mut w);
     kind(&w[..length])
 }
 
-// What the words ask for: the file's place among them (0: standard input), how many name one, the counters, and whether all are understood.
+// What the words ask for: the file's place among them (0: standard input), how many name one, the counters, and whether
+// all are understood.
 #[derive(Clone, Copy)]
 struct Asked {
     file: usize,
@@ -555,9 +724,9 @@ struct Asked {
     known: bool,
 }
 
-fn asked_also(a: Asked, i: usize) -> Asked {
+fn asked_also(rt: &HostRuntime, a: Asked, i: usize) -> Asked {
     let mut next = a;
-    match argument(i) {
+    match argument(rt, i) {
         Word::Counters => next.counting = true,
         Word::Unknown => next.known = false,
         Word::Input => next.named = std::num::wrapping_add_usize(a.named, 1),
@@ -569,8 +738,8 @@ fn asked_also(a: Asked, i: usize) -> Asked {
     next
 }
 
-fn asked_from(first: usize) -> Asked {
-    let n = os::arg_count();
+fn asked_from(rt: &HostRuntime, first: usize) -> Asked {
+    let n = word_count(rt);
     let mut a = Asked {
         file: 0,
         named: 0,
@@ -578,61 +747,61 @@ fn asked_from(first: usize) -> Asked {
         known: true,
     };
     for i in first..n {
-        a = asked_also(a, i);
+        a = asked_also(rt, a, i);
     }
     a
 }
 
 // Replays what the words from the first on ask for.
-fn replay_from(first: usize, usage: &[u8]) {
-    let a = asked_from(first);
+fn replay_from(rt: &HostRuntime, first: usize, usage: &[u8]) {
+    let a = asked_from(rt, first);
     if !a.known | (1 < a.named) {
-        io::write_all(STDERR_FILENO, usage);
+        put(&rt.stderr(), usage);
         return;
     }
     if a.file == 0 {
-        replay_open(STDIN_FILENO, b"standard input", a.counting);
+        replay_open(rt, &mut rt.stdin(), b"standard input", a.counting);
         return;
     }
-    replay_argument(a.file, a.counting);
+    replay_argument(rt, a.file, a.counting);
 }
 
 // The program replay.
-pub fn run() {
-    replay_from(1, b"usage: replay [--counters] [FILE]\n");
+pub fn run(rt: &HostRuntime) {
+    replay_from(rt, 1, b"usage: replay [--counters] [FILE]\n");
 }
 
 // The subcommand replay: its words are behind it.
-pub fn run_subcommand() {
-    replay_from(2, b"usage: pursethistle replay [--counters] [FILE]\n");
+pub fn run_subcommand(rt: &HostRuntime) {
+    replay_from(rt, 2, b"usage: pursethistle replay [--counters] [FILE]\n");
 }
 
-fn write_name(i: usize) {
-    let mut path = io::buffer();
-    let length = os::arg(i, &mut path);
-    io::write_all(STDOUT_FILENO, &path[..length]);
-    io::write_all(STDOUT_FILENO, b"\n");
+fn write_name(rt: &HostRuntime, i: usize) {
+    let mut path = word_buffer();
+    let length = word_at(rt, i, &mut path);
+    put(rt, &path[..length]);
+    put(rt, b"\n");
 }
 
 // A file by its name, or the word that asks for counters from there on.
-fn each(i: usize, counting: bool) -> bool {
-    match argument(i) {
+fn each(rt: &HostRuntime, i: usize, counting: bool) -> bool {
+    match argument(rt, i) {
         Word::Counters => true,
         Word::Unknown => counting,
         Word::Input => counting,
         Word::File => {
-            write_name(i);
-            replay_argument(i, counting);
+            write_name(rt, i);
+            replay_argument(rt, i, counting);
             counting
         }
     }
 }
 
 // Replays each file that an argument names, after a line with the name: for the cases of the gate.
-pub fn run_each() {
-    let n = os::arg_count();
+pub fn run_each(rt: &HostRuntime) {
+    let n = word_count(rt);
     let mut counting = false;
     for i in 1..n {
-        counting = each(i, counting);
+        counting = each(rt, i, counting);
     }
 }

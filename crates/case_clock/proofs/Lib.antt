@@ -1,2 +1,0 @@
--- The laws that the proofs of this program hand to `search`.
-pub mod Steps
