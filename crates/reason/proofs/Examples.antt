@@ -4,7 +4,6 @@ use mathlib.Core.List.{List, [], ◌∷◌, ◌++◌}
 use Prim.Native.Nat.{ℕ}
 use lib.ListN.{replicate}
 use Rattle.numbers.specs.Circular as circular
-use Rattle.numbers.specs.Instants as instants
 use Rattle.dlt.specs.Bytes as bytes
 use Rattle.dlt.specs.Header as header
 use Rattle.dlt.specs.Record as records

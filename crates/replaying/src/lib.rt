@@ -141,7 +141,7 @@ struct Got {
     answer: isize,
 }
 
-// One read into a part: the answer, as above, and the bytes of it that are there.
+// One read into a part, and its answer, as above. Why it failed is kept.
 fn read_into<R: Read, P>(ports: &mut Ports<'_, R, P>, part: &mut [u8]) -> isize {
     match ports.input.read(part) {
         Ok(n) => isize::try_from(n).unwrap_or(isize::MAX),
