@@ -1,4 +1,4 @@
-/* The receiver of Pursethistle for C99 and C++: link target/staticlib/libexports.a, which `rt staticlib exports` writes.
+/* The receiver of Pursethistle for C99 and C++: link target/staticlib/libexports.a, which `tools/build library` leaves.
  * The rules are docs/01-scope.md ("01" below); times are microseconds.
  *
  * WHERE DATA IS LOST WITHOUT A WORD. Five things to get right. docs/COLLECTING.md has the reasons and the figures;

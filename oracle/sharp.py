@@ -88,6 +88,8 @@ def main(words):
     only = words[2] if len(words) > 2 else ""
     oracle = HERE / "target/release/oracle"
     missed = 0
+    if inprocess and "PURSETHISTLE_LIB" not in os.environ:
+        subprocess.run([HERE.parent / "tools/build", "library"], check=True)
     with tempfile.TemporaryDirectory() as folder:
         room = pathlib.Path(folder)
         shutil.copytree(HERE, room / "oracle", ignore=shutil.ignore_patterns("target", "sample"))

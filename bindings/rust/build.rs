@@ -1,4 +1,4 @@
-// Finds the static library: the archive that PURSETHISTLE_LIB names, else the one that `rt staticlib exports` leaves in the repository.
+// Finds the static library: the archive that PURSETHISTLE_LIB names, else the one that tools/build leaves in the repository.
 use std::path::{Path, PathBuf};
 use std::{env, fs, process};
 
@@ -18,7 +18,7 @@ fn archive() -> Result<PathBuf, String> {
     }
     // A file that is not there counts as changed, so the next build looks again.
     println!("cargo:rerun-if-changed={}", built.display());
-    Err("the static library is missing. Build it with `rt staticlib exports` at the repository's root, which leaves \
+    Err("the static library is missing. Build it with `tools/build library` at the repository's root, which leaves \
          target/staticlib/libexports.a, or name another archive in PURSETHISTLE_LIB"
         .into())
 }

@@ -32,7 +32,7 @@
 //!
 //! # Building
 //!
-//! The library has to be built first: `rt staticlib exports` at the repository's root, or name an archive in PURSETHISTLE_LIB.
+//! The library has to be built first: `tools/build library` at the repository's root, or name an archive in PURSETHISTLE_LIB.
 //! The crate and its examples, examples/collector.rs and long_pass.rs of the repository, need Rust 1.80 or later.
 //!
 //! # The worked example of the rules
