@@ -1,7 +1,9 @@
-# A wrong program may change several functions at once; its .edit then names each in a line '# refuses: CRATE::MODULE::FUNCTION'. Refused as a whole it would
-# also be if one of them were accepted, and rt tells no more than the first thing that it refused. So this makes each such edit in a copy of the crate and of
-# those below it, has `rt ci` prove that copy, where what did not change is not proved again, and looks for each function's own line in what it says.
-# Run it from the root of the repository after `rt ci`. The repository itself is only read, and the copies are removed.
+# A wrong program may change several functions at once; its .edit then names each in a line
+# '# refuses: CRATE::MODULE::FUNCTION'. Refused as a whole it would also be if one of them were accepted, and rt tells
+# no more than the first thing that it refused. So this makes each such edit in a copy of the crate and of those below
+# it, has `rt ci` prove that copy, where what did not change is not proved again, and looks for each function's own line
+# in what it says. Run it from the root of the repository after `rt ci`. The repository itself is only read, and the
+# copies are removed.
 import glob
 import os
 import re
@@ -28,7 +30,7 @@ def needed(name):
 
 
 def put(edit, folder):
-    """Makes the edit in the crate's folder, by rt's rules: each old text stands once in the file as the pairs before it left it."""
+    """Makes the edit in the crate's folder, by rt's rules: each old text stands once in the file as it is by then."""
     path = old = None
     for line in open(edit).read().split("\n"):
         if line.startswith("file: "):
@@ -49,7 +51,8 @@ def log_of(crate, edit):
         lines = needed(crate)
         for name in lines:
             # no wrong program is tried again there
-            shutil.copytree(f"crates/{name}", f"{room}/crates/{name}", ignore=shutil.ignore_patterns("out", "must-fail"))
+            left_out = shutil.ignore_patterns("out", "must-fail")
+            shutil.copytree(f"crates/{name}", f"{room}/crates/{name}", ignore=left_out)
         open(f"{room}/crates.txt", "w").write("".join(lines.values()))
         if os.path.exists("HANDLES"):
             shutil.copy("HANDLES", room)
@@ -58,8 +61,8 @@ def log_of(crate, edit):
         said = ""
         # `rt ci` asks for the layout first
         for words, folder in ((["rt", "fmt"], f"{room}/crates/{crate}"), (["rt", "ci"], room)):
-            ran = subprocess.run(words, cwd=folder, stdin=subprocess.DEVNULL, stdout=subprocess.PIPE, stderr=subprocess.STDOUT, text=True, errors="replace")
-            said += ran.stdout
+            how = {"stdin": subprocess.DEVNULL, "stdout": subprocess.PIPE, "stderr": subprocess.STDOUT}
+            said += subprocess.run(words, cwd=folder, text=True, errors="replace", **how).stdout
         return said
 
 
@@ -84,7 +87,8 @@ for edit in sorted(glob.glob("crates/*/must-fail/*.edit")):
         asked += 1
         if function not in verdicts or not by_itself(verdicts[function]):
             wrong += 1
-            print(f"{edit}: nothing refuses {function} by itself; its line: {verdicts.get(function, 'none that refuses it')}")
+            line = verdicts.get(function, "none that refuses it")
+            print(f"{edit}: nothing refuses {function} by itself; its line: {line}")
     if wrong > before and not verdicts:
         print("the last that rt said:", *log.splitlines()[-5:], sep="\n  ")
 print(f"refused.py: {asked} functions in compound wrong programs, {wrong} not refused")

@@ -1,4 +1,4 @@
-// The four calls that count, with the ten counters beside the head: 01, "Counters follow 003". Refusals 7 to 10 still count.
+// The four calls that count, with the ten counters beside the head: 01, "Counters follow 003".
 ghost use Rattle.std.specs.Prelude.{◌≡◌, [], ◌∷◌};
 ghost use Rattle.receiver.specs.Data.{packet};
 ghost use Rattle.exports.specs.Calls.{left, ack2_counted_of, clock_counted_of, data_counted_of, drop_counted_of};

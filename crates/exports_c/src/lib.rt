@@ -1,5 +1,5 @@
-// What C links: each function of exports under its name, with the same promise. The archive is built of this crate, since one crate is a library for
-// other crates or a static library for C, not both.
+// What C links: each function of exports once more, under its C name and with the same promise. A crate of its own,
+// since one crate is a library for other crates or a static library for C, not both.
 #![tactic(auto)]
 
 pub mod acking;

@@ -1,4 +1,4 @@
-// The drop request, clear and room: 01, "Window", with refusals 1, 2 and 5; 1; and 1. A drop request and the question of room have no head to write.
+// The drop request, clear and room: 01, "Window".
 ghost use Rattle.std.specs.Prelude.{◌≡◌, [], ◌∷◌};
 ghost use Rattle.exports.specs.Calls.{left, clear_export_of, drop_export_of, room_export_of};
 

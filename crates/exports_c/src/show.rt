@@ -1,4 +1,4 @@
-// Where a payload lies: 01, "Window", with refusals 1, 2 and 5. C has the payload area, so the answer is an offset and a length.
+// Where a payload lies: 01, "Window".
 ghost use Rattle.std.specs.Prelude.{◌≡◌, []};
 ghost use Rattle.exports.specs.Calls.{left, show_export_of};
 
