@@ -9,6 +9,7 @@ use borrow.Author.Tests.{ltb-true, leb-true, eqb-true, eqb-false, lt-ltb, le-leb
 use lib.Dec.{eqb, ltb, leb}
 use lib.IntN.{ℤ, pos, nat_abs}
 use lib.ListN.{length, get_or, set, length-set}
+use Rattle.std.specs.Prelude.{Option, Some, None, Result, Ok, Err, unwrap_or}
 use lib.Seq.{get_or-set_same, get_or-set_other}
 use Rattle.numbers.specs.Circular.{before, sum}
 use Rattle.numbers.specs.Instants.{read_by}
@@ -16,10 +17,9 @@ use Rattle.numbers.proofs.Flags.{and_left, and_right, by_bool, by-test}
 use Rattle.acks.specs.History.{ack_slot, number_at, departure_at, write_ack, fresh_history, none_due, newest_of, is_worn, leaving, next_ack, first_after, AckOutcome, grown, append_of, full_ack_of, with_largest, with_last, is_held, ack2_of, light_ack_of, cleared_of, history_ok}
 use Rattle.acks.specs.Ready.{HistoryReady}
 use Rattle.acks.specs.declared.history.History.{History}
+use Rattle.acks.specs.declared.history.Acked.{Acked}
+use Rattle.acks.specs.declared.history.FasnWorn.{FasnWorn}
 use Rattle.acks.specs.declared.history.Answered.{Answered}
-use Rattle.acks.specs.declared.history.Ack2Answer.{Ack2Answer}
-use Rattle.acks.specs.declared.history.Ack2Answer.TheVariants.{NotHeld, Held}
-use Rattle.acks.specs.declared.history.LightAcked.{LightAcked}
 use Rattle.acks.proofs.HistorySteps.{leaving-le, leaving-room}
 use Rattle.numbers.proofs.Signs.{since-under}
 
@@ -110,48 +110,75 @@ next_fits h r w =
     let v = eqb-false (newest_of h) 4294967295 u in
     rw t (omega (arith, v, r.newest)))
 
+-- what a call leaves is in range: the history of an ACK that is given, of an ACK that is held, with the r of it not negative
+abbrev AckedOk : Result (Option Acked) FasnWorn → Type 0
+AckedOk (Ok (Some k)) = history_ok k.history ≡ true
+AckedOk (Ok None) = Unit
+AckedOk (Err e) = Unit
+
+abbrev AnsweredOk : Option Answered → Type 0
+AnsweredOk (Some k) = history_ok k.history ≡ true
+AnsweredOk None = Unit
+
+abbrev Small : Option Answered → Type 0
+Small (Some k) = k.r < 2 ^ 31
+Small None = Unit
+
+abbrev LightOk : Option History → Type 0
+LightOk (Some k) = history_ok k ≡ true
+LightOk None = Unit
+
 -- each call keeps the ranges
 module _ (h : History) (e : history_ok h ≡ true) where
-  pub full-ack-kept : (a : List ℕ) (now : ℤ) (mean latency lrsn : ℕ) → lrsn < 2 ^ 31 → history_ok (full_ack_of h a now mean latency lrsn).acked.history ≡ true
+  pub full-ack-kept : (a : List ℕ) (now : ℤ) (mean latency lrsn : ℕ) {k : Acked} → lrsn < 2 ^ 31 → (full_ack_of h a now mean latency lrsn).acked ≡ Ok (Some k) → history_ok k.history ≡ true
   unfolding full_ack_of append_of
-  full-ack-kept a now mean latency lrsn k =
-      by-test (λ (o : AckOutcome). history_ok o.acked.history ≡ true) (none_due h a now mean lrsn) _ _
-      (λ t. e)
+  full-ack-kept a now mean latency lrsn l q =
+      subst AckedOk q
+      (by-test (λ (o : AckOutcome). AckedOk o.acked) (none_due h a now mean lrsn) _ _
+      (λ t. tt)
       (λ t.
-      by-test (λ (o : AckOutcome). history_ok o.acked.history ≡ true) (is_worn h) _ _
-      (λ u. e)
+      by-test (λ (o : AckOutcome). AckedOk o.acked) (is_worn h) _ _
+      (λ u. tt)
       (λ u.
       let r = history-ranges h e in
       let n = leaving a h.start h.count now (latency + 2 * mean) in
-      let l : n ≤ h.count - 1 = leaving-le a h.start h.count now (latency + 2 * mean) r.holds in
+      let m : n ≤ h.count - 1 = leaving-le a h.start h.count now (latency + 2 * mean) r.holds in
       history-ok (grown h n lrsn)
       (record {
         starts = mod-lt (h.start + n) (omega arith);
         holds = leaving-room a h.start h.count now (latency + 2 * mean) r.holds;
-        first = first-from h r n l;
-        fits = first_fits h r n l;
-        newest = rw (grown-newest h r n l lrsn) (next_fits h r u);
+        first = first-from h r n m;
+        fits = first_fits h r n m;
+        newest = rw (grown-newest h r n m lrsn) (next_fits h r u);
         largest = r.largest;
-        lastack = k;
-      })))
+        lastack = l;
+      }))))
 
-  pub ack2-kept : (a : List ℕ) (now : ℤ) (number : ℕ) → history_ok (ack2_of h a now number).history ≡ true
+  pub ack2-kept : (a : List ℕ) (now : ℤ) (number : ℕ) {k : Answered} → ack2_of h a now number ≡ Some k → history_ok k.history ≡ true
   unfolding ack2_of
-  ack2-kept a now number =
+  ack2-kept a now number q =
       let r = history-ranges h e in
-      by-test (λ (o : Answered). history_ok o.history ≡ true) (is_held h number) _ _
+      subst AnsweredOk q
+      (by-test AnsweredOk (is_held h number) _ _
       (λ t.
       history-ok (with_largest h (number_at a (ack_slot h.start (number - h.first))))
       (record { starts = r.starts; holds = r.holds; first = r.first; fits = r.fits; newest = r.newest; largest = omega arith; lastack = r.lastack }))
-      (λ t. e)
+      (λ t. tt))
 
-  pub light-ack-kept : (lrsn : ℕ) → lrsn < 2 ^ 31 → history_ok (light_ack_of h lrsn).history ≡ true
-  unfolding light_ack_of
-  light-ack-kept lrsn k =
+  with-last-kept : (lrsn : ℕ) → lrsn < 2 ^ 31 → history_ok (with_last h lrsn) ≡ true
+  with-last-kept lrsn l =
       let r = history-ranges h e in
-      by-test (λ (o : LightAcked). history_ok o.history ≡ true) (before 31 lrsn (sum 31 h.lastack 64)) _ _
-      (λ t. e)
-      (λ t. history-ok (with_last h lrsn) (record { starts = r.starts; holds = r.holds; first = r.first; fits = r.fits; newest = r.newest; largest = r.largest; lastack = k }))
+      history-ok (with_last h lrsn) (record { starts = r.starts; holds = r.holds; first = r.first; fits = r.fits; newest = r.newest; largest = r.largest; lastack = l })
+
+  pub light-ack-kept : (lrsn : ℕ) {k : History} → lrsn < 2 ^ 31 → light_ack_of h lrsn ≡ Some k → history_ok k ≡ true
+  unfolding light_ack_of
+  light-ack-kept lrsn l q = subst LightOk q (by-test LightOk (before 31 lrsn (sum 31 h.lastack 64)) _ _ (λ t. tt) (λ t. with-last-kept lrsn l))
+
+  -- the same of the history afterwards, whether or not a light ACK is due
+  pub after-light-kept : (lrsn : ℕ) → lrsn < 2 ^ 31 → history_ok (unwrap_or (light_ack_of h lrsn) h) ≡ true
+  unfolding light_ack_of
+  after-light-kept lrsn l =
+      by-test (λ (o : Option History). history_ok (unwrap_or o h) ≡ true) (before 31 lrsn (sum 31 h.lastack 64)) _ _ (λ t. e) (λ t. with-last-kept lrsn l)
 
   pub cleared-kept : (lrsn : ℕ) → lrsn < 2 ^ 31 → history_ok (cleared_of h lrsn) ≡ true
   unfolding cleared_of
@@ -161,15 +188,11 @@ module _ (h : History) (e : history_ok h ≡ true) where
       (record { starts = r.starts; holds = omega arith; first = r.first; fits = r.fits; newest = omega (arith, r.newest); largest = k; lastack = r.lastack })
 
 -- the r of an ACK2 is an interval that is not negative
-abbrev Small : Ack2Answer → Type 0
-Small NotHeld = Unit
-Small (Held r) = r < 2 ^ 31
-
-pub ack2-small : (h : History) (a : List ℕ) (now : ℤ) (number : ℕ) {r : ℕ} → (ack2_of h a now number).answer ≡ Held r → r < 2 ^ 31
+pub ack2-small : (h : History) (a : List ℕ) (now : ℤ) (number : ℕ) {k : Answered} → ack2_of h a now number ≡ Some k → k.r < 2 ^ 31
 unfolding ack2_of
 ack2-small h a now number e =
     subst Small e
-    (by-test (λ (o : Answered). Small o.answer) (is_held h number) _ _ (λ t. since-under now (departure_at a (ack_slot h.start (number - h.first)) now)) (λ t. tt))
+    (by-test Small (is_held h number) _ _ (λ t. since-under now (departure_at a (ack_slot h.start (number - h.first)) now)) (λ t. tt))
 
 -- an entry that is written is read back, and every other word stays
 module _ (a : List ℕ) (p n : ℕ) (d : ℤ) where

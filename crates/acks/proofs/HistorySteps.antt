@@ -10,34 +10,28 @@ use lib.Dec.{eqb, ltb, leb}
 use lib.IntN.{ℤ, pos, nat_abs, ◌+ℤ◌}
 use lib.ListN.{length, get_or, set, length-set}
 use lib.Signed.{lt_z}
+use Rattle.std.specs.Prelude.{Option, Some, None, Ok, Err}
+use Rattle.std.specs.Int.{int_min}
 use mir.Syntax.{w64}
 use mir.Val.{Fits, SFits, to_z}
 use mir.Facts.{to_z_pos}
 use Rattle.numbers.specs.Circular.{before, sum}
 use Rattle.numbers.specs.Instants.{read_by, since_time}
 use Rattle.numbers.proofs.Flags.{and-false, by-test, by-order}
-use Rattle.numbers.proofs.Halves.{above, below, apart, above-+, below-+, range, in-range, lt-true}
+use Rattle.numbers.proofs.Halves.{above, apart, above-+, below-+, range, in-range, lt-true}
 use Rattle.acks.specs.History.{ack_slot, number_at, departure_at, write_ack, fresh_history, is_recent, none_due, is_worn, is_expired, first_kept, leaving, next_ack, first_after, AckOutcome, ack_ended, append_of, full_ack_of, with_last, ack2_of, light_ack_of, cleared_of, history_ok}
 use Rattle.acks.specs.declared.history.History.{History}
-use Rattle.acks.specs.declared.history.AckAnswer.TheVariants.{Nothing, Worn, Ack}
 use Rattle.acks.specs.declared.history.Answered.{Answered}
-use Rattle.acks.specs.declared.history.Ack2Answer.TheVariants.{NotHeld, Held}
-use Rattle.acks.specs.declared.history.LightAcked.{LightAcked}
 
 -- departure_at: a word's low 60 bits as an instant
 pub departure-reads : (x : ℕ) → to_z w64 (x % 2 ^ 60) ≡ pos (x % 2 ^ 60)
 departure-reads x = to_z_pos w64 (omega arith)
 
-module _ (a : List ℕ) (p : ℕ) (now : ℤ) {n d : ℤ} (e : d ≡ pos (get_or a (2 * p + 1) 0 % 2 ^ 60)) where
-  pub reads_now : {n₁ : ℤ} → lt_z n d ≡ true → n ≡ now → n₁ ≡ now → n₁ ≡ departure_at a p now
-  unfolding departure_at
-  reads_now t q r = r ∙ rw (rw (q, e) at t)
+pub reads-departure : (a : List ℕ) (p : ℕ) (now : ℤ) {d : ℤ} → d ≡ int_min (to_z w64 (get_or a (2 * p + 1) 0 % 2 ^ 60)) now → d ≡ departure_at a p now
+unfolding departure_at
+reads-departure a p now e = e ∙ rw (departure-reads (get_or a (2 * p + 1) 0))
 
-  pub reads-departure : {d₁ : ℤ} → lt_z n d ≡ false → n ≡ now → d₁ ≡ d → d₁ ≡ departure_at a p now
-  unfolding departure_at
-  reads-departure t q r = r ∙ e ∙ rw (rw (q, e) at t)
-
-pub ruleset departures = (departure-reads, reads_now, reads-departure, rules)
+pub ruleset departures = (departure-reads, reads-departure, rules)
 
 -- write_ack
 pub writes : (a : List ℕ) (p n : ℕ) (now : ℤ) {d : ℕ} {z : ℤ} → d ≡ nat_abs z → z ≡ now → set (set a (2 * p) n) (2 * p + 1) d ≡ write_ack a p n now
@@ -79,34 +73,26 @@ module _ (a : List ℕ) (p wait : ℕ) (z : ℤ) {d d₁ w₁ : ℤ} (f : d ≡ 
 
 pub ruleset expiries = (wait-reads, expired-fits, expired-test, rules)
 
--- the loop of first_kept: a turn, its way out in the middle, its end; the loop has the time as the machine reads it back, m
-module _ (a : List ℕ) (start count : ℕ) (m : ℤ) (wait i : ℕ) {r : ℕ} (e : r ≡ first_kept a start m wait i (count - 1 - i)) where
-  module _ {b : Bool} {z : ℤ} (h : i + 1 < count) (f : b ≡ is_expired a (ack_slot start i) z wait) (y : z ≡ m) where
-    left : count - 1 - i ≡ suc (count - 1 - (i + 1))
+-- the loop of first_kept, over n entries: a turn, its way out in the middle, its end; the loop has the time as the machine reads it back, m
+module _ (a : List ℕ) (start n count : ℕ) (now m : ℤ) (wait i : ℕ) (e : first_kept a start m wait 0 n ≡ first_kept a start m wait i (n - i)) where
+  module _ {b : Bool} {z : ℤ} (h : i < n) (f : b ≡ is_expired a (ack_slot start i) z wait) (y : z ≡ m) where
+    left : n - i ≡ suc (n - (i + 1))
     left = omega arith
 
-    pub kept_again : b ≡ true → r ≡ first_kept a start m wait (i + 1) (count - 1 - (i + 1))
+    pub kept_again : b ≡ true → first_kept a start m wait 0 n ≡ first_kept a start m wait (i + 1) (n - (i + 1))
     unfolding first_kept
     kept_again g = let at_m = rw y at f in e ∙ rw left (rw (← at_m, g))
 
-    found : b ≡ false → i ≡ r
+    pub kept-found : m ≡ now → n ≡ count - 1 → b ≡ false → i ≡ first_kept a start now wait 0 (count - 1)
     unfolding first_kept
-    found g = let at_m = rw y at f in sym (e ∙ rw left (rw (← at_m, g)))
+    kept-found q j g = let at_m = rw y at f in sym (e ∙ rw left (rw (← at_m, g))) ∙ rw (q, j)
 
-  ended : count ≤ i + 1 → i ≡ r
+  pub kept-done : m ≡ now → n ≡ count - 1 → n ≤ i → i ≤ n → n ≡ first_kept a start now wait 0 (count - 1)
   unfolding first_kept
-  ended h = let z : count - 1 - i ≡ 0 = omega arith in sym (e ∙ rw z)
+  kept-done q j h k = let z : n - i ≡ 0 = omega arith in let l : n ≡ i = omega arith in l ∙ sym (e ∙ rw z) ∙ rw (q, j)
 
-module _ (a : List ℕ) (start count : ℕ) (now m : ℤ) (wait i : ℕ)
-    (e : first_kept a start m wait 0 (count - 1) ≡ first_kept a start m wait i (count - 1 - i)) (q : m ≡ now) where
-  pub kept-found : {b : Bool} {z : ℤ} → i + 1 < count → b ≡ is_expired a (ack_slot start i) z wait → z ≡ m → b ≡ false → i ≡ first_kept a start now wait 0 (count - 1)
-  kept-found h f y g = found a start count m wait i e h f y g ∙ rw q
-
-  pub kept-done : count ≤ i + 1 → i ≡ first_kept a start now wait 0 (count - 1)
-  kept-done h = ended a start count m wait i e h ∙ rw q
-
-pub kept-start : (a : List ℕ) (start count : ℕ) (now : ℤ) (wait : ℕ) → first_kept a start now wait 0 (count - 1) ≡ first_kept a start now wait 0 (count - 1 - 0)
-kept-start a start count now wait = let e : count - 1 - 0 ≡ count - 1 = omega arith in rw e
+pub kept-start : (a : List ℕ) (start n : ℕ) (now : ℤ) (wait : ℕ) → first_kept a start now wait 0 n ≡ first_kept a start now wait 0 (n - 0)
+kept-start a start n now wait = let e : n - 0 ≡ n = omega arith in rw e
 
 -- leaving
 pub kept-le : (a : List ℕ) (start : ℕ) (now : ℤ) (wait n i : ℕ) → first_kept a start now wait i n ≤ i + n
@@ -200,17 +186,17 @@ module _ (h : History) (a : List ℕ) (now : ℤ) (lrsn : ℕ) where
   pub appended : (wait : ℕ) {n number first : ℕ} {z z₁ : ℤ} {a₁ : List ℕ}
       → number ≡ next_ack h → n ≡ leaving a h.start h.count z wait → z ≡ now → first ≡ first_after h n
       → a₁ ≡ write_ack a (ack_slot (ack_slot h.start n) (h.count - n)) lrsn z₁ → z₁ ≡ now
-      → ack_ended (record { history = record { start = ack_slot h.start n; count = h.count - n + 1; first = first; largest = h.largest; lastack = lrsn }; answer = Ack number }) a₁ ≡ append_of h a now wait lrsn
+      → ack_ended (Ok (Some (record { history = record { start = ack_slot h.start n; count = h.count - n + 1; first = first; largest = h.largest; lastack = lrsn }; number = number }))) a₁ ≡ append_of h a now wait lrsn
   unfolding append_of
   appended wait e f q g i r = rw (i, r, g, f, q, e)
 
   module _ (mean latency : ℕ) {b : Bool} {z : ℤ} (e : b ≡ none_due h a z mean lrsn) (q : z ≡ now) where
-    pub ack-none : b ≡ true → ack_ended (record { history = h; answer = Nothing }) a ≡ full_ack_of h a now mean latency lrsn
+    pub ack-none : b ≡ true → ack_ended (Ok None) a ≡ full_ack_of h a now mean latency lrsn
     unfolding full_ack_of
     ack-none t = rw (← q, ← e, t)
 
     module _ {w : Bool} (t : b ≡ false) (f : w ≡ is_worn h) where
-      pub ack-worn : w ≡ true → ack_ended (record { history = h; answer = Worn }) a ≡ full_ack_of h a now mean latency lrsn
+      pub ack-worn : w ≡ true → ack_ended (Err (record {})) a ≡ full_ack_of h a now mean latency lrsn
       unfolding full_ack_of
       ack-worn u = rw (← q, ← e, t, ← f, u)
 
@@ -231,28 +217,28 @@ not-worn h e t f g =
 
 -- calculate_ack2
 module _ (h : History) (a : List ℕ) (now : ℤ) (number : ℕ) where
-  pub held_below : number < h.first → ◌≡◌ {A = Answered} (record { history = h; answer = NotHeld }) (ack2_of h a now number)
+  pub held_below : number < h.first → None ≡ ack2_of h a now number
   unfolding ack2_of
   held_below e = rw (lt-leb _ _ e)
 
-  pub held-above : h.first ≤ number → h.count ≤ number - h.first → ◌≡◌ {A = Answered} (record { history = h; answer = NotHeld }) (ack2_of h a now number)
+  pub held-above : h.first ≤ number → h.count ≤ number - h.first → None ≡ ack2_of h a now number
   unfolding ack2_of
   held-above e f = let g : h.first + h.count ≤ number = omega arith in rw (le-leb _ _ e, le-ltb _ _ g)
 
   pub held : {r l : ℕ} {z z₁ d d₁ : ℤ}
       → h.first ≤ number → number - h.first < h.count
       → d ≡ departure_at a (ack_slot h.start (number - h.first)) z → z ≡ now → r ≡ since_time z₁ d₁ → z₁ ≡ now → d₁ ≡ d → l ≡ number_at a (ack_slot h.start (number - h.first))
-      → ◌≡◌ {A = Answered} (record { history = record { start = h.start; count = h.count; first = h.first; largest = l; lastack = h.lastack }; answer = Held r }) (ack2_of h a now number)
+      → ◌≡◌ {A = Option Answered} (Some (record { history = record { start = h.start; count = h.count; first = h.first; largest = l; lastack = h.lastack }; r = r })) (ack2_of h a now number)
   unfolding ack2_of
   held e f i q j q₁ m k = let g : number < h.first + h.count = omega arith in rw (le-leb _ _ e, lt-ltb _ _ g, j, q₁, m, i, q, k)
 
 -- next_light_ack, clear, in_range
 module _ (h : History) (lrsn : ℕ) where
-  pub no-light : {s : ℕ} {b : Bool} → s ≡ sum 31 h.lastack 64 → b ≡ before 31 lrsn s → b ≡ true → ◌≡◌ {A = LightAcked} (record { history = h; light = false }) (light_ack_of h lrsn)
+  pub no-light : {s : ℕ} {b : Bool} → s ≡ sum 31 h.lastack 64 → b ≡ before 31 lrsn s → b ≡ true → None ≡ light_ack_of h lrsn
   unfolding light_ack_of
   no-light e f t = rw (← e, ← f, t)
 
-  pub lights : {s : ℕ} {b : Bool} → s ≡ sum 31 h.lastack 64 → b ≡ before 31 lrsn s → b ≡ false → ◌≡◌ {A = LightAcked} (record { history = with_last h lrsn; light = true }) (light_ack_of h lrsn)
+  pub lights : {s : ℕ} {b : Bool} → s ≡ sum 31 h.lastack 64 → b ≡ before 31 lrsn s → b ≡ false → Some (with_last h lrsn) ≡ light_ack_of h lrsn
   unfolding light_ack_of
   lights e f t = rw (← e, ← f, t)
 

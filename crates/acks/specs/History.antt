@@ -1,15 +1,13 @@
 -- The history of full ACKs: 01, "Head and lent areas" and "ACKs, RTT, rates".
-use Rattle.std.specs.Prelude.{Bool, true, false, ◌&&◌, ◌||◌, cond, List, ℕ, zero, suc, ◌+◌, ◌-◌, ◌*◌, ◌%◌, ◌^◌, eqb, ltb, leb, ℤ, pos, nat_abs, ◌+ℤ◌, get_or, set}
+use Rattle.std.specs.Prelude.{Bool, true, false, ◌&&◌, ◌||◌, cond, List, ℕ, zero, suc, ◌+◌, ◌-◌, ◌*◌, ◌%◌, ◌^◌, eqb, ltb, leb, ℤ, pos, nat_abs, ◌+ℤ◌, get_or, set, Option, Some, None, Result, Ok, Err}
 use Rattle.std.specs.Int.Signed.{lt_z}
 use Rattle.numbers.specs.Circular.{before, sum}
 use Rattle.numbers.specs.Ring.{place_in}
 use Rattle.numbers.specs.Instants.{read_by, since_time}
 use Rattle.acks.specs.declared.history.History.{History}
 use Rattle.acks.specs.declared.history.Acked.{Acked}
-use Rattle.acks.specs.declared.history.AckAnswer.TheVariants.{Nothing, Worn, Ack}
+use Rattle.acks.specs.declared.history.FasnWorn.{FasnWorn}
 use Rattle.acks.specs.declared.history.Answered.{Answered}
-use Rattle.acks.specs.declared.history.Ack2Answer.TheVariants.{NotHeld, Held}
-use Rattle.acks.specs.declared.history.LightAcked.{LightAcked}
 
 -- the history area has 2,048 words, two an entry, i at (start + i) mod 1,024
 abbrev pub ack_slot : ℕ → ℕ → ℕ
@@ -75,12 +73,12 @@ next_ack h = cond (eqb h.count 0) 1 (newest_of h + 1)
 unfoldable pub first_after : History → ℕ → ℕ
 first_after h n = cond (eqb h.count 0) 1 (h.first + n)
 
--- all that a full ACK leaves: the history and the answer, and the history area
+-- all that a full ACK leaves: its number with the history, or none, or that the history is worn; and the history area
 pub record AckOutcome : Type 0 where
-  pub acked : Acked
+  pub acked : Result (Option Acked) FasnWorn
   pub area : List ℕ
 
-abbrev pub ack_ended : Acked → List ℕ → AckOutcome
+abbrev pub ack_ended : Result (Option Acked) FasnWorn → List ℕ → AckOutcome
 ack_ended r a = record { acked = r; area = a }
 
 -- an entry leaving the front moves start on; the new one comes after the newest; a full ACK sets last_ack_dsn
@@ -97,13 +95,13 @@ grown h n lrsn =
 unfoldable pub append_of : History → List ℕ → ℤ → ℕ → ℕ → AckOutcome
 append_of h a now wait lrsn =
     let n = leaving a h.start h.count now wait in
-    ack_ended (record { history = grown h n lrsn; answer = Ack (next_ack h) })
+    ack_ended (Ok (Some (record { history = grown h n lrsn; number = next_ack h })))
     (write_ack a (ack_slot (ack_slot h.start n) (h.count - n)) lrsn now)
 
 unfoldable pub full_ack_of : History → List ℕ → ℤ → ℕ → ℕ → ℕ → AckOutcome
 full_ack_of h a now mean latency lrsn =
-    cond (none_due h a now mean lrsn) (ack_ended (record { history = h; answer = Nothing }) a)
-    (cond (is_worn h) (ack_ended (record { history = h; answer = Worn }) a)
+    cond (none_due h a now mean lrsn) (ack_ended (Ok None) a)
+    (cond (is_worn h) (ack_ended (Err (record {})) a)
     (append_of h a now (latency + 2 * mean) lrsn))
 
 -- the history with other sequence numbers
@@ -118,17 +116,14 @@ abbrev pub is_held : History → ℕ → Bool
 is_held h number = leb h.first number && ltb number (h.first + h.count)
 
 -- ACK2 of a held ACK sets largest_ack2_dsn to its number, even downwards (r: interval since departure)
-unfoldable pub ack2_of : History → List ℕ → ℤ → ℕ → Answered
+unfoldable pub ack2_of : History → List ℕ → ℤ → ℕ → Option Answered
 ack2_of h a now number =
     let p = ack_slot h.start (number - h.first) in
-    cond (is_held h number) (record { history = with_largest h (number_at a p); answer = Held (since_time now (departure_at a p now)) })
-    (record { history = h; answer = NotHeld })
+    cond (is_held h number) (Some (record { history = with_largest h (number_at a p); r = since_time now (departure_at a p now) })) None
 
 -- light ACK: lrsn at last_ack_dsn + 64 or after; it sets last_ack_dsn
-unfoldable pub light_ack_of : History → ℕ → LightAcked
-light_ack_of h lrsn =
-    cond (before 31 lrsn (sum 31 h.lastack 64)) (record { history = h; light = false })
-    (record { history = with_last h lrsn; light = true })
+unfoldable pub light_ack_of : History → ℕ → Option History
+light_ack_of h lrsn = cond (before 31 lrsn (sum 31 h.lastack 64)) None (Some (with_last h lrsn))
 
 -- clear only sets history count to 0 and largest_ack2_dsn to lrsn
 unfoldable pub cleared_of : History → ℕ → History

@@ -1,10 +1,12 @@
-// The history of full ACKs, history.rs: 01, "ACKs, RTT, rates". Its numbers are a value, its entries lie in a lent area of 2,048 words.
-ghost use Rattle.std.specs.Prelude.{◌≡◌, ◌+◌, ◌-◌, ◌*◌, ◌<◌, ◌≤◌, ◌^◌, length};
+// The history of full ACKs, history.rs: 01, "ACKs, RTT, rates". Its numbers are a value, its entries lie in a lent
+// area of 2,048 words.
+ghost use Rattle.std.specs.Prelude.{◌≡◌, ◌+◌, ◌-◌, ◌*◌, ◌<◌, ◌≤◌, ◌^◌, Ok, Some, length};
 ghost use Rattle.acks.specs.History.{number_at, departure_at, write_ack, fresh_history, is_recent, none_due, is_worn, is_expired, first_kept, leaving, next_ack, first_after, ack_ended, append_of, full_ack_of, ack2_of, light_ack_of, cleared_of, history_ok};
 ghost use Rattle.acks.specs.Ready.{HistoryReady};
 
-// Entry i, under count, has the ACK number first + i and lies at (start + i) mod 1,024. `largest` is largest_ack2_dsn, `lastack` last_ack_dsn.
-#[derive(Clone, Copy)]
+// Entry i, under count, has the ACK number first + i and lies at (start + i) mod 1,024. `largest` is largest_ack2_dsn,
+// `lastack` last_ack_dsn.
+#[derive(Clone, Copy, PartialEq, Eq, Debug)]
 pub struct History {
     pub start: usize,
     pub count: usize,
@@ -13,35 +15,22 @@ pub struct History {
     pub lastack: u32,
 }
 
-#[derive(Drop)]
-pub enum AckAnswer {
-    Nothing,
-    Worn,
-    Ack(u32),
-}
-
-#[derive(Drop)]
+// A full ACK that is given: the history after it, and its number.
+#[derive(Clone, Copy, PartialEq, Eq, Debug)]
 pub struct Acked {
     pub history: History,
-    pub answer: AckAnswer,
+    pub number: u32,
 }
 
-#[derive(Drop)]
-pub enum Ack2Answer {
-    NotHeld,
-    Held { r: u32 },
-}
+// No ACK number is left after the newest.
+#[derive(Clone, Copy, PartialEq, Eq, Debug)]
+pub struct FasnWorn;
 
-#[derive(Drop)]
+// The ACK2 of an ACK that is held: the history after it, and the interval since the ACK left.
+#[derive(Clone, Copy, PartialEq, Eq, Debug)]
 pub struct Answered {
     pub history: History,
-    pub answer: Ack2Answer,
-}
-
-#[derive(Drop)]
-pub struct LightAcked {
-    pub history: History,
-    pub light: bool,
+    pub r: u32,
 }
 
 // The data number of the entry at p.
@@ -60,10 +49,7 @@ fn departure_at(area: &[u64], p: usize, time: i64) -> i64
 {
     let i = 2 * p + 1;
     let departure = (area[i] % 0x1000_0000_0000_0000) as i64;
-    if time < departure {
-        return time;
-    }
-    departure
+    departure.min(time)
 }
 
 // Puts an entry at p; every other word stays.
@@ -72,9 +58,8 @@ fn write_ack(area: &mut [u64], p: usize, number: u32, time: i64)
     ensures { area.new ≡ write_ack area.old p number time }
 {
     let i = 2 * p;
-    let departure = numbers::instant::size(time);
     area[i] = number as u64;
-    area[i + 1] = departure;
+    area[i + 1] = time.unsigned_abs();
 }
 
 // Whether the newest entry, at p, is too recent for another ACK.
@@ -101,15 +86,13 @@ fn first_kept(area: &[u64], start: usize, count: usize, time: i64, wait: u64) ->
     requires { (start < 1024) × (count ≤ 1024) × (2048 ≤ length area.now) × (wait < 2 ^ 34) }
     ensures { result ≡ first_kept area.now start time wait 0 (count - 1) }
 {
-    let mut i = 0;
-    while i + 1 < count {
-        if is_expired(area, (start + i) % 1024, time, wait) {
-            i += 1;
-        } else {
+    let newest = count.saturating_sub(1);
+    for i in 0..newest {
+        if !is_expired(area, (start + i) % 1024, time, wait) {
             return i;
         }
     }
-    i
+    newest
 }
 
 // How many entries leave the front before one is appended.
@@ -118,10 +101,7 @@ fn leaving(area: &[u64], start: usize, count: usize, time: i64, wait: u64) -> us
     ensures { result ≡ leaving area.now start count time wait }
 {
     let gone = first_kept(area, start, count, time, wait);
-    if count - gone == 1024 {
-        return gone + 1;
-    }
-    gone
+    if count - gone == 1024 { gone + 1 } else { gone }
 }
 
 impl History {
@@ -190,7 +170,7 @@ impl History {
     // Removes what leaves the front, then appends an ACK of lrsn.
     fn append(self, area: &mut [u64], time: i64, wait: u64, lrsn: u32) -> Acked
         requires { HistoryReady self area.old × (wait < 2 ^ 34) × (self.first + self.count < 2 ^ 32) }
-        ensures { ack_ended result area.new ≡ append_of self area.old time wait lrsn }
+        ensures { ack_ended (Ok (Some result)) area.new ≡ append_of self area.old time wait lrsn }
     {
         let number = self.next_number();
         let n = leaving(area, self.start, self.count, time, wait);
@@ -203,14 +183,15 @@ impl History {
                 start,
                 count: left + 1,
                 first,
-                largest: self.largest,
                 lastack: lrsn,
+                ..self
             },
-            answer: AckAnswer::Ack(number),
+            number,
         }
     }
 
-    // A full ACK of lrsn, if one is due; the room is the caller's question. Whether it is due is asked before anything is removed.
+    // A full ACK of lrsn, if one is due; the room is the caller's question. Whether it is due is asked before anything
+    // is removed.
     pub fn next_full_ack(
         self,
         area: &mut [u64],
@@ -218,92 +199,64 @@ impl History {
         mean: u32,
         latency: u32,
         lrsn: u32,
-    ) -> Acked
+    ) -> Result<Option<Acked>, FasnWorn>
         requires { HistoryReady self area.old }
         ensures { ack_ended result area.new ≡ full_ack_of self area.old time mean latency lrsn }
     {
-        let wait = (latency as u64) + 2 * (mean as u64);
         if self.none_due(area, time, mean, lrsn) {
-            return Acked {
-                history: self,
-                answer: AckAnswer::Nothing,
-            };
+            return Ok(None);
         }
         if self.is_worn() {
-            return Acked {
-                history: self,
-                answer: AckAnswer::Worn,
-            };
+            return Err(FasnWorn);
         }
-        self.append(area, time, wait, lrsn)
+        let wait = (latency as u64) + 2 * (mean as u64);
+        Ok(Some(self.append(area, time, wait, lrsn)))
     }
 
     // The ACK2 of a full ACK: its data number, and the interval since it left.
-    pub fn calculate_ack2(self, area: &[u64], time: i64, number: u32) -> Answered
+    pub fn calculate_ack2(self, area: &[u64], time: i64, number: u32) -> Option<Answered>
         requires { HistoryReady self area.now }
         ensures { result ≡ ack2_of self area.now time number }
     {
         if number < self.first {
-            return Answered {
-                history: self,
-                answer: Ack2Answer::NotHeld,
-            };
+            return None;
         }
         let i = (number - self.first) as usize;
         if self.count <= i {
-            return Answered {
-                history: self,
-                answer: Ack2Answer::NotHeld,
-            };
+            return None;
         }
         let p = (self.start + i) % 1024;
-        let departure = departure_at(area, p, time);
-        let r = numbers::instant::since(time, departure);
-        let largest = number_at(area, p);
-        Answered {
+        let r = numbers::instant::since(time, departure_at(area, p, time));
+        Some(Answered {
             history: History {
-                start: self.start,
-                count: self.count,
-                first: self.first,
-                largest,
-                lastack: self.lastack,
+                largest: number_at(area, p),
+                ..self
             },
-            answer: Ack2Answer::Held { r },
-        }
+            r,
+        })
     }
 
-    // A light ACK of lrsn, if it is far enough past the last ACK.
-    pub fn next_light_ack(self, lrsn: u32) -> LightAcked
+    // A light ACK of lrsn, if it is far enough past the last ACK: the history after it.
+    pub fn next_light_ack(self, lrsn: u32) -> Option<Self>
         ensures { result ≡ light_ack_of self lrsn }
     {
         let at = numbers::seq::sum(self.lastack, History::LIGHT_ACK_PACKET_INTERVAL);
         if numbers::seq::is_before(lrsn, at) {
-            return LightAcked {
-                history: self,
-                light: false,
-            };
+            return None;
         }
-        LightAcked {
-            history: History {
-                start: self.start,
-                count: self.count,
-                first: self.first,
-                largest: self.largest,
-                lastack: lrsn,
-            },
-            light: true,
-        }
+        Some(History {
+            lastack: lrsn,
+            ..self
+        })
     }
 
     pub fn clear(self, lrsn: u32) -> Self
         ensures { result ≡ cleared_of self lrsn }
     {
         History {
-            start: self.start,
             count: 0,
-            first: self.first,
             largest: lrsn,
-            lastack: self.lastack,
+            ..self
         }
     }
 

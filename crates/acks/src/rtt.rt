@@ -1,18 +1,11 @@
 // The round trip's figures, rtt.rs: 01, "ACKs, RTT, rates".
 ghost use Rattle.std.specs.Prelude.{◌≡◌};
-ghost use Rattle.acks.specs.Rtt.{fresh_rtt, apart, updated, rtt_ok};
+ghost use Rattle.acks.specs.Rtt.{fresh_rtt, updated, rtt_ok};
 
-#[derive(Clone, Copy)]
+#[derive(Clone, Copy, PartialEq, Eq, Debug)]
 pub struct Rtt {
     pub mean: u32,
     pub variance: u32,
-}
-
-// |a - b|, with no sign on the way.
-fn apart(a: u64, b: u64) -> u64
-    ensures { result ≡ apart a b }
-{
-    if a < b { b - a } else { a - b }
 }
 
 impl Rtt {
@@ -36,7 +29,7 @@ impl Rtt {
         let sample = r as u64;
         let old = self.mean as u64;
         let mean = (7 * old + sample) / 8;
-        let off = apart(mean, sample);
+        let off = mean.abs_diff(sample);
         let variance = (3 * (self.variance as u64) + off) / 4;
         Rtt {
             mean: mean as u32,

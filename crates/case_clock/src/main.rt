@@ -4,69 +4,53 @@
 
 ghost use Rattle.std.specs.Prelude.{◌≤◌};
 
+use clock::base::DriftRange;
 use clock::time::{Step, Synchronized, SynchronizedRemoteClock};
 
-#[derive(Drop)]
-enum Called {
-    Done(Step),
-    Refused(u64),
+// The refusals of 01 that a clock call can meet here.
+// head, which has them all, does not stand below.
+#[derive(Clone, Copy, PartialEq, Eq, Debug)]
+enum Refused {
+    HeadBad,
+    ClockRange,
+    DriftRange,
+}
+
+impl Refused {
+    fn number(self) -> u32 {
+        match self {
+            Refused::HeadBad => 1,
+            Refused::ClockRange => 3,
+            Refused::DriftRange => 14,
+        }
+    }
+}
+
+impl From<DriftRange> for Refused {
+    fn from(_e: DriftRange) -> Refused {
+        Refused::DriftRange
+    }
 }
 
 // The clock call behind its two tests of range.
-fn call(clock: SynchronizedRemoteClock, now: i64, ts: u32) -> Called {
-    if clock.in_range() {
-        if numbers::instant::is_reading(now) {
-            return Called::Done(clock.synchronize(now, ts));
-        }
-        return Called::Refused(3);
+fn call(clock: SynchronizedRemoteClock, now: i64, ts: u32) -> Result<Step, Refused> {
+    if !clock.in_range() {
+        return Err(Refused::HeadBad);
     }
-    Called::Refused(1)
-}
-
-fn put_text(rt: &impl Print, text: &[u8]) {
-    let _ = rt.write_all(text);
-}
-
-fn put_number(rt: &impl Print, z: i32) {
-    put_text(rt, b" ");
-    if z < 0 {
-        put_text(rt, b"-");
+    if !numbers::instant::is_reading(now) {
+        return Err(Refused::ClockRange);
     }
-    let _ = rt.print(numbers::instant::size(z as i64));
-}
-
-fn put_count(rt: &impl Print, n: u32) {
-    put_text(rt, b" ");
-    let _ = rt.print(n);
-}
-
-fn put_refused(rt: &impl Print, n: u64) {
-    put_text(rt, b"refused ");
-    let _ = rt.print(n);
-    put_text(rt, b"\n");
+    Ok(clock.synchronize(now, ts)?)
 }
 
 fn put(rt: &impl Print, answer: Synchronized) {
-    match answer {
-        Synchronized::Nothing => {}
+    let _ = match answer {
+        Synchronized::Nothing => Ok(()),
         Synchronized::Adjusted { mean, deviation } => {
-            put_text(rt, b"adjusted");
-            put_number(rt, mean);
-            put_count(rt, deviation);
-            put_text(rt, b"\n");
+            println!(rt; "adjusted {mean} {deviation}")
         }
-        Synchronized::Unsteady {
-            deviation,
-            variance: _,
-        } => {
-            put_text(rt, b"unsteady");
-            put_count(rt, deviation);
-            put_text(rt, b"\n");
-        }
-        Synchronized::DriftRange => {
-            put_refused(rt, 14);
-        }
-    }
+        Synchronized::Unsteady { deviation, .. } => { println!(rt; "unsteady {deviation}") }
+    };
 }
 
 // One call; the clock after it.
@@ -76,26 +60,23 @@ fn go_on(
     now: i64,
     ts: u32,
 ) -> SynchronizedRemoteClock {
-    let called = call(clock, now, ts);
-    match called {
-        Called::Done(step) => {
-            let answer = step.answer;
-            put(rt, answer);
-            let next = step.clock;
-            next
+    match call(clock, now, ts) {
+        Ok(step) => {
+            put(rt, step.answer);
+            step.clock
         }
-        Called::Refused(n) => {
-            put_refused(rt, n);
+        Err(e) => {
+            let _ = println!(rt; "refused {}", e.number());
             clock
         }
     }
 }
 
 // `count` calls, 100 µs apart; each stamp lies `behind` the reading, and every second one `swing` behind that.
-fn run(rt: &impl Print, title: &[u8], behind: u32, swing: u32, count: u32)
+fn run(rt: &impl Print, title: &str, behind: u32, swing: u32, count: u32)
     requires { count ≤ 10000 }
 {
-    put_text(rt, title);
+    let _ = println!(rt; "{title}");
     let mut clock = SynchronizedRemoteClock::new(0);
     for i in 0..count {
         let n = i * 100;
@@ -110,29 +91,29 @@ fn run(rt: &impl Print, title: &[u8], behind: u32, swing: u32, count: u32)
 }
 
 fn main(rt: HostRuntime) {
-    run(&rt, b"no drift\n", 0, 0, 1001);
-    run(&rt, b"drifts 0 and 10\n", 0, 10, 1001);
-    run(&rt, b"drifts 0 and 10000\n", 0, 10000, 1001);
-    run(&rt, b"drifts 0 and 10002\n", 0, 10002, 1001);
+    run(&rt, "no drift", 0, 0, 1001);
+    run(&rt, "drifts 0 and 10", 0, 10, 1001);
+    run(&rt, "drifts 0 and 10000", 0, 10000, 1001);
+    run(&rt, "drifts 0 and 10002", 0, 10002, 1001);
     run(
         &rt,
-        b"a constant drift of 1000, which each adjustment doubles\n",
+        "a constant drift of 1000, which each adjustment doubles",
         1000,
         0,
         4001,
     );
-    put_text(&rt, b"a reading out of range, and one past it\n");
+    let _ = println!(&rt; "a reading out of range, and one past it");
     let clock = SynchronizedRemoteClock::new(0);
     let next = go_on(&rt, clock, -1, 0);
     go_on(&rt, next, 0x1000_0000_0000_0000, 0);
-    put_text(&rt, b"a head out of range\n");
+    let _ = println!(&rt; "a head out of range");
     go_on(
         &rt,
         SynchronizedRemoteClock::new(0x2000_0000_0000_0001),
         0,
         0,
     );
-    put_text(&rt, b"an adjusted reference past its range\n");
+    let _ = println!(&rt; "an adjusted reference past its range");
     go_on(
         &rt,
         SynchronizedRemoteClock::new(0x2000_0000_0000_0000),

@@ -1,88 +1,65 @@
-// What the case programs write: values after a blank, as in 01's trace lines ("Trace, mark DLT"). What comes is
-// compared with what must come, so a write that fails shows there and is let pass here.
+// What the case programs share: the answers that more than one of them writes, in the words of 01's trace lines. What
+// comes is compared with what must come, so a write that fails shows there and is let pass by its caller.
 #![tactic(auto)]
 
-pub fn put(rt: &impl Print, text: &[u8]) {
-    let _ = rt.write_all(text);
-}
+use std::fmt;
+use window_pop::pop::PopAnswer;
 
-// A number in decimal, without a blank.
-pub fn put_decimal(rt: &impl Print, n: u64) {
-    let _ = rt.print(n);
-}
+// Bytes in brackets, each an ASCII character.
+#[derive(Clone, Copy)]
+pub struct Bytes<'a>(pub &'a [u8]);
 
-pub fn put_count(rt: &impl Print, n: u64) {
-    put(rt, b" ");
-    put_decimal(rt, n);
-}
-
-pub fn put_word(rt: &impl Print, n: u32) {
-    put_count(rt, n as u64);
-}
-
-pub fn put_number(rt: &impl Print, z: i64) {
-    put(rt, b" ");
-    if z < 0 {
-        put(rt, b"-");
-    }
-    put_decimal(rt, numbers::instant::size(z));
-}
-
-pub fn put_small(rt: &impl Print, z: i32) {
-    put_number(rt, z as i64);
-}
-
-// 1 if it holds.
-pub fn put_flag(rt: &impl Print, flag: bool) {
-    if flag {
-        put(rt, b" 1");
-    } else {
-        put(rt, b" 0");
+impl fmt::Display for Bytes<'_> {
+    fn fmt<W: fmt::Write>(&self, f: &mut fmt::Formatter<W>) -> fmt::Result {
+        write!(f, "[")?;
+        for b in self.0 {
+            write!(f, "{}", *b as char)?;
+        }
+        write!(f, "]")
     }
 }
 
-pub fn put_refused(rt: &impl Print, n: u32) {
-    put(rt, b"refused");
-    put_word(rt, n);
-    put(rt, b"\n");
+// A pop's answer. A message is the first bytes of the output, after a gap.
+#[derive(Clone, Copy)]
+pub struct Pop<'a> {
+    pub answer: PopAnswer,
+    pub out: &'a [u8],
+    pub gap: char,
 }
 
-// Refusal 8 has both of its numbers.
-pub fn put_early(rt: &impl Print, room: usize, need: usize) {
-    put(rt, b"refused 8");
-    put_count(rt, room as u64);
-    put_count(rt, need as u64);
-    put(rt, b"\n");
-}
-
-// The first n words of a list.
-pub fn put_words(rt: &impl Print, list: &[u32], n: usize) {
-    for (i, word) in list.iter().enumerate() {
-        if i < n {
-            put_word(rt, *word);
+impl fmt::Display for Pop<'_> {
+    fn fmt<W: fmt::Write>(&self, f: &mut fmt::Formatter<W>) -> fmt::Result {
+        match self.answer {
+            PopAnswer::Nothing => write!(f, "none"),
+            PopAnswer::Message {
+                time,
+                bytes,
+                packets,
+            } => {
+                let message = Bytes(self.out.get(..bytes).unwrap_or(self.out));
+                write!(f, "message {time} {bytes} {packets}{}{message}", self.gap)
+            }
+            PopAnswer::Late { first, end, delay } => write!(f, "late {first} {end} {delay}"),
         }
     }
 }
 
-// Bytes in brackets, and the end of the line.
-pub fn put_bytes(rt: &impl Print, part: &[u8]) {
-    put(rt, b"[");
-    put(rt, part);
-    put(rt, b"]\n");
+// A loss report's answer: its words, the first of a list, each after a blank.
+#[derive(Clone, Copy)]
+pub struct Report<'a> {
+    pub words: Option<usize>,
+    pub list: &'a [u32],
 }
 
-// The first n bytes of an output, so.
-pub fn put_first(rt: &impl Print, out: &[u8], n: usize) {
-    if n <= out.len() {
-        put_bytes(rt, &out[0..n]);
+impl fmt::Display for Report<'_> {
+    fn fmt<W: fmt::Write>(&self, f: &mut fmt::Formatter<W>) -> fmt::Result {
+        let Some(n) = self.words else {
+            return write!(f, "none");
+        };
+        write!(f, "report")?;
+        for word in self.list.iter().take(n) {
+            write!(f, " {word}")?;
+        }
+        Ok(())
     }
-}
-
-// The end line of a trace, without the count of records.
-pub fn put_end(rt: &impl Print, lrsn: u32, seqno0: u32, held: usize) {
-    put(rt, b"end");
-    put_word(rt, lrsn);
-    put_word(rt, seqno0);
-    put_count(rt, held as u64);
-    put(rt, b"\n");
 }

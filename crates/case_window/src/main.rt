@@ -1,307 +1,175 @@
 // Scenarios of the window in capacity 4, call by call, worked out by hand: 01, "Window".
 #![tactic(auto)]
 
-use case_print::put;
-use case_window_calls::{
-    drop_request, end, fresh, longest, part, payload_area, pop, pop_short, push, report,
-    report_short, show, slot_area, too_long, whole,
-};
+use case_window_calls::{Case, part, whole};
+use std::array;
 
 fn worked_example(rt: &impl Print) {
-    put(
-        rt,
-        b"the worked example of 01, then pops until nothing is left\n",
-    );
-    let mut ws = slot_area();
-    let mut bs = payload_area();
-    let mut s = fresh(2147483646, 0, true);
-    s = push(
-        rt,
-        s,
-        &mut ws,
-        &mut bs,
-        1000,
-        whole(2147483646, 1, 0),
-        b"aaaaaaaaaa",
-    );
-    s = push(
-        rt,
-        s,
-        &mut ws,
-        &mut bs,
-        2000,
-        whole(0, 3, 1000),
-        b"bbbbbbbbbb",
-    );
-    s = push(
-        rt,
-        s,
-        &mut ws,
-        &mut bs,
-        3000,
-        whole(2147483647, 2, 500),
-        b"cccccccccc",
-    );
-    s = push(
-        rt,
-        s,
-        &mut ws,
-        &mut bs,
-        3100,
-        whole(0, 3, 1000),
-        b"dddddddddd",
-    );
-    s = pop(rt, s, &ws, &bs, 4000);
-    end(rt, s);
-    s = pop(rt, s, &ws, &bs, 4000);
-    s = pop(rt, s, &ws, &bs, 4000);
-    s = pop(rt, s, &ws, &bs, 4000);
-    end(rt, s);
+    let _ = println!(rt; "the worked example of 01, then pops until nothing is left");
+    let mut c = Case::new(rt, 2147483646, 0, true);
+    c.push(1000, whole(2147483646, 1, 0), b"aaaaaaaaaa");
+    c.push(2000, whole(0, 3, 1000), b"bbbbbbbbbb");
+    c.push(3000, whole(2147483647, 2, 500), b"cccccccccc");
+    c.push(3100, whole(0, 3, 1000), b"dddddddddd");
+    c.pop(4000);
+    c.end();
+    c.pop(4000);
+    c.pop(4000);
+    c.pop(4000);
+    c.end();
 }
 
 fn full_early_late(rt: &impl Print) {
-    put(rt, b"refusals 7, 8, 9 and 10\n");
-    let mut ws = slot_area();
-    let mut bs = payload_area();
-    let mut s = fresh(0, 0, true);
-    s = push(rt, s, &mut ws, &mut bs, 0, whole(0, 0, 0), b"zero");
-    s = push(rt, s, &mut ws, &mut bs, 0, whole(3, 3, 3), b"three");
-    s = push(rt, s, &mut ws, &mut bs, 0, whole(4, 4, 4), b"four");
-    s = push(rt, s, &mut ws, &mut bs, 0, whole(5, 5, 5), b"five");
-    s = pop(rt, s, &ws, &bs, 0);
-    s = push(rt, s, &mut ws, &mut bs, 0, whole(0, 0, 0), b"zero");
-    s = push(rt, s, &mut ws, &mut bs, 0, whole(5, 5, 5), b"five");
-    s = push(rt, s, &mut ws, &mut bs, 0, whole(4, 4, 4), b"four");
-    s = push(rt, s, &mut ws, &mut bs, 0, whole(3, 3, 3), b"again");
-    end(rt, s);
+    let _ = println!(rt; "refusals 7, 8, 9 and 10");
+    let mut c = Case::new(rt, 0, 0, true);
+    c.push(0, whole(0, 0, 0), b"zero");
+    c.push(0, whole(3, 3, 3), b"three");
+    c.push(0, whole(4, 4, 4), b"four");
+    c.push(0, whole(5, 5, 5), b"five");
+    c.pop(0);
+    c.push(0, whole(0, 0, 0), b"zero");
+    c.push(0, whole(5, 5, 5), b"five");
+    c.push(0, whole(4, 4, 4), b"four");
+    c.push(0, whole(3, 3, 3), b"again");
+    c.end();
 }
 
 fn ties(rt: &impl Print) {
-    put(
-        rt,
-        b"a number 2^30 after the next is before it, one nearer is too early\n",
-    );
-    let mut ws = slot_area();
-    let mut bs = payload_area();
-    let mut s = fresh(0, 0, true);
-    s = push(rt, s, &mut ws, &mut bs, 0, whole(1073741824, 0, 0), b"tie");
-    s = push(
-        rt,
-        s,
-        &mut ws,
-        &mut bs,
-        0,
-        whole(1073741823, 0, 0),
-        b"early",
-    );
-    s = push(rt, s, &mut ws, &mut bs, 0, whole(4, 0, 0), b"early");
-    s = push(rt, s, &mut ws, &mut bs, 0, whole(3, 0, 0), b"fits");
-    end(rt, s);
+    let _ = println!(rt; "a number 2^30 after the next is before it, one nearer is too early");
+    let mut c = Case::new(rt, 0, 0, true);
+    c.push(0, whole(1073741824, 0, 0), b"tie");
+    c.push(0, whole(1073741823, 0, 0), b"early");
+    c.push(0, whole(4, 0, 0), b"early");
+    c.push(0, whole(3, 0, 0), b"fits");
+    c.end();
 }
 
 fn three_packets(rt: &impl Print) {
-    put(
-        rt,
-        b"a message of three packets, and an output one byte short of it\n",
-    );
-    let mut ws = slot_area();
-    let mut bs = payload_area();
-    let mut s = fresh(2147483647, 0, true);
-    s = push(
-        rt,
-        s,
-        &mut ws,
-        &mut bs,
-        0,
-        part(2147483647, 7, 2, 10),
-        b"one ",
-    );
-    s = push(rt, s, &mut ws, &mut bs, 100, part(1, 7, 1, 30), b"three");
-    s = pop(rt, s, &ws, &bs, 200);
-    s = push(rt, s, &mut ws, &mut bs, 300, part(0, 7, 0, 20), b"two ");
-    s = pop_short(rt, s, &ws, &bs, 400);
-    s = pop(rt, s, &ws, &bs, 400);
-    end(rt, s);
+    let _ = println!(rt; "a message of three packets, and an output one byte short of it");
+    let mut c = Case::new(rt, 2147483647, 0, true);
+    c.push(0, part(2147483647, 7, 2, 10), b"one ");
+    c.push(100, part(1, 7, 1, 30), b"three");
+    c.pop(200);
+    c.push(300, part(0, 7, 0, 20), b"two ");
+    c.pop_short(400);
+    c.pop(400);
+    c.end();
 }
 
 fn release_times(rt: &impl Print) {
-    put(
-        rt,
-        b"a message at its time + latency, and one released no earlier than the last\n",
+    let _ = println!(rt;
+        "a message at its time + latency, and one released no earlier than the last"
     );
-    let mut ws = slot_area();
-    let mut bs = payload_area();
-    let mut s = fresh(0, 500, true);
-    s = push(rt, s, &mut ws, &mut bs, 0, whole(0, 1, 1000), b"later");
-    s = pop(rt, s, &ws, &bs, 1499);
-    s = pop(rt, s, &ws, &bs, 1500);
-    s = push(rt, s, &mut ws, &mut bs, 1600, whole(1, 2, 400), b"early");
-    s = pop(rt, s, &ws, &bs, 1600);
-    end(rt, s);
+    let mut c = Case::new(rt, 0, 500, true);
+    c.push(0, whole(0, 1, 1000), b"later");
+    c.pop(1499);
+    c.pop(1500);
+    c.push(1600, whole(1, 2, 400), b"early");
+    c.pop(1600);
+    c.end();
 }
 
 fn late_edge(rt: &impl Print) {
-    put(rt, b"P7 and P8: behind a lost packet, kept, then late\n");
-    let mut ws = slot_area();
-    let mut bs = payload_area();
-    let mut s = fresh(0, 100_000, true);
-    s = push(
-        rt,
-        s,
-        &mut ws,
-        &mut bs,
-        100_000,
-        whole(1, 1, 100_000),
-        b"one",
-    );
-    s = pop(rt, s, &ws, &bs, 204_999);
-    s = pop(rt, s, &ws, &bs, 205_000);
-    end(rt, s);
+    let _ = println!(rt; "P7 and P8: behind a lost packet, kept, then late");
+    let mut c = Case::new(rt, 0, 100_000, true);
+    c.push(100_000, whole(1, 1, 100_000), b"one");
+    c.pop(204_999);
+    c.pop(205_000);
+    c.end();
 }
 
 fn late_front(rt: &impl Print) {
-    put(rt, b"P7 and P8: with FIRST in front and no LAST\n");
-    let mut ws = slot_area();
-    let mut bs = payload_area();
-    let mut s = fresh(0, 100_000, true);
-    s = push(
-        rt,
-        s,
-        &mut ws,
-        &mut bs,
-        100_000,
-        part(0, 1, 2, 100_000),
-        b"one",
-    );
-    s = pop(rt, s, &ws, &bs, 204_999);
-    s = pop(rt, s, &ws, &bs, 205_000);
-    end(rt, s);
+    let _ = println!(rt; "P7 and P8: with FIRST in front and no LAST");
+    let mut c = Case::new(rt, 0, 100_000, true);
+    c.push(100_000, part(0, 1, 2, 100_000), b"one");
+    c.pop(204_999);
+    c.pop(205_000);
+    c.end();
 }
 
 fn late_before_due(rt: &impl Print) {
-    put(rt, b"A36: a packet without FIRST, late before it is due\n");
-    let mut ws = slot_area();
-    let mut bs = payload_area();
-    let mut s = fresh(0, 100, true);
-    s = push(rt, s, &mut ws, &mut bs, 0, part(1, 0, 1, 50), b"");
-    s = pop(rt, s, &ws, &bs, 0);
-    end(rt, s);
+    let _ = println!(rt; "A36: a packet without FIRST, late before it is due");
+    let mut c = Case::new(rt, 0, 100, true);
+    c.push(0, part(1, 0, 1, 50), b"");
+    c.pop(0);
+    c.end();
 }
 
 fn no_dropping(rt: &impl Print) {
-    put(rt, b"late dropping off\n");
-    let mut ws = slot_area();
-    let mut bs = payload_area();
-    let mut s = fresh(0, 100_000, false);
-    s = push(
-        rt,
-        s,
-        &mut ws,
-        &mut bs,
-        100_000,
-        whole(1, 1, 100_000),
-        b"one",
-    );
-    s = pop(rt, s, &ws, &bs, 205_000);
-    end(rt, s);
+    let _ = println!(rt; "late dropping off");
+    let mut c = Case::new(rt, 0, 100_000, false);
+    c.push(100_000, whole(1, 1, 100_000), b"one");
+    c.pop(205_000);
+    c.end();
 }
 
 fn report_edges(rt: &impl Print) {
-    put(rt, b"P3 to P6: mean 10,000, a loss at 0\n");
-    let mut ws = slot_area();
-    let mut bs = payload_area();
-    let mut s = fresh(5, 0, true);
-    s = push(rt, s, &mut ws, &mut bs, 0, whole(6, 1, 0), b"six");
-    report(rt, s, &mut ws, 20_000);
-    report(rt, s, &mut ws, 20_001);
-    report(rt, s, &mut ws, 50_001);
-    report(rt, s, &mut ws, 50_002);
+    let _ = println!(rt; "P3 to P6: mean 10,000, a loss at 0");
+    let mut c = Case::new(rt, 5, 0, true);
+    c.push(0, whole(6, 1, 0), b"six");
+    c.report(20_000);
+    c.report(20_001);
+    c.report(50_001);
+    c.report(50_002);
 }
 
 fn report_run(rt: &impl Print) {
-    put(rt, b"a run across the wrap, first in a list of one word\n");
-    let mut ws = slot_area();
-    let mut bs = payload_area();
-    let mut s = fresh(2147483647, 0, true);
-    s = push(rt, s, &mut ws, &mut bs, 0, whole(1, 1, 0), b"one");
-    report_short(rt, s, &mut ws, 20_001);
-    report(rt, s, &mut ws, 20_001);
-    report(rt, s, &mut ws, 20_001);
+    let _ = println!(rt; "a run across the wrap, first in a list of one word");
+    let mut c = Case::new(rt, 2147483647, 0, true);
+    c.push(0, whole(1, 1, 0), b"one");
+    c.report_short(20_001);
+    c.report(20_001);
+    c.report(20_001);
 }
 
 fn report_apart(rt: &impl Print) {
-    put(rt, b"two losses, each in its own time, then both\n");
-    let mut ws = slot_area();
-    let mut bs = payload_area();
-    let mut s = fresh(10, 0, true);
-    s = push(rt, s, &mut ws, &mut bs, 0, whole(11, 1, 0), b"eleven");
-    s = push(rt, s, &mut ws, &mut bs, 5_000, whole(13, 1, 0), b"thirteen");
-    report(rt, s, &mut ws, 20_001);
-    report(rt, s, &mut ws, 25_001);
-    report(rt, s, &mut ws, 55_002);
+    let _ = println!(rt; "two losses, each in its own time, then both");
+    let mut c = Case::new(rt, 10, 0, true);
+    c.push(0, whole(11, 1, 0), b"eleven");
+    c.push(5_000, whole(13, 1, 0), b"thirteen");
+    c.report(20_001);
+    c.report(25_001);
+    c.report(55_002);
 }
 
 fn given_up(rt: &impl Print) {
-    put(
-        rt,
-        b"a drop request: its packets are refused, not reported, and walked over\n",
-    );
-    let mut ws = slot_area();
-    let mut bs = payload_area();
-    let mut s = fresh(0, 0, true);
-    s = push(rt, s, &mut ws, &mut bs, 0, whole(3, 3, 25_001), b"three");
-    drop_request(rt, s, &mut ws, 2, 0);
-    drop_request(rt, s, &mut ws, 0, 1);
-    drop_request(rt, s, &mut ws, 0, 1);
-    s = push(rt, s, &mut ws, &mut bs, 100, whole(1, 1, 0), b"one");
-    report(rt, s, &mut ws, 20_001);
-    s = push(rt, s, &mut ws, &mut bs, 20_100, whole(2, 2, 25_000), b"two");
-    s = pop(rt, s, &ws, &bs, 30_000);
-    end(rt, s);
-    s = pop(rt, s, &ws, &bs, 30_000);
-    end(rt, s);
+    let _ = println!(rt; "a drop request: its packets are refused, not reported, and walked over");
+    let mut c = Case::new(rt, 0, 0, true);
+    c.push(0, whole(3, 3, 25_001), b"three");
+    c.drop_request(2, 0);
+    c.drop_request(0, 1);
+    c.drop_request(0, 1);
+    c.push(100, whole(1, 1, 0), b"one");
+    c.report(20_001);
+    c.push(20_100, whole(2, 2, 25_000), b"two");
+    c.pop(30_000);
+    c.end();
+    c.pop(30_000);
+    c.end();
 }
 
 fn shows(rt: &impl Print) {
-    put(
-        rt,
-        b"numbers shown: received, lost, received and empty, not held\n",
-    );
-    let mut ws = slot_area();
-    let mut bs = payload_area();
-    let mut s = fresh(0, 0, true);
-    s = push(rt, s, &mut ws, &mut bs, 0, whole(0, 0, 0), b"hello");
-    s = push(rt, s, &mut ws, &mut bs, 0, whole(2, 2, 0), b"");
-    show(rt, s, &ws, &bs, 0);
-    show(rt, s, &ws, &bs, 1);
-    show(rt, s, &ws, &bs, 2);
-    show(rt, s, &ws, &bs, 3);
+    let _ = println!(rt; "numbers shown: received, lost, received and empty, not held");
+    let mut c = Case::new(rt, 0, 0, true);
+    c.push(0, whole(0, 0, 0), b"hello");
+    c.push(0, whole(2, 2, 0), b"");
+    c.show(0);
+    c.show(1);
+    c.show(2);
+    c.show(3);
 }
 
 fn out_of_range(rt: &impl Print) {
-    put(
-        rt,
-        b"the range tests: refusals 6, 5, 3 and 1, and the longest payload\n",
-    );
-    let mut ws = slot_area();
-    let mut bs = payload_area();
-    let mut s = fresh(0, 65_535_001, true);
-    let more = too_long();
-    s = push(rt, s, &mut ws, &mut bs, 0, whole(0, 0, 0), &more);
-    let most = longest();
-    s = push(rt, s, &mut ws, &mut bs, 0, whole(0, 0, 0), &most);
-    s = push(rt, s, &mut ws, &mut bs, 0, whole(0x8000_0000, 0, 0), b"");
-    s = push(
-        rt,
-        s,
-        &mut ws,
-        &mut bs,
-        0x1000_0000_0000_0000,
-        whole(1, 0, 0),
-        b"",
-    );
-    s = pop(rt, s, &ws, &bs, 0);
-    end(rt, s);
+    let _ = println!(rt; "the range tests: refusals 6, 5, 3 and 1, and the longest payload");
+    let mut c = Case::new(rt, 0, 65_535_001, true);
+    let more: [u8; 1457] = array::repeat(b'x');
+    c.push(0, whole(0, 0, 0), &more);
+    let most: [u8; 1456] = array::repeat(b'x');
+    c.push(0, whole(0, 0, 0), &most);
+    c.push(0, whole(0x8000_0000, 0, 0), b"");
+    c.push(0x1000_0000_0000_0000, whole(1, 0, 0), b"");
+    c.pop(0);
+    c.end();
 }
 
 fn main(rt: HostRuntime) {

@@ -16,7 +16,7 @@ use Rattle.clock.specs.Ranges.{clock_ok}
 use Rattle.clock.proofs.Ranges.{ready}
 use Rattle.clock.specs.declared.time.SynchronizedRemoteClock.{SynchronizedRemoteClock}
 use Rattle.window.specs.Window.{window_ok}
-use Rattle.window.specs.Ready.{Good, Bytes, PacketRight}
+use Rattle.window.specs.Ready.{Good, PacketRight}
 use Rattle.window.specs.declared.Window.{Window}
 use Rattle.window.specs.declared.push.Packet.{Packet}
 use Rattle.window.proofs.Ranges.{in_window}
@@ -61,9 +61,9 @@ pub reading-by : (z : ℤ) {b : Bool} → b ≡ is_reading z → b ≡ true → 
 reading-by z p e = sym p ∙ e
 
 pub pop-by : {k : SynchronizedRemoteClock} {latency : ℕ} {w : Window} {ws bs : List ℕ} {now : ℤ} {a b : Bool}
-    → Good w ws → Bytes w bs → latency ≤ 65535000 → a ≡ clock_ok k → a ≡ true → b ≡ is_reading now → b ≡ true → PopReady k latency w ws bs now
-pop-by {k} {latency} {w} {ws} {bs} {now} g h l p e q f =
+    → Tested w ws bs → latency ≤ 65535000 → a ≡ clock_ok k → a ≡ true → b ≡ is_reading now → b ≡ true → PopReady k latency w ws bs now
+pop-by {k} {latency} {w} {ws} {bs} {now} t l p e q f =
     let r = ready k now (sym p ∙ e) (sym q ∙ f) in
-    record { good = g; payloads = h; reference = r.reference; reading = r.reading; setting = l }
+    record { good = t.good; payloads = t.payloads; reference = r.reference; reading = r.reading; setting = l }
 
 pub ruleset steps = (widens, good-by, tested-by, right_by, reading-by, pop-by, rules)

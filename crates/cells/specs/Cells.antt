@@ -1,14 +1,14 @@
 -- An answer as ten numbers of 64 bits: what 01 writes of it ("Trace, mark DLT"), for a caller that does not read text.
 -- Cell 0 is the word's code, cells 1 to 8 the values in order, and cell 9 an f64's bits. The refusal's number stands beside the cells.
-use Rattle.std.specs.Prelude.{cond, List, [], ◌∷◌, ◌++◌, ℕ, zero, suc, eqb, ℤ, pos, negsuc, Float}
+use Rattle.std.specs.Prelude.{Bool, true, false, List, [], ◌∷◌, ◌++◌, ℕ, zero, suc, ℤ, pos, negsuc, Float, Option, Some, None, Result, Ok, Err}
 use Rattle.std.specs.Float.{binary64}
 use Rattle.std.specs.Float.Ieee.{to_bits}
 use Rattle.numbers.specs.Circular.{signed, wrap}
-use Rattle.feedback.specs.declared.loss.LossAnswer.{LossAnswer}
-use Rattle.feedback.specs.declared.loss.LossAnswer.TheVariants as losses
-use Rattle.upkeep.specs.declared.show.ShowAnswer.{ShowAnswer}
-use Rattle.upkeep.specs.declared.show.ShowAnswer.TheVariants as shows
-use Rattle.head.specs.Paper.{Word, got, light, loss, refused, message, late, report, ack, rtt, gone, adjusted, unsteady, clear, none, made, room, received, other, Value, whole, dash, plain, Line, said, refused_by}
+use Rattle.window.specs.declared.show.Part.{Part}
+use Rattle.head.specs.Rules.{number_of}
+use Rattle.head.specs.declared.refusal.Refusal.{Refusal}
+use Rattle.head.specs.declared.state.Head.{Head}
+use Rattle.head.specs.Paper.{Word, got, light, loss, refused, message, late, report, ack, rtt, gone, adjusted, unsteady, clear, none, made, room, received, other, Value, whole, dash, plain, Line, said, refused_line}
 
 -- a word's code is its place among the words
 abbrev pub code_of : Word → ℕ
@@ -54,27 +54,43 @@ exact_cell (x ∷ xs) = cell (pos (to_bits binary64 x))
 abbrev pub cells_of : Line → List ℤ
 cells_of l = pos (code_of l.word) ∷ padded 8 l.values ++ exact_cell l.exact ∷ []
 
--- a report with the count of its words in their place: they are the first of the lent list
-abbrev pub count_line : LossAnswer → Line
-count_line losses.Nothing = said none []
-count_line (losses.Report words) = said report (plain words ∷ [])
-count_line (losses.Refused n) = refused_by n []
+-- the number of an answer's refusal, 0 for none
+abbrev pub refusal_of : {A : Type 0} → Result A Refusal → ℕ
+refusal_of (Ok a) = 0
+refusal_of (Err e) = number_of e
 
-abbrev pub loss_cells : LossAnswer → List ℤ
+-- an answer's line by the line of what is no refusal
+abbrev pub answer_line : {A : Type 0} → (A → Line) → Result A Refusal → Line
+answer_line f (Ok a) = f a
+answer_line f (Err e) = refused_line e
+
+-- a report with the count of its words in their place: they are the first of the lent list
+abbrev pub count_line : Result (Option ℕ) Refusal → Line
+count_line (Ok None) = said none []
+count_line (Ok (Some words)) = said report (plain words ∷ [])
+count_line (Err e) = refused_line e
+
+abbrev pub loss_cells : Result (Option ℕ) Refusal → List ℤ
 loss_cells a = cells_of (count_line a)
 
 -- a payload that is there with its place in the payload area: where it begins, and its length
-abbrev pub place_line : ShowAnswer → ℕ → ℕ → Line
-place_line shows.Received at len = said received (plain at ∷ plain len ∷ [])
-place_line shows.Other at len = said other []
-place_line (shows.Refused n) at len = refused_by n []
+abbrev pub place_line : Result Bool Refusal → ℕ → ℕ → Line
+place_line (Ok true) at len = said received (plain at ∷ plain len ∷ [])
+place_line (Ok false) at len = said other []
+place_line (Err e) at len = refused_line e
 
-abbrev pub shown_cells : ShowAnswer → ℕ → ℕ → List ℤ
+abbrev pub shown_cells : Result Bool Refusal → ℕ → ℕ → List ℤ
 shown_cells a at len = cells_of (place_line a at len)
 
--- making answers a head, or its refusal
-abbrev pub making_line : ℕ → Line
-making_line n = cond (eqb n 0) (said made []) (refused_by n [])
+-- the line of a part that is there, or of none
+abbrev pub part_line : Option Part → Line
+part_line (Some p) = place_line (Ok true) p.at p.len
+part_line None = place_line (Ok false) 0 0
 
-abbrev pub made_cells : ℕ → List ℤ
-made_cells n = cells_of (making_line n)
+-- making answers a head, or its refusal
+abbrev pub making_line : Result Head Refusal → Line
+making_line (Ok h) = said made []
+making_line (Err e) = refused_line e
+
+abbrev pub made_cells : Result Head Refusal → List ℤ
+made_cells a = cells_of (making_line a)

@@ -2,7 +2,7 @@
 use Rattle.std.proofs.Common.{◌≡◌, ℕ, ◌-◌, ◌*◌, ◌^◌, true, false, ℤ, pos, negsuc, refl, lit<, lit≤}
 use lib.Ieee.{nan, inf, fin, round, of_int, add, sub, mul, div, to_unsigned, to_signed}
 use Rattle.numbers.specs.Circular.{distance, signed, difference, wrap}
-use Rattle.numbers.specs.declared.instant.Moment.TheVariants.{Unset}
+use Rattle.std.specs.Prelude.{None, Ok, Err}
 use Rattle.clock.specs.Base.{fresh_base, instant_of, stamp_of, drift_of, shifted, moved, adjusted}
 use Rattle.clock.specs.Root.{root}
 use Rattle.clock.specs.Samples.{no_samples, distance_of, mean_with, squares_with, sampled, variance_of, deviation_of, truncated_of}
@@ -19,7 +19,7 @@ abbrev base : ℤ → ℕ → TimeBase
 base t s = record { time = t; stamp = s }
 
 abbrev clock : TimeBase → OnlineStats → SynchronizedRemoteClock
-clock b s = record { base = b; last = Unset; seen = true; stats = s }
+clock b s = record { base = b; last = None; seen = true; stats = s }
 
 -- a stamp a turn ahead of the reference's is a microsecond before it
 behind : instant_of (base (pos 1000) 0) 4294967295 ≡ pos 999
@@ -42,28 +42,28 @@ whole-turn = refl
 
 -- the first drift, 600, adjusts at once, answering none: the reference time is 600 less, then moves to 1,000, and the stamp by as much (A60)
 after_first : Step
-after_first = synchronized (fresh_clock (pos 0)) (pos 1000) 400
+after_first = record { clock = clock (base (pos 1000) 1600) no_samples; answer = answers.Nothing }
 
-first-drift : after_first ≡ record { clock = clock (base (pos 1000) 1600) no_samples; answer = answers.Nothing }
+first-drift : synchronized (fresh_clock (pos 0)) (pos 1000) 400 ≡ Ok after_first
 unfolding after_first synchronized adjusted_by adjusted moved shifted drift_of stamp_of wrap difference signed distance fresh_clock fresh_base
 first-drift = refl
 
 -- the stamp of that packet now stands for -200, not for 1,000 (A1) ..
 first-stamp : instant_of after_first.clock.base 400 ≡ negsuc 199
-unfolding after_first instant_of synchronized adjusted_by adjusted moved shifted drift_of stamp_of wrap difference signed distance fresh_clock fresh_base
+unfolding after_first instant_of difference signed distance
 first-stamp = refl
 
 -- .. and the next drift of the unchanged link is doubled: 1,200
 doubled : drift_of after_first.clock.base (pos 2000) 1400 ≡ pos 1200
-unfolding after_first synchronized adjusted_by adjusted moved shifted drift_of stamp_of wrap difference signed distance fresh_clock fresh_base
+unfolding after_first drift_of stamp_of wrap difference signed distance
 doubled = refl
 
 -- refusal 14 at the upper end, 1 past 2^61; at the lower end the reading takes the time's place (A32)
-too-high : (synchronized (record { base = base (pos (2 ^ 61)) 0; last = Unset; seen = false; stats = no_samples }) (pos 0) 1).answer ≡ answers.DriftRange
+too-high : synchronized (record { base = base (pos (2 ^ 61)) 0; last = None; seen = false; stats = no_samples }) (pos 0) 1 ≡ Err (record {})
 unfolding synchronized adjusted_by adjusted moved shifted drift_of stamp_of wrap difference signed distance
 too-high = refl
 
-not-too-low : (synchronized (record { base = base (negsuc (2 ^ 61 - 1)) 0; last = Unset; seen = false; stats = no_samples }) (pos 0) 4294967295).answer ≡ answers.Nothing
+not-too-low : synchronized (record { base = base (negsuc (2 ^ 61 - 1)) 0; last = None; seen = false; stats = no_samples }) (pos 0) 4294967295 ≡ Ok (record { clock = clock (base (pos 0) 1) no_samples; answer = answers.Nothing })
 unfolding synchronized adjusted_by adjusted moved shifted drift_of stamp_of wrap difference signed distance
 not-too-low = refl
 
@@ -88,7 +88,7 @@ once_more : sampled (steady 998) (pos 1000) ≡ steady 999
 unfolding distance_of mean_with squares_with sampled round of_int add sub mul div
 once_more = refl
 
-thousandth : (synchronized (clock (base (pos 0) 0) (steady 999)) (pos 9000) 8000).answer ≡ answers.Adjusted (pos 1000) 0
+thousandth : synchronized (clock (base (pos 0) 0) (steady 999)) (pos 9000) 8000 ≡ Ok (record { clock = clock (base (pos 9000) 10000) no_samples; answer = answers.Adjusted (pos 1000) 0 })
 unfolding synchronized sample_taken judged adjusted_by adjusted moved shifted drift_of stamp_of wrap difference signed distance sampled distance_of mean_with squares_with variance_of deviation_of truncated_of root to_unsigned to_signed round of_int add sub mul div
 thousandth = refl
 

@@ -3,8 +3,7 @@ use Rattle.std.proofs.Common.{◌≡◌, ℕ, ◌+◌, ◌-◌, ◌^◌, ◌≤�
 use lib.Signed.{lt_z, nat_abs-le}
 use Rattle.numbers.specs.Instants.{is_reading}
 use Rattle.numbers.specs.Circular.{difference}
-use Rattle.numbers.specs.declared.instant.Moment.{Moment}
-use Rattle.numbers.specs.declared.instant.Moment.TheVariants.{Unset, At}
+use Rattle.std.specs.Prelude.{Option, Some, None, Result, Ok, Err, IfOk}
 use Rattle.numbers.proofs.Flags.{by-test}
 use Rattle.numbers.proofs.Halves.{size-+}
 use Rattle.numbers.proofs.Signs.{reading-size}
@@ -15,8 +14,7 @@ use Rattle.clock.specs.Sync.{fresh_clock, after_adjusting, adjusted_by, judged, 
 use Rattle.clock.specs.Release.{later_of, released, release_of}
 use Rattle.clock.specs.Ranges.{last_ok, clock_ok}
 use Rattle.clock.specs.declared.base.TimeBase.{TimeBase}
-use Rattle.clock.specs.declared.base.Adjusted.{Adjusted}
-use Rattle.clock.specs.declared.base.Adjusted.TheVariants.{Base, OutOfRange}
+use Rattle.clock.specs.declared.base.DriftRange.{DriftRange}
 use Rattle.clock.specs.declared.stats.OnlineStats.{OnlineStats}
 use Rattle.clock.specs.declared.time.SynchronizedRemoteClock.{SynchronizedRemoteClock}
 use Rattle.clock.specs.declared.time.Step.{Step}
@@ -31,26 +29,25 @@ fresh_ok start r =
     (record { reference = reference-near start (omega (arith, (reading-size start r).1)); last = refl; samples = refl })
 
 -- an adjusted base is in range
-abbrev InRange : Adjusted → Type 0
-InRange (Base b) = in_reference b.time ≡ true
-InRange OutOfRange = Unit
+abbrev InRange : Result TimeBase DriftRange → Type 0
+InRange r = IfOk r (λ b. in_reference b.time ≡ true)
 
 adjusted-ok : (b : TimeBase) (now drift : ℤ) → InRange (adjusted b now drift)
 unfolding adjusted
 adjusted-ok b now drift =
-    by-test InRange (in_reference (moved (shifted b drift) now).time) (Base (moved (shifted b drift) now)) OutOfRange (λ e. e) (λ e. tt)
+    by-test InRange (in_reference (moved (shifted b drift) now).time) (Ok (moved (shifted b drift) now)) (Err (record {})) (λ e. e) (λ e. tt)
+
+abbrev Kept : Result Step DriftRange → Type 0
+Kept r = IfOk r (λ s. Ranges s.clock)
 
 module _ (k : SynchronizedRemoteClock) (now : ℤ) (r : Ranges k) where
-  abbrev Kept : Step → Type 0
-  Kept s = Ranges s.clock
-
   adjusting-kept : (drift : ℤ) (a : Synchronized) → Kept (adjusted_by k now drift a)
   unfolding adjusted_by no_samples
   adjusting-kept drift a = go (adjusted k.base now drift) (adjusted-ok k.base now drift)
     where
-      go : (x : Adjusted) → InRange x → Kept (after_adjusting k a x)
-      go (Base b) e = record { reference = e; last = r.last; samples = refl }
-      go OutOfRange e = r
+      go : (x : Result TimeBase DriftRange) → InRange x → Kept (after_adjusting k a x)
+      go (Ok b) e = record { reference = e; last = r.last; samples = refl }
+      go (Err x) e = tt
 
   judged-kept : (s : OnlineStats) → Kept (judged k now s)
   unfolding judged no_samples
@@ -72,18 +69,23 @@ module _ (k : SynchronizedRemoteClock) (now : ℤ) (r : Ranges k) where
       })
       (λ t. judged-kept s)
 
+  synchronizing-kept : (ts : ℕ) → Kept (synchronized k now ts)
+  unfolding synchronized
+  synchronizing-kept ts =
+      by-test Kept (not k.seen) _ _
+      (λ t. adjusting-kept (drift_of k.base now ts) answers.Nothing)
+      (λ t. taken-kept (drift_of k.base now ts))
+
 -- the clock call keeps the ranges
-pub synchronized-kept : (k : SynchronizedRemoteClock) (now : ℤ) (ts : ℕ) → clock_ok k ≡ true → clock_ok (synchronized k now ts).clock ≡ true
-unfolding synchronized
-synchronized-kept k now ts e =
-    let r = ranges k e in
-    clock-ok (synchronized k now ts).clock
-    (by-test (λ (s : Step). Ranges s.clock) (not k.seen) _ _
-    (λ t. adjusting-kept k now r (drift_of k.base now ts) answers.Nothing)
-    (λ t. taken-kept k now r (drift_of k.base now ts)))
+pub synchronized-kept : (k : SynchronizedRemoteClock) (now : ℤ) (ts : ℕ) → clock_ok k ≡ true → IfOk (synchronized k now ts) (λ s. clock_ok s.clock ≡ true)
+synchronized-kept k now ts e = go (synchronized k now ts) (synchronizing-kept k now (ranges k e) ts)
+  where
+    go : (x : Result Step DriftRange) → Kept x → IfOk x (λ s. clock_ok s.clock ≡ true)
+    go (Ok s) r = clock-ok s.clock r
+    go (Err x) r = tt
 
 -- a time within 2^61 + 2^31 of zero, and a stamp's time is one
-last-near : (t : ℤ) → nat_abs t ≤ 2 ^ 61 + 2 ^ 31 → last_ok (At t) ≡ true
+last-near : (t : ℤ) → nat_abs t ≤ 2 ^ 61 + 2 ^ 31 → last_ok (Some t) ≡ true
 last-near (pos n) h = le-leb n (2 ^ 61 + 2 ^ 31) h
 last-near (negsuc n) h = rw (le-leb n (2 ^ 61 + 2 ^ 31 - 1) (omega arith))
 
@@ -94,9 +96,9 @@ instant-near b ts e =
     let s : nat_abs d ≤ 2 ^ 31 = nat_abs-le d (stamp-range ts b.stamp) in
     omega (arith, size-+ b.time d, reference-size b.time e)
 
-later-kept : (m : Moment) (t : ℤ) → last_ok m ≡ true → last_ok (At t) ≡ true → last_ok (At (later_of m t)) ≡ true
-later-kept Unset t a b = b
-later-kept (At l) t a b = by-test (λ (z : ℤ). last_ok (At z) ≡ true) (lt_z l t) t l (λ e. b) (λ e. a)
+later-kept : (m : Option ℤ) (t : ℤ) → last_ok m ≡ true → last_ok (Some t) ≡ true → last_ok (Some (later_of m t)) ≡ true
+later-kept None t a b = b
+later-kept (Some l) t a b = by-test (λ (z : ℤ). last_ok (Some z) ≡ true) (lt_z l t) t l (λ e. b) (λ e. a)
 
 -- a release keeps the ranges
 pub release-kept : (k : SynchronizedRemoteClock) (ts : ℕ) → clock_ok k ≡ true → clock_ok (release_of k ts).clock ≡ true

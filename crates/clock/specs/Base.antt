@@ -1,9 +1,8 @@
 -- The time base: 01, "Clock", as far as "both move to `now`".
-use Rattle.std.specs.Prelude.{ℕ, ◌-◌, ◌^◌, Bool, cond, ◌&&◌, ℤ, pos, negsuc, ◌+ℤ◌, ◌-ℤ◌, int_le, int_lt}
+use Rattle.std.specs.Prelude.{ℕ, ◌-◌, ◌^◌, Bool, cond, ◌&&◌, ℤ, pos, negsuc, ◌+ℤ◌, ◌-ℤ◌, int_le, int_lt, Result, Ok, Err}
 use Rattle.numbers.specs.Circular.{difference, wrap}
 use Rattle.clock.specs.declared.base.TimeBase.{TimeBase}
-use Rattle.clock.specs.declared.base.Adjusted.{Adjusted}
-use Rattle.clock.specs.declared.base.Adjusted.TheVariants.{Base, OutOfRange}
+use Rattle.clock.specs.declared.base.DriftRange.{DriftRange}
 
 -- reference time starts at the start time, reference stamp at 0
 unfoldable pub fresh_base : ℤ → TimeBase
@@ -34,6 +33,6 @@ unfoldable pub moved : TimeBase → ℤ → TimeBase
 moved b now = cond (int_lt b.time now) (record { time = now; stamp = stamp_of b now }) b
 
 -- refusal 14: the adjusted reference time would end out of range
-unfoldable pub adjusted : TimeBase → ℤ → ℤ → Adjusted
+unfoldable pub adjusted : TimeBase → ℤ → ℤ → Result TimeBase DriftRange
 adjusted b now drift =
-    cond (in_reference (moved (shifted b drift) now).time) (Base (moved (shifted b drift) now)) OutOfRange
+    cond (in_reference (moved (shifted b drift) now).time) (Ok (moved (shifted b drift) now)) (Err (record {}))

@@ -3,17 +3,15 @@ ghost use Rattle.std.specs.Prelude.{◌≡◌, ◌+◌, ◌^◌, ◌<◌, ◌≤
 ghost use Rattle.clock.specs.Base.{fresh_base, instant_of, stamp_of, drift_of, in_reference, shifted, adjusted};
 
 // The reference: one point as a time of the receiver and as a stamp of the sender.
-#[derive(Clone, Copy)]
+#[derive(Clone, Copy, PartialEq, Eq, Debug)]
 pub struct TimeBase {
     pub time: i64,
     pub stamp: u32,
 }
 
-#[derive(Clone, Copy)]
-pub enum Adjusted {
-    Base(TimeBase),
-    OutOfRange,
-}
+// Refusal 14: the adjusted reference time would end out of range.
+#[derive(Clone, Copy, PartialEq, Eq, Debug)]
+pub struct DriftRange;
 
 // Reference time lies in -2^61..2^61.
 pub fn in_reference(t: i64) -> bool
@@ -65,18 +63,20 @@ impl TimeBase {
         }
     }
 
-    pub fn adjust(self, now: i64, drift: i32) -> Adjusted
+    pub fn adjust(self, now: i64, drift: i32) -> Result<TimeBase, DriftRange>
         requires { (unsigned_abs self.time ≤ 2 ^ 61) × (unsigned_abs now < 2 ^ 60) }
         ensures { result ≡ adjusted self now drift }
     {
         let shifted = self.shift(drift);
         if shifted.time < now {
-            let stamp = shifted.timestamp_from(now);
-            return Adjusted::Base(TimeBase { time: now, stamp });
+            return Ok(TimeBase {
+                time: now,
+                stamp: shifted.timestamp_from(now),
+            });
         }
         if in_reference(shifted.time) {
-            return Adjusted::Base(shifted);
+            return Ok(shifted);
         }
-        Adjusted::OutOfRange
+        Err(DriftRange)
     }
 }

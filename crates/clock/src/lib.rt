@@ -1,4 +1,5 @@
-// The synchronized clock: 01, "Clock". base.rs, receiver/time.rs and the statistics that the Rust takes from OnlineStats.
+// The synchronized clock: 01, "Clock". base.rs, receiver/time.rs and the statistics that the Rust takes from
+// OnlineStats.
 #![tactic(auto)]
 
 pub mod base;

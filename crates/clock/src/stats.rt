@@ -3,7 +3,7 @@ ghost use Rattle.std.specs.Prelude.{◌≡◌, ◌<◌};
 ghost use Rattle.clock.specs.Samples.{no_samples, sampled, variance_of, deviation_of, truncated_of};
 
 // A running mean and a running sum of squares.
-#[derive(Clone, Copy)]
+#[derive(Clone, Copy, PartialEq, Debug)]
 pub struct OnlineStats {
     pub mean: f64,
     pub squares: f64,
@@ -27,9 +27,8 @@ impl OnlineStats {
     {
         let n = self.count + 1;
         let v = x as f64;
-        let old = self.mean;
-        let d = v - old;
-        let mean = old + d / (n as f64);
+        let d = v - self.mean;
+        let mean = self.mean + d / (n as f64);
         OnlineStats {
             mean,
             squares: self.squares + d * (v - mean),
@@ -44,31 +43,16 @@ impl OnlineStats {
     }
 }
 
-// The whole square root of a variance's whole part. The tests are those under which `std` truncates.
+// The whole square root of a variance's whole part.
 pub fn deviation(v: f64) -> u32
     ensures { result ≡ deviation_of v }
 {
-    if v > -1.0 {
-        if v < 18446744073709551616.0 {
-            return crate::root::root31(std::num::truncating_f64_to_u64(v));
-        }
-        return 0x7fff_ffff;
-    }
-    0
+    crate::root::root31(std::num::saturating_f64_to_u64(v))
 }
 
 // A mean truncated to signed 32 bits.
 pub fn truncated(m: f64) -> i32
     ensures { result ≡ truncated_of m }
 {
-    if m >= -9223372036854775808.0 {
-        if m < 9223372036854775808.0 {
-            return numbers::instant::clamp(std::num::truncating_f64_to_i64(m));
-        }
-        return 0x7fff_ffff;
-    }
-    if m < 0.0 {
-        return -0x8000_0000;
-    }
-    0
+    std::num::saturating_f64_to_i32(m)
 }

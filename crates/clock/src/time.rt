@@ -5,47 +5,46 @@ ghost use Rattle.clock.specs.Ready.{Ready};
 ghost use Rattle.clock.specs.Release.{later_of, release_of};
 ghost use Rattle.clock.specs.Ranges.{last_ok, clock_ok};
 
-use crate::base::{Adjusted, TimeBase};
+use crate::base::{DriftRange, TimeBase};
 use crate::stats::OnlineStats;
-use numbers::instant::Moment;
 
 // `seen` is the first-drift flag; `last` is the last released time.
-#[derive(Clone, Copy)]
+#[derive(Clone, Copy, PartialEq, Debug)]
 pub struct SynchronizedRemoteClock {
     pub base: TimeBase,
-    pub last: Moment,
+    pub last: Option<i64>,
     pub seen: bool,
     pub stats: OnlineStats,
 }
 
-#[derive(Drop)]
+// Three answers, each with a line of its own in 01: an Option of the other two is no plainer than Nothing beside them.
+#[derive(Clone, Copy, PartialEq, Debug)]
 pub enum Synchronized {
     Nothing,
     Adjusted { mean: i32, deviation: u32 },
     Unsteady { deviation: u32, variance: f64 },
-    DriftRange,
 }
 
-#[derive(Drop)]
+#[derive(Clone, Copy, PartialEq, Debug)]
 pub struct Step {
     pub clock: SynchronizedRemoteClock,
     pub answer: Synchronized,
 }
 
-#[derive(Drop)]
+#[derive(Clone, Copy, PartialEq, Debug)]
 pub struct Release {
     pub clock: SynchronizedRemoteClock,
     pub time: i64,
 }
 
 // The later of a time and the last one, if there was one.
-fn later(last: Moment, time: i64) -> i64
+fn later(last: Option<i64>, time: i64) -> i64
     ensures { result ≡ later_of last time }
 {
-    let Moment::At(l) = last else {
-        return time;
-    };
-    if l < time { time } else { l }
+    match last {
+        Some(l) => time.max(l),
+        None => time,
+    }
 }
 
 impl SynchronizedRemoteClock {
@@ -58,7 +57,7 @@ impl SynchronizedRemoteClock {
     {
         SynchronizedRemoteClock {
             base: TimeBase::new(start),
-            last: Moment::Unset,
+            last: None,
             seen: false,
             stats: OnlineStats::new(),
         }
@@ -68,76 +67,64 @@ impl SynchronizedRemoteClock {
     fn settle(self, base: TimeBase, stats: OnlineStats) -> Self
         ensures { result ≡ settled self base stats }
     {
-        let last = self.last;
         SynchronizedRemoteClock {
             base,
-            last,
             seen: true,
             stats,
+            ..self
         }
     }
 
     // Adjusts by a drift, with the answer to give then.
-    fn adjust_by(self, now: i64, drift: i32, answer: Synchronized) -> Step
+    fn adjust_by(self, now: i64, drift: i32, answer: Synchronized) -> Result<Step, DriftRange>
         requires { Ready self now }
         ensures { result ≡ adjusted_by self now drift answer }
     {
-        let base = self.base;
-        let adjusted = base.adjust(now, drift);
-        let Adjusted::Base(b) = adjusted else {
-            return Step {
-                clock: self,
-                answer: Synchronized::DriftRange,
-            };
-        };
-        let clock = self.settle(b, OnlineStats::new());
-        Step { clock, answer }
+        let base = self.base.adjust(now, drift)?;
+        let clock = self.settle(base, OnlineStats::new());
+        Ok(Step { clock, answer })
     }
 
     // What a thousand samples lead to.
-    fn judge(self, now: i64, stats: OnlineStats) -> Step
+    fn judge(self, now: i64, stats: OnlineStats) -> Result<Step, DriftRange>
         requires { Ready self now }
         ensures { result ≡ judged self now stats }
     {
-        let base = self.base;
-        let v = stats.variance();
-        let deviation = crate::stats::deviation(v);
-        let mean = crate::stats::truncated(stats.mean);
+        let variance = stats.variance();
+        let deviation = crate::stats::deviation(variance);
         if Self::DRIFT_DEVIATION_TOLERANCE < deviation {
-            return Step {
-                clock: self.settle(base, OnlineStats::new()),
+            return Ok(Step {
+                clock: self.settle(self.base, OnlineStats::new()),
                 answer: Synchronized::Unsteady {
                     deviation,
-                    variance: v,
+                    variance,
                 },
-            };
+            });
         }
+        let mean = crate::stats::truncated(stats.mean);
         self.adjust_by(now, mean, Synchronized::Adjusted { mean, deviation })
     }
 
-    fn take_sample(self, now: i64, drift: i32) -> Step
+    fn take_sample(self, now: i64, drift: i32) -> Result<Step, DriftRange>
         requires { Ready self now }
         ensures { result ≡ sample_taken self now drift }
     {
-        let base = self.base;
-        let held = self.stats;
-        let stats = held.add(drift);
+        let stats = self.stats.add(drift);
         if stats.count < Self::MAX_SAMPLES {
-            return Step {
-                clock: self.settle(base, stats),
+            return Ok(Step {
+                clock: self.settle(self.base, stats),
                 answer: Synchronized::Nothing,
-            };
+            });
         }
         self.judge(now, stats)
     }
 
     // A stamp of the sender seen at a reading of the receiver's clock.
-    pub fn synchronize(self, now: i64, ts: u32) -> Step
+    pub fn synchronize(self, now: i64, ts: u32) -> Result<Step, DriftRange>
         requires { Ready self now }
         ensures { result ≡ synchronized self now ts }
     {
-        let base = self.base;
-        let drift = base.drift(now, ts);
+        let drift = self.base.drift(now, ts);
         if self.seen {
             return self.take_sample(now, drift);
         }
@@ -149,35 +136,31 @@ impl SynchronizedRemoteClock {
         requires { unsigned_abs self.base.time ≤ 2 ^ 61 }
         ensures { result ≡ release_of self ts }
     {
-        let base = self.base;
-        let last = self.last;
-        let time = later(last, base.instant_from(ts));
-        let stats = self.stats;
-        let clock = SynchronizedRemoteClock {
-            base,
-            last: Moment::At(time),
-            seen: self.seen,
-            stats,
-        };
-        Release { clock, time }
+        let time = later(self.last, self.base.instant_from(ts));
+        Release {
+            clock: SynchronizedRemoteClock {
+                last: Some(time),
+                ..self
+            },
+            time,
+        }
     }
 
     // The head's range test, of this part of it.
     pub fn in_range(self) -> bool
         ensures { result ≡ clock_ok self }
     {
-        let last = self.last;
         let reference = crate::base::in_reference(self.base.time);
-        reference & last_in_range(last) & (self.stats.count <= 999)
+        reference & last_in_range(self.last) & (self.stats.count <= 999)
     }
 }
 
 // The last released time lies within 2^61 + 2^31 of zero, if there was one.
-fn last_in_range(last: Moment) -> bool
+fn last_in_range(last: Option<i64>) -> bool
     ensures { result ≡ last_ok last }
 {
-    let Moment::At(t) = last else {
-        return true;
-    };
-    (-0x2000_0000_8000_0000 <= t) & (t <= 0x2000_0000_8000_0000)
+    match last {
+        Some(t) => (-0x2000_0000_8000_0000 <= t) & (t <= 0x2000_0000_8000_0000),
+        None => true,
+    }
 }

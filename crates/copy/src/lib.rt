@@ -9,9 +9,5 @@ pub fn put(to: &mut [u8], at: usize, from: &[u8])
     requires { at + length from.now ≤ length to.old }
     ensures { to.new ≡ paste to.old at from.now (length from.now) }
 {
-    let mut i = 0;
-    while i < from.len() {
-        to[at + i] = from[i];
-        i += 1;
-    }
+    to[at..at + from.len()].copy_from_slice(from);
 }

@@ -6,22 +6,16 @@ use Prim.Native.Nat.{ℕ}
 use borrow.Author.Rules.{rules}
 use lib.IntN.{ℤ}
 use lib.ListN.{length}
+use Rattle.std.specs.Prelude.{Result}
 use Rattle.window.specs.declared.push.Packet.{Packet}
+use Rattle.head.specs.declared.refusal.Refusal.{Refusal}
 use Rattle.head.specs.declared.state.Head.{Head}
-use Rattle.feedback.specs.Acking.{FullAckOutcome, full_ack_ended, Ack2Outcome, ack2_ended, ack2_call_of, full_ack_call_of}
-use Rattle.receiver.specs.Data.{DataOutcome, data_ended, data_call_of}
-use Rattle.feedback.specs.Loss.{LossOutcome, loss_ended, report_call_of}
-use Rattle.receiver.specs.Message.{MessageOutcome, message_ended, pop_call_of}
-use Rattle.upkeep.specs.Request.{DropOutcome, drop_ended, drop_call_of, ClearOutcome, clear_ended, clear_call_of}
-use Rattle.feedback.specs.Sync.{ClockOutcome, clock_ended, clock_call_of}
-use Rattle.feedback.specs.declared.acking.FullAcked.{FullAcked}
-use Rattle.feedback.specs.declared.acking.Ack2ed.{Ack2ed}
-use Rattle.receiver.specs.declared.data.Handled.{Handled}
-use Rattle.feedback.specs.declared.loss.Reported.{Reported}
-use Rattle.receiver.specs.declared.message.Given.{Given}
-use Rattle.upkeep.specs.declared.request.DropAnswer.{DropAnswer}
-use Rattle.upkeep.specs.declared.request.Cleared.{Cleared}
-use Rattle.feedback.specs.declared.sync.Clocked.{Clocked}
+use Rattle.feedback.specs.Acking.{Ack2ed, FullAcked, FullAckOutcome, full_ack_ended, Ack2Outcome, ack2_ended, ack2_call_of, full_ack_call_of}
+use Rattle.receiver.specs.Data.{Handled, DataOutcome, data_ended, data_call_of}
+use Rattle.feedback.specs.Loss.{Reported, LossOutcome, loss_ended, report_call_of}
+use Rattle.receiver.specs.Message.{Given, MessageOutcome, message_ended, pop_call_of}
+use Rattle.upkeep.specs.Request.{Cleared, DropOutcome, drop_ended, drop_call_of, ClearOutcome, clear_ended, clear_call_of}
+use Rattle.feedback.specs.Sync.{Clocked, ClockOutcome, clock_ended, clock_call_of}
 use Rattle.counts.specs.Counts.{data_counts, ack2_counts, drop_counts, clock_counts}
 use Rattle.counters.specs.Calls.{counted, data_counted, ack2_counted, drop_counted, clock_counted, message_counted, loss_counted, full_ack_counted, clear_counted}
 use Rattle.counts.specs.declared.Counters.{Counters}
@@ -41,7 +35,7 @@ module _ (c : Counters) (h : Head) {c₁ : Counters} where
       → c₁ ≡ ack2_counts c r.answer → ack2_ended r ≡ ack2_call_of h a n number → n ≡ now → counted (ack2_ended r) c₁ ≡ ack2_counted c h a now number
   ack2-layer a now number e f q = beside (λ (o : Ack2Outcome). ack2_counts c o.acked2.answer) e f ∙ rw q
 
-  pub drop-layer : (ws : List ℕ) (first last : ℕ) {a : DropAnswer} {ws₁ : List ℕ}
+  pub drop-layer : (ws : List ℕ) (first last : ℕ) {a : Result ℕ Refusal} {ws₁ : List ℕ}
       → c₁ ≡ drop_counts c a → drop_ended a ws₁ ≡ drop_call_of h ws first last → counted (drop_ended a ws₁) c₁ ≡ drop_counted c h ws first last
   drop-layer ws first last e f = beside (λ (o : DropOutcome). drop_counts c o.answer) e f
 

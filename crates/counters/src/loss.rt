@@ -3,15 +3,10 @@ ghost use Rattle.std.specs.Prelude.{◌≡◌};
 ghost use Rattle.feedback.specs.Loss.{loss_ended};
 ghost use Rattle.counters.specs.Calls.{counted, loss_counted};
 
+use crate::Counted;
 use counts::Counters;
 use feedback::loss::Reported;
 use head::state::Head;
-
-#[derive(Drop)]
-pub struct LossCounted {
-    pub counters: Counters,
-    pub reported: Reported,
-}
 
 pub fn on_nak_event(
     c: Counters,
@@ -19,12 +14,12 @@ pub fn on_nak_event(
     words: &mut [u64],
     list: &mut [u32],
     time: i64,
-) -> LossCounted
-    ensures { counted (loss_ended result.reported words.new list.new) result.counters ≡ loss_counted c h words.old list.old time }
+) -> Counted<Reported>
+    ensures { counted (loss_ended result.left words.new list.new) result.counters ≡ loss_counted c h words.old list.old time }
 {
     let reported = feedback::loss::on_nak_event(h, words, list, time);
-    LossCounted {
+    Counted {
         counters: c,
-        reported,
+        left: reported,
     }
 }

@@ -3,15 +3,10 @@ ghost use Rattle.std.specs.Prelude.{◌≡◌};
 ghost use Rattle.receiver.specs.Message.{message_ended};
 ghost use Rattle.counters.specs.Calls.{counted, message_counted};
 
+use crate::Counted;
 use counts::Counters;
 use head::state::Head;
 use receiver::message::Given;
-
-#[derive(Drop)]
-pub struct MessageCounted {
-    pub counters: Counters,
-    pub given: Given,
-}
 
 pub fn pop_next_message(
     c: Counters,
@@ -20,9 +15,12 @@ pub fn pop_next_message(
     bytes: &[u8],
     out: &mut [u8],
     time: i64,
-) -> MessageCounted
-    ensures { counted (message_ended result.given out.new) result.counters ≡ message_counted c h words.now bytes.now out.old time }
+) -> Counted<Given>
+    ensures { counted (message_ended result.left out.new) result.counters ≡ message_counted c h words.now bytes.now out.old time }
 {
     let given = receiver::message::pop_next_message(h, words, bytes, out, time);
-    MessageCounted { counters: c, given }
+    Counted {
+        counters: c,
+        left: given,
+    }
 }

@@ -1,15 +1,14 @@
 -- The ten counters and what each answer raises, from the answer alone: 01, "Counters follow 003, mod 2^64, a packet's size payload + 16" and
 -- "7 to 10 still count in the counters". A6, A65, A66 and A67 of DECISIONS.md settle which answer raises which.
-use Rattle.std.specs.Prelude.{ℕ, Bool, cond, ◌&&◌, ◌==◌, nat_le}
+use Rattle.std.specs.Prelude.{ℕ, Bool, cond, ◌&&◌, ◌==◌, nat_le, Option, Some, None, Result, Ok, Err}
 use Rattle.numbers.specs.Circular.{sum}
+use Rattle.acks.specs.declared.rtt.Rtt.{Rtt}
+use Rattle.clock.specs.declared.time.Synchronized.{Synchronized}
+use Rattle.clock.specs.declared.time.Synchronized.TheVariants as clocks
+use Rattle.head.specs.Rules.{number_of}
+use Rattle.head.specs.declared.refusal.Refusal.{Refusal}
 use Rattle.receiver.specs.declared.data.DataAnswer.{DataAnswer}
 use Rattle.receiver.specs.declared.data.DataAnswer.TheVariants as datas
-use Rattle.feedback.specs.declared.acking.RttAnswer.{RttAnswer}
-use Rattle.feedback.specs.declared.acking.RttAnswer.TheVariants as rtts
-use Rattle.upkeep.specs.declared.request.DropAnswer.{DropAnswer}
-use Rattle.upkeep.specs.declared.request.DropAnswer.TheVariants as drops
-use Rattle.feedback.specs.declared.sync.ClockAnswer.{ClockAnswer}
-use Rattle.feedback.specs.declared.sync.ClockAnswer.TheVariants as clocks
 use Rattle.counts.specs.declared.Counters.{Counters}
 
 -- ten counts in the order of 003: data and bytes, unique data and bytes, retransmitted, dropped data and bytes, ACK2s, ACK2 errors, clock adjustments
@@ -88,27 +87,26 @@ refused_counts c size n =
     c)
 
 -- a data packet with a payload of that size; a loss is found by a unique packet
-abbrev pub data_counts : Counters → ℕ → DataAnswer → Counters
-data_counts c size (datas.Got lrsn recovered) = got_counts c size recovered
-data_counts c size (datas.Light lrsn recovered) = got_counts c size recovered
-data_counts c size (datas.Loss first last) = raised c (unique (wire size))
-data_counts c size (datas.Refused n) = refused_counts c size n
-data_counts c size (datas.PacketTooEarly room need) = refused_counts c size 8
+abbrev pub data_counts : Counters → ℕ → Result DataAnswer Refusal → Counters
+data_counts c size (Ok (datas.Got lrsn recovered)) = got_counts c size recovered
+data_counts c size (Ok (datas.Light lrsn recovered)) = got_counts c size recovered
+data_counts c size (Ok (datas.Loss first last)) = raised c (unique (wire size))
+data_counts c size (Err e) = refused_counts c size (number_of e)
 
 -- an ACK2: 003 raises the errors for a found one (A6)
-abbrev pub ack2_counts : Counters → RttAnswer → Counters
-ack2_counts c rtts.Nothing = raised c unknown
-ack2_counts c (rtts.Rtt mean variance) = raised c found
-ack2_counts c (rtts.Refused n) = c
+abbrev pub ack2_counts : Counters → Result (Option Rtt) Refusal → Counters
+ack2_counts c (Ok None) = raised c unknown
+ack2_counts c (Ok (Some rtt)) = raised c found
+ack2_counts c (Err e) = c
 
 -- a drop request raises dropped data by its count, no bytes
-abbrev pub drop_counts : Counters → DropAnswer → Counters
-drop_counts c (drops.Gone n) = raised c (gone n)
-drop_counts c (drops.Refused n) = c
+abbrev pub drop_counts : Counters → Result ℕ Refusal → Counters
+drop_counts c (Ok n) = raised c (gone n)
+drop_counts c (Err e) = c
 
 -- the first drift, a sample and unsteady raise nothing
-abbrev pub clock_counts : Counters → ClockAnswer → Counters
-clock_counts c clocks.Nothing = c
-clock_counts c (clocks.Adjusted mean deviation) = raised c adjusted
-clock_counts c (clocks.Unsteady deviation v) = c
-clock_counts c (clocks.Refused n) = c
+abbrev pub clock_counts : Counters → Result Synchronized Refusal → Counters
+clock_counts c (Ok clocks.Nothing) = c
+clock_counts c (Ok (clocks.Adjusted mean deviation)) = raised c adjusted
+clock_counts c (Ok (clocks.Unsteady deviation v)) = c
+clock_counts c (Err e) = c

@@ -3,7 +3,7 @@
 use mathlib.Core.Path.{◌≡◌, refl, sym, ◌∙◌, ap, subst}
 use mathlib.Core.Bool.{Bool, true, false, cond}
 use mathlib.Core.List.{List, [], ◌∷◌, ◌++◌}
-use Prim.Native.Nat.{ℕ, zero, suc, ◌+◌, ◌-◌, ◌*◌, ◌^◌, ◌<◌, ◌≤◌}
+use Prim.Native.Nat.{ℕ, suc, ◌+◌, ◌-◌, ◌*◌, ◌^◌, ◌<◌, ◌≤◌}
 use native.Mathlib.Nat.{mul_assoc, pow-succ', pow-le-pow_right}
 use native.Mathlib.Omega.{arith}
 use borrow.Author.Tests.{lt-ltb, le-ltb, ltb-true, ltb-false}
@@ -17,32 +17,14 @@ use Rattle.numbers.proofs.Flags.{by-test, by-order}
 use Rattle.numbers.proofs.Signs.{signed_range}
 use Rattle.dlt.specs.Bytes.{big_from, big, byte_at, field, time_at}
 use Rattle.dlt.specs.Header.{is_header, settings_in, header_of}
-use Rattle.dlt.specs.Record.{least_size, longest_record, data_in, data_of, fields_of, record_of, size_of}
-use Rattle.dlt.specs.declared.header.HeaderRead.{HeaderRead}
-use Rattle.dlt.specs.declared.header.HeaderRead.TheVariants as header
-use Rattle.dlt.specs.declared.record.RecordRead.{RecordRead}
-use Rattle.dlt.specs.declared.record.RecordRead.TheVariants.{Short, Bad, Data, Pop, Report, FullAck, Ack2, Drop, Clock, Clear}
-use Rattle.dlt.proofs.Steps.{fixed-past, data-bad, data-short, data_is, kind-none}
-
--- by cases on the kind byte: 0, the kinds from 1 to 8, and above
-by_kind : (P : ℕ → Type 0) → P 0 → P 1 → P 2 → P 3 → P 4 → P 5 → P 6 → P 7 → P 8 → ((k : ℕ) → 8 < k → P k) → (k : ℕ) → P k
-by_kind P a b c d e f g h i r zero = a
-by_kind P a b c d e f g h i r (suc zero) = b
-by_kind P a b c d e f g h i r (suc (suc zero)) = c
-by_kind P a b c d e f g h i r (suc (suc (suc zero))) = d
-by_kind P a b c d e f g h i r (suc (suc (suc (suc zero)))) = e
-by_kind P a b c d e f g h i r (suc (suc (suc (suc (suc zero))))) = f
-by_kind P a b c d e f g h i r (suc (suc (suc (suc (suc (suc zero)))))) = g
-by_kind P a b c d e f g h i r (suc (suc (suc (suc (suc (suc (suc zero))))))) = h
-by_kind P a b c d e f g h i r (suc (suc (suc (suc (suc (suc (suc (suc zero)))))))) = i
-by_kind P a b c d e f g h i r (suc (suc (suc (suc (suc (suc (suc (suc (suc k))))))))) =
-    r (suc (suc (suc (suc (suc (suc (suc (suc (suc k))))))))) (omega arith)
-
-unknown : (xs : List ℕ) (k : ℕ) → 8 < k → fields_of k xs ≡ Bad
-unknown xs k h =
-    sym
-    (kind-none xs k (λ e. omega arith) (λ e. omega arith) (λ e. omega arith) (λ e. omega arith) (λ e. omega arith) (λ e. omega arith)
-    (λ e. omega arith) (λ e. omega arith))
+use Rattle.dlt.specs.Record.{least_size, longest_record, data_in, data_of, fields_of, record_of, size_in, size_of}
+use Rattle.std.specs.Prelude.{Result, Ok, Err}
+use Rattle.dlt.specs.declared.Unread.{Unread}
+use Rattle.dlt.specs.declared.Unread.TheVariants.{Short, Bad}
+use Rattle.dlt.specs.declared.header.Header.{Header}
+use Rattle.dlt.specs.declared.record.Record.{Record}
+use Rattle.dlt.specs.declared.record.Record.TheVariants.{Data, Pop, Report, FullAck, Ack2, Drop, Clock, Clear}
+use Rattle.dlt.proofs.Steps.{fixed-past, by_kind, unknown, data-bad, data-short, data_is}
 
 -- bytes behind
 module _ (xs ys : List ℕ) where
@@ -70,7 +52,7 @@ module _ (xs ys : List ℕ) where
     rw (time-behind 5 (omega arith), field-behind 13 4 (omega arith), byte-behind 17 (omega arith), field-behind 18 4 (omega arith), field-behind 22 2 (omega arith)),
   )
 
-  pub header-behind : (header_of xs ≡ header.Short → ⊥) → header_of (xs ++ ys) ≡ header_of xs
+  pub header-behind : (header_of xs ≡ Err Short → ⊥) → header_of (xs ++ ys) ≡ header_of xs
   unfolding header_of
   header-behind whole =
       by-order (length xs) 24
@@ -79,7 +61,7 @@ module _ (xs ys : List ℕ) where
       let s = settings-behind h in
       rw (le-ltb _ _ h, le-ltb _ _ (longer h), s.0, s.1))
 
-  data-behind : 24 ≤ length xs → (data_of xs ≡ Short → ⊥) → data_of (xs ++ ys) ≡ data_of xs
+  data-behind : 24 ≤ length xs → (data_of xs ≡ Err Short → ⊥) → data_of (xs ++ ys) ≡ data_of xs
   data-behind h whole =
       let n = field xs 22 2 in
       let e = sym (field-behind 22 2 (omega arith)) in
@@ -93,10 +75,10 @@ module _ (xs ys : List ℕ) where
       rw (time-behind 1 (omega arith), field-behind 9 4 (omega arith), field-behind 13 4 (omega arith), byte-behind 17 (omega arith), field-behind 18 4 (omega arith)) in
       sym (data_is (xs ++ ys) e l (longer m) (sym d)) ∙ data_is xs refl l m refl))
 
-  fields-behind : (kind : ℕ) → least_size kind ≤ length xs → (fields_of kind xs ≡ Short → ⊥) → fields_of kind (xs ++ ys) ≡ fields_of kind xs
+  fields-behind : (kind : ℕ) → least_size kind ≤ length xs → (fields_of kind xs ≡ Err Short → ⊥) → fields_of kind (xs ++ ys) ≡ fields_of kind xs
   unfolding fields_of least_size
   fields-behind =
-      by_kind (λ (kind : ℕ). least_size kind ≤ length xs → (fields_of kind xs ≡ Short → ⊥) → fields_of kind (xs ++ ys) ≡ fields_of kind xs)
+      by_kind (λ (kind : ℕ). least_size kind ≤ length xs → (fields_of kind xs ≡ Err Short → ⊥) → fields_of kind (xs ++ ys) ≡ fields_of kind xs)
       (λ h whole. refl)
       (λ h whole. data-behind h whole)
       (λ h whole. rw (time-behind 1 (omega arith)))
@@ -106,9 +88,9 @@ module _ (xs ys : List ℕ) where
       (λ h whole. rw (field-behind 1 4 (omega arith), field-behind 5 4 (omega arith)))
       (λ h whole. rw (time-behind 1 (omega arith), field-behind 9 4 (omega arith)))
       (λ h whole. refl)
-      (λ k l h whole. unknown (xs ++ ys) k l ∙ sym (unknown xs k l))
+      (λ k l h whole. sym (unknown k l (xs ++ ys)) ∙ unknown k l xs)
 
-pub record-behind : (xs ys : List ℕ) → (record_of xs ≡ Short → ⊥) → record_of (xs ++ ys) ≡ record_of xs
+pub record-behind : (xs ys : List ℕ) → (record_of xs ≡ Err Short → ⊥) → record_of (xs ++ ys) ≡ record_of xs
 unfolding record_of least_size
 record-behind [] ys whole = absurd (whole refl)
 record-behind (x ∷ xs) ys whole =
@@ -122,10 +104,10 @@ record-behind (x ∷ xs) ys whole =
 data-within : (xs : List ℕ) → 24 ≤ length xs → size_of (data_of xs) ≤ length xs
 unfolding data_of
 data-within xs h =
-    by-test (λ (r : RecordRead). size_of r ≤ length xs) (ltb 1456 (field xs 22 2)) _ _
+    by-test (λ (r : Result Record Unread). size_of r ≤ length xs) (ltb 1456 (field xs 22 2)) _ _
     (λ t. omega arith)
     (λ t.
-    by-test (λ (r : RecordRead). size_of r ≤ length xs) (ltb (length xs) (24 + field xs 22 2)) _ _
+    by-test (λ (r : Result Record Unread). size_of r ≤ length xs) (ltb (length xs) (24 + field xs 22 2)) _ _
     (λ u. omega arith)
     (λ u. ltb-false _ _ u))
 
@@ -142,50 +124,47 @@ fields_within xs =
     (λ h. h)
     (λ h. h)
     (λ h. h)
-    (λ k l h. rw (unknown xs k l) (omega arith))
+    (λ k l h. rw (← unknown k l xs) (omega arith))
 
 pub size-within : (xs : List ℕ) → size_of (record_of xs) ≤ length xs
 unfolding record_of
 size-within xs =
-    by-test (λ (r : RecordRead). size_of r ≤ length xs) (ltb (length xs) (least_size (byte_at xs 0))) _ _
+    by-test (λ (r : Result Record Unread). size_of r ≤ length xs) (ltb (length xs) (least_size (byte_at xs 0))) _ _
     (λ t. omega arith)
     (λ t. fields_within xs (byte_at xs 0) (ltb-false _ _ t))
 
-pub size-some : (r : RecordRead) → (r ≡ Short → ⊥) → (r ≡ Bad → ⊥) → 0 < size_of r
-size-some Short whole good = absurd (whole refl)
-size-some Bad whole good = absurd (good refl)
-size-some (Data t a b c d n) whole good = omega arith
-size-some (Pop t) whole good = omega arith
-size-some (Report t) whole good = omega arith
-size-some (FullAck t) whole good = omega arith
-size-some (Ack2 t n) whole good = omega arith
-size-some (Drop a b) whole good = omega arith
-size-some (Clock t n) whole good = omega arith
-size-some Clear whole good = omega arith
+pub size-some : (r : Record) → 0 < size_in r
+size-some (Data t a b c d n) = omega arith
+size-some (Pop t) = omega arith
+size-some (Report t) = omega arith
+size-some (FullAck t) = omega arith
+size-some (Ack2 t n) = omega arith
+size-some (Drop a b) = omega arith
+size-some (Clock t n) = omega arith
+size-some Clear = omega arith
 
 -- at a cursor: the record, and the payload of a data record, end within the piece; the payload is at most 1,456 bytes
-pub record-in : (xs : List ℕ) (at : ℕ) {r : RecordRead} → r ≡ record_of (drop at xs) → 0 < size_of r → at + size_of r ≤ length xs
-record-in xs at {r} e h =
-    let w : size_of r ≤ length xs - at = rw (e, ← length-drop at xs) (size-within (drop at xs)) in
-    omega arith
+pub record-in : (xs : List ℕ) (at : ℕ) {r : Record} → Ok r ≡ record_of (drop at xs) → at + size_in r ≤ length xs
+record-in xs at {r} e =
+    let w : size_in r ≤ length xs - at = rw (← length-drop at xs) (subst (λ (x : Result Record Unread). size_of x ≤ length (drop at xs)) (sym e) (size-within (drop at xs))) in
+    omega (arith, size-some r)
 
-pub payload-in : (xs : List ℕ) (at : ℕ) {r : RecordRead} {time : ℤ} {number message location stamp n : ℕ}
-    → r ≡ record_of (drop at xs) → r ≡ Data time number message location stamp n → at + 24 + n ≤ length xs
+pub payload-in : (xs : List ℕ) (at : ℕ) {r : Record} {time : ℤ} {number message location stamp n : ℕ}
+    → Ok r ≡ record_of (drop at xs) → r ≡ Data time number message location stamp n → at + 24 + n ≤ length xs
 payload-in xs at e f =
-    let k = ap size_of f in
-    omega (arith, record-in xs at e (omega arith))
+    let k = ap size_in f in
+    omega (arith, record-in xs at e)
 
-abbrev ShortPayload : RecordRead → Type 0
-ShortPayload Short = Unit {0}
-ShortPayload Bad = Unit {0}
-ShortPayload (Data time number message location stamp n) = n ≤ 1456
-ShortPayload (Pop time) = Unit {0}
-ShortPayload (Report time) = Unit {0}
-ShortPayload (FullAck time) = Unit {0}
-ShortPayload (Ack2 time number) = Unit {0}
-ShortPayload (Drop first last) = Unit {0}
-ShortPayload (Clock time stamp) = Unit {0}
-ShortPayload Clear = Unit {0}
+abbrev ShortPayload : Result Record Unread → Type 0
+ShortPayload (Err e) = Unit {0}
+ShortPayload (Ok (Data time number message location stamp n)) = n ≤ 1456
+ShortPayload (Ok (Pop time)) = Unit {0}
+ShortPayload (Ok (Report time)) = Unit {0}
+ShortPayload (Ok (FullAck time)) = Unit {0}
+ShortPayload (Ok (Ack2 time number)) = Unit {0}
+ShortPayload (Ok (Drop first last)) = Unit {0}
+ShortPayload (Ok (Clock time stamp)) = Unit {0}
+ShortPayload (Ok Clear) = Unit {0}
 
 short-payload : (xs : List ℕ) → ShortPayload (record_of xs)
 unfolding record_of fields_of data_of
@@ -204,25 +183,18 @@ short-payload xs =
     tt
     tt
     tt
-    (λ k l. rw (unknown xs k l) tt)
+    (λ k l. rw (← unknown k l xs) tt)
     (byte_at xs 0))
 
-pub payload-short : (xs : List ℕ) {r : RecordRead} {time : ℤ} {number message location stamp n : ℕ}
-    → r ≡ record_of xs → r ≡ Data time number message location stamp n → n ≤ 1456
-payload-short xs e f = subst ShortPayload (sym e ∙ f) (short-payload xs)
+pub payload-short : (xs : List ℕ) {r : Record} {time : ℤ} {number message location stamp n : ℕ}
+    → Ok r ≡ record_of xs → r ≡ Data time number message location stamp n → n ≤ 1456
+payload-short xs e f = subst ShortPayload (sym e ∙ ap Ok f) (short-payload xs)
 
 -- a record that is cut is shorter than the longest one, and a cut header than 24 bytes: who holds so many need not ask for more
-abbrev CutWithin : ℕ → RecordRead → Type 0
-CutWithin n Short = n < longest_record
-CutWithin n Bad = Unit {0}
-CutWithin n (Data time number message location stamp len) = Unit {0}
-CutWithin n (Pop time) = Unit {0}
-CutWithin n (Report time) = Unit {0}
-CutWithin n (FullAck time) = Unit {0}
-CutWithin n (Ack2 time number) = Unit {0}
-CutWithin n (Drop first last) = Unit {0}
-CutWithin n (Clock time stamp) = Unit {0}
-CutWithin n Clear = Unit {0}
+abbrev CutWithin : ℕ → Result Record Unread → Type 0
+CutWithin n (Err Short) = n < longest_record
+CutWithin n (Err Bad) = Unit {0}
+CutWithin n (Ok r) = Unit {0}
 
 least-within : (kind : ℕ) → least_size kind ≤ longest_record
 unfolding least_size
@@ -256,17 +228,17 @@ cut-within xs =
     tt
     tt
     tt
-    (λ k l. rw (unknown xs k l) tt)
+    (λ k l. rw (← unknown k l xs) tt)
     (byte_at xs 0))
 
-pub record-cut : (xs : List ℕ) → record_of xs ≡ Short → length xs < longest_record
+pub record-cut : (xs : List ℕ) → record_of xs ≡ Err Short → length xs < longest_record
 record-cut xs e = subst (CutWithin (length xs)) e (cut-within xs)
 
-pub header-cut : (xs : List ℕ) → header_of xs ≡ header.Short → length xs < 24
+pub header-cut : (xs : List ℕ) → header_of xs ≡ Err Short → length xs < 24
 unfolding header_of
-header-cut xs = by-test (λ (h : HeaderRead). h ≡ header.Short → length xs < 24) (ltb (length xs) 24) _ _ (λ t e. ltb-true _ _ t) (λ t. whole (is_header xs))
+header-cut xs = by-test (λ (h : Result Header Unread). h ≡ Err Short → length xs < 24) (ltb (length xs) 24) _ _ (λ t e. ltb-true _ _ t) (λ t. whole (is_header xs))
   where
-    whole : (b : Bool) → cond b (settings_in xs) header.Bad ≡ header.Short → length xs < 24
+    whole : (b : Bool) → cond b (Ok (settings_in xs)) (Err Bad) ≡ Err Short → length xs < 24
     whole true e = absurd (let z : ◌≡◌ {A = ℕ} 0 1 = cc in omega arith)
     whole false e = absurd (let z : ◌≡◌ {A = ℕ} 0 1 = cc in omega arith)
 
@@ -306,24 +278,21 @@ unfolding time_at
 time-below xs at small = signed_range 64 (field xs at 8) (omega arith) (field_below xs at 8 small)
 
 -- the numbers of a record and of a header
-abbrev pub RecordFit : RecordRead → Type 0
-RecordFit Short = Unit {0}
-RecordFit Bad = Unit {0}
-RecordFit (Data time number message location stamp n) =
+abbrev pub RecordFit : Result Record Unread → Type 0
+RecordFit (Err e) = Unit {0}
+RecordFit (Ok (Data time number message location stamp n)) =
     (mag time < 2 ^ 63) × (number < 2 ^ 32) × (message < 2 ^ 32) × (location < 256) × (stamp < 2 ^ 32) × (n ≤ 1456)
-RecordFit (Pop time) = mag time < 2 ^ 63
-RecordFit (Report time) = mag time < 2 ^ 63
-RecordFit (FullAck time) = mag time < 2 ^ 63
-RecordFit (Ack2 time number) = (mag time < 2 ^ 63) × (number < 2 ^ 32)
-RecordFit (Drop first last) = (first < 2 ^ 32) × (last < 2 ^ 32)
-RecordFit (Clock time stamp) = (mag time < 2 ^ 63) × (stamp < 2 ^ 32)
-RecordFit Clear = Unit {0}
+RecordFit (Ok (Pop time)) = mag time < 2 ^ 63
+RecordFit (Ok (Report time)) = mag time < 2 ^ 63
+RecordFit (Ok (FullAck time)) = mag time < 2 ^ 63
+RecordFit (Ok (Ack2 time number)) = (mag time < 2 ^ 63) × (number < 2 ^ 32)
+RecordFit (Ok (Drop first last)) = (first < 2 ^ 32) × (last < 2 ^ 32)
+RecordFit (Ok (Clock time stamp)) = (mag time < 2 ^ 63) × (stamp < 2 ^ 32)
+RecordFit (Ok Clear) = Unit {0}
 
-abbrev pub HeaderFit : HeaderRead → Type 0
-HeaderFit header.Short = Unit {0}
-HeaderFit header.Bad = Unit {0}
-HeaderFit (header.Header start latency dropping first capacity) =
-    (mag start < 2 ^ 63) × (latency < 2 ^ 32) × (first < 2 ^ 32) × (capacity < 2 ^ 16)
+abbrev pub HeaderFit : Result Header Unread → Type 0
+HeaderFit (Err e) = Unit {0}
+HeaderFit (Ok h) = (mag h.start < 2 ^ 63) × (h.latency < 2 ^ 32) × (h.first < 2 ^ 32) × (h.capacity < 2 ^ 16)
 
 module _ (xs : List ℕ) (small : AreBytes xs) where
   data-fits : RecordFit (data_of xs)
@@ -349,7 +318,7 @@ module _ (xs : List ℕ) (small : AreBytes xs) where
       (field_below xs 1 4 small, field_below xs 5 4 small)
       (time-below xs 1 small, field_below xs 9 4 small)
       tt
-      (λ k l. rw (unknown xs k l) tt)
+      (λ k l. rw (← unknown k l xs) tt)
 
   pub record-fits : RecordFit (record_of xs)
   unfolding record_of

@@ -1,15 +1,13 @@
 // A record of a trace: 01, "Trace, mark DLT".
 ghost use Rattle.std.specs.Prelude.{◌≡◌, ◌≤◌, length, drop};
-ghost use Rattle.dlt.specs.Record.{least_size, data_in, data_of, fields_of, record_of, size_of};
+ghost use Rattle.dlt.specs.Record.{code_of, least_size, data_in, data_of, fields_of, record_of, size_in};
 
-use crate::bytes::{half, time, wide, word};
+use crate::Unread;
+use crate::bytes::{half, time, word};
+use crate::kind::Kind;
 
-#[derive(Clone, Copy)]
-pub enum RecordRead {
-    // Fewer bytes than the record has, or none.
-    Short,
-    // An unknown kind, or a length over 1,456.
-    Bad,
+#[derive(Clone, Copy, PartialEq, Eq, Debug)]
+pub enum Record {
     Data {
         time: i64,
         number: u32,
@@ -42,124 +40,95 @@ pub enum RecordRead {
     Clear,
 }
 
-// The bytes before a payload, by kind.
-const FIXED: [usize; 9] = [1, 24, 9, 9, 9, 13, 9, 13, 1];
-
-pub fn fixed(kind: u8) -> usize
-    ensures { result ≡ least_size kind }
-{
-    if 8 < kind {
-        return 1;
-    }
-    FIXED[kind as usize]
-}
-
-fn packet(rest: &[u8], n: u16) -> RecordRead
+fn packet(rest: &[u8], n: u16) -> Record
     requires { 24 ≤ length rest.now }
     ensures { result ≡ data_in rest.now n }
 {
-    RecordRead::Data {
+    Record::Data {
         time: time(rest, 1),
         number: word(rest, 9),
         message: word(rest, 13),
-        location: wide(rest[17]),
+        location: u32::from(rest[17]),
         stamp: word(rest, 18),
         length: n,
     }
 }
 
 // The length is judged before it is asked whether the payload is there.
-fn data(rest: &[u8]) -> RecordRead
+fn data(rest: &[u8]) -> Result<Record, Unread>
     requires { 24 ≤ length rest.now }
     ensures { result ≡ data_of rest.now }
 {
     let n = half(rest, 22);
     if 1456 < n {
-        return RecordRead::Bad;
+        return Err(Unread::Bad);
     }
-    if rest.len() < 24 + n as usize {
-        return RecordRead::Short;
+    if rest.len() < 24 + usize::from(n) {
+        return Err(Unread::Short);
     }
-    packet(rest, n)
+    Ok(packet(rest, n))
 }
 
-fn fields(rest: &[u8], kind: u8) -> RecordRead
-    requires { least_size kind ≤ length rest.now }
-    ensures { result ≡ fields_of kind rest.now }
+#[tactic(auto, unfolding(crate::specs::Record::least_size, crate::specs::Record::fields_of))]
+fn fields(rest: &[u8], kind: Kind) -> Result<Record, Unread>
+    requires { least_size (code_of kind) ≤ length rest.now }
+    ensures { result ≡ fields_of (code_of kind) rest.now }
 {
-    match kind {
-        1 => data(rest),
-        2 => RecordRead::Pop {
+    Ok(match kind {
+        Kind::Data => data(rest)?,
+        Kind::Pop => Record::Pop {
             time: time(rest, 1),
         },
-        3 => RecordRead::Report {
+        Kind::Report => Record::Report {
             time: time(rest, 1),
         },
-        4 => RecordRead::FullAck {
+        Kind::FullAck => Record::FullAck {
             time: time(rest, 1),
         },
-        5 => RecordRead::Ack2 {
+        Kind::Ack2 => Record::Ack2 {
             time: time(rest, 1),
             number: word(rest, 9),
         },
-        6 => RecordRead::Drop {
+        Kind::Drop => Record::Drop {
             first: word(rest, 1),
             last: word(rest, 5),
         },
-        7 => RecordRead::Clock {
+        Kind::Clock => Record::Clock {
             time: time(rest, 1),
             stamp: word(rest, 9),
         },
-        8 => RecordRead::Clear,
-        _ => RecordRead::Bad,
-    }
+        Kind::Clear => Record::Clear,
+    })
 }
 
-// The record that the bytes start with.
-fn first(rest: &[u8]) -> RecordRead
+// The record that the bytes start with. Its kind byte tells an unknown kind, before a length is asked for.
+fn first(rest: &[u8]) -> Result<Record, Unread>
     ensures { result ≡ record_of rest.now }
 {
-    if rest.len() < 1 {
-        return RecordRead::Short;
-    }
-    let kind = rest[0];
-    if rest.len() < fixed(kind) {
-        return RecordRead::Short;
+    let kind = Kind::try_from(*rest.first().ok_or(Unread::Short)?)?;
+    if rest.len() < kind.fixed() {
+        return Err(Unread::Short);
     }
     fields(rest, kind)
 }
 
 // The record at the cursor; a cursor past the piece has nothing left.
-pub fn record(piece: &[u8], at: usize) -> RecordRead
+pub fn read(piece: &[u8], at: usize) -> Result<Record, Unread>
     ensures { result ≡ record_of (drop at piece.now) }
 {
-    if piece.len() <= at {
-        return RecordRead::Short;
-    }
-    first(&piece[at..])
+    first(piece.get(at..).ok_or(Unread::Short)?)
 }
 
-// The bytes that a record takes, its payload too; 0 if there is none.
-pub fn size(r: RecordRead) -> usize
-    ensures { result ≡ size_of r }
+// The bytes that a record takes, its payload too. By its own match: the sizes by Kind::fixed would need one more, of a
+// record's kind.
+pub fn size(r: Record) -> usize
+    ensures { result ≡ size_in r }
 {
     match r {
-        RecordRead::Short => 0,
-        RecordRead::Bad => 0,
-        RecordRead::Data {
-            time: _,
-            number: _,
-            message: _,
-            location: _,
-            stamp: _,
-            length,
-        } => 24 + length as usize,
-        RecordRead::Pop { time: _ } => 9,
-        RecordRead::Report { time: _ } => 9,
-        RecordRead::FullAck { time: _ } => 9,
-        RecordRead::Ack2 { time: _, number: _ } => 13,
-        RecordRead::Drop { first: _, last: _ } => 9,
-        RecordRead::Clock { time: _, stamp: _ } => 13,
-        RecordRead::Clear => 1,
+        Record::Data { length, .. } => 24 + usize::from(length),
+        Record::Pop { .. } | Record::Report { .. } | Record::FullAck { .. } | Record::Drop { .. } =>
+            9,
+        Record::Ack2 { .. } | Record::Clock { .. } => 13,
+        Record::Clear => 1,
     }
 }

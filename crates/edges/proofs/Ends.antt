@@ -1,4 +1,5 @@
--- Both sides of each range of the head and of making, and how words with more bits than they need are read: 01, "Head and lent areas". Computed from the definitions. Assumes nothing.
+-- Both sides of each range of the head and of making, and how words with more bits than they need are read: 01, "Head
+-- and lent areas". Computed from the definitions. Assumes nothing.
 use mathlib.Core.Path.{◌≡◌, refl}
 use mathlib.Core.Bool.{Bool, true, false}
 use mathlib.Core.List.{List, [], ◌∷◌, ◌++◌, map}
@@ -6,8 +7,7 @@ use Prim.Native.Nat.{ℕ, ◌+◌, ◌-◌, ◌*◌, ◌^◌}
 use lib.Ieee as ieee
 use lib.IntN.{ℤ, pos, negsuc}
 use lib.ListN.{replicate, set}
-use Rattle.numbers.specs.declared.instant.Moment.{Moment}
-use Rattle.numbers.specs.declared.instant.Moment.TheVariants.{Unset, At}
+use Rattle.std.specs.Prelude.{Option, Some, None, Result, Ok, Err}
 use Rattle.clock.specs.Base as base
 use Rattle.clock.specs.Ranges as ranges
 use Rattle.clock.specs.Samples as samples
@@ -20,7 +20,8 @@ use Rattle.slots.specs.Ring.{with_payload}
 use Rattle.slots.specs.declared.entry.Entry.TheVariants.{Lost, Received}
 use Rattle.head.specs.Head.{head_ok, fresh_head, made_of}
 use Rattle.head.specs.Parts.{with_window, with_clock, with_rtt, with_rates, with_history, with_latest}
-use Rattle.head.specs.Rules.{then_of}
+use Rattle.head.specs.Rules.{number_of}
+use Rattle.head.specs.declared.refusal.Refusal.{Refusal}
 use Rattle.head.specs.declared.state.Head.{Head}
 
 -- a head, and whether its numbers are in their ranges
@@ -37,7 +38,8 @@ outside h = record { head = h; ok = false }
 abbrev fresh : Head
 fresh = fresh_head (pos 0) 0 true 0 8
 
--- capacity, start, held, seqno0, lrsn: all at their upper ends, and at their lower ones with one held; capacity 0 and 8,193; start at capacity, held past it; numbers of 2^31
+-- capacity, start, held, seqno0, lrsn: all at their upper ends, and at their lower ones with one held; capacity 0 and
+-- 8,193; start at capacity, held past it; numbers of 2^31
 abbrev windowed : ℕ → ℕ → ℕ → ℕ → ℕ → Head
 windowed capacity start held front lrsn = with_window fresh (record { capacity = capacity; start = start; held = held; seqno0 = front; lrsn = lrsn })
 
@@ -65,19 +67,19 @@ delays =
     ∷ []
 
 -- reference time, last released time, drift samples
-abbrev clocked : ℤ → Moment → ℕ → Head
+abbrev clocked : ℤ → Option ℤ → ℕ → Head
 clocked time last count =
     with_clock fresh (record { base = record { time = time; stamp = 0 }; last = last; seen = true; stats = record { mean = (samples.no_samples).mean; squares = (samples.no_samples).squares; count = count } })
 
 abbrev clocks : List End
 clocks =
-    inside (clocked (pos (2 ^ 61)) (At (pos (2 ^ 61 + 2 ^ 31))) 999)
-    ∷ inside (clocked (negsuc (2 ^ 61 - 1)) (At (negsuc (2 ^ 61 + 2 ^ 31 - 1))) 0)
-    ∷ outside (clocked (pos (2 ^ 61 + 1)) Unset 0)
-    ∷ outside (clocked (negsuc (2 ^ 61)) Unset 0)
-    ∷ outside (clocked (pos 0) (At (pos (2 ^ 61 + 2 ^ 31 + 1))) 0)
-    ∷ outside (clocked (pos 0) (At (negsuc (2 ^ 61 + 2 ^ 31))) 0)
-    ∷ outside (clocked (pos 0) Unset 1000)
+    inside (clocked (pos (2 ^ 61)) (Some (pos (2 ^ 61 + 2 ^ 31))) 999)
+    ∷ inside (clocked (negsuc (2 ^ 61 - 1)) (Some (negsuc (2 ^ 61 + 2 ^ 31 - 1))) 0)
+    ∷ outside (clocked (pos (2 ^ 61 + 1)) None 0)
+    ∷ outside (clocked (negsuc (2 ^ 61)) None 0)
+    ∷ outside (clocked (pos 0) (Some (pos (2 ^ 61 + 2 ^ 31 + 1))) 0)
+    ∷ outside (clocked (pos 0) (Some (negsuc (2 ^ 61 + 2 ^ 31))) 0)
+    ∷ outside (clocked (pos 0) None 1000)
     ∷ []
 
 -- both figures of the round trip
@@ -91,36 +93,37 @@ trips =
     ∷ outside (tripped 0 2147483648)
     ∷ []
 
--- the window of arrivals: an interval and a size in it, the next place, the count, the last arrival; a place that is not in the window may hold anything
-abbrev arrived : ℕ → ℕ → ℕ → ℕ → Moment → Head
+-- the window of arrivals: an interval and a size in it, the next place, the count, the last arrival; a place that is
+-- not in the window may hold anything
+abbrev arrived : ℕ → ℕ → ℕ → ℕ → Option ℤ → Head
 arrived gap size at count last =
     with_rates fresh (record { gaps = set (replicate 16 0) 0 gap; sizes = set (replicate 16 0) 0 size; at = at; count = count; last = last }) rates.fresh_links
 
 abbrev arrivals : List End
 arrivals =
-    inside (arrived 2147483647 1456 15 16 (At (pos (2 ^ 60 - 1))))
-    ∷ inside (arrived 2147483648 1457 1 0 Unset)
-    ∷ outside (arrived 2147483648 0 1 1 Unset)
-    ∷ outside (arrived 0 1457 1 1 Unset)
-    ∷ outside (arrived 0 0 16 0 Unset)
-    ∷ outside (arrived 0 0 0 17 Unset)
-    ∷ outside (arrived 0 0 0 0 (At (pos (2 ^ 60))))
-    ∷ outside (arrived 0 0 0 0 (At (negsuc 0)))
+    inside (arrived 2147483647 1456 15 16 (Some (pos (2 ^ 60 - 1))))
+    ∷ inside (arrived 2147483648 1457 1 0 None)
+    ∷ outside (arrived 2147483648 0 1 1 None)
+    ∷ outside (arrived 0 1457 1 1 None)
+    ∷ outside (arrived 0 0 16 0 None)
+    ∷ outside (arrived 0 0 0 17 None)
+    ∷ outside (arrived 0 0 0 0 (Some (pos (2 ^ 60))))
+    ∷ outside (arrived 0 0 0 0 (Some (negsuc 0)))
     ∷ []
 
 -- the window of pairs likewise
-abbrev paired : ℕ → ℕ → ℕ → Moment → Head
+abbrev paired : ℕ → ℕ → ℕ → Option ℤ → Head
 paired gap at count probe = with_rates fresh rates.fresh_arrivals (record { gaps = set (replicate 16 0) 0 gap; at = at; count = count; probe = probe })
 
 abbrev pairs : List End
 pairs =
-    inside (paired 2147483647 15 16 (At (pos (2 ^ 60 - 1))))
-    ∷ inside (paired 2147483648 1 0 Unset)
-    ∷ outside (paired 2147483648 1 1 Unset)
-    ∷ outside (paired 0 16 0 Unset)
-    ∷ outside (paired 0 0 17 Unset)
-    ∷ outside (paired 0 0 0 (At (pos (2 ^ 60))))
-    ∷ outside (paired 0 0 0 (At (negsuc 0)))
+    inside (paired 2147483647 15 16 (Some (pos (2 ^ 60 - 1))))
+    ∷ inside (paired 2147483648 1 0 None)
+    ∷ outside (paired 2147483648 1 1 None)
+    ∷ outside (paired 0 16 0 None)
+    ∷ outside (paired 0 0 17 None)
+    ∷ outside (paired 0 0 0 (Some (pos (2 ^ 60))))
+    ∷ outside (paired 0 0 0 (Some (negsuc 0)))
     ∷ []
 
 -- history start, count, first ACK number and with it the newest, largest_ack2_dsn, last_ack_dsn
@@ -182,12 +185,18 @@ makings =
     ∷ making (pos 0) 0 0 8193 15
     ∷ []
 
+-- the number of a refusal, and 0 if there is none
+abbrev refusal_in : Result Head Refusal → ℕ
+refusal_in (Ok h) = 0
+refusal_in (Err e) = number_of e
+
 makings-judged :
-    map (λ (m : Making). (made_of m.start m.latency true m.first m.capacity).refusal) makings ≡ map (λ (m : Making). m.refusal) makings
-unfolding made_of then_of
+    map (λ (m : Making). refusal_in (made_of m.start m.latency true m.first m.capacity)) makings ≡ map (λ (m : Making). m.refusal) makings
+unfolding made_of
 makings-judged = refl
 
--- a slot's words: a length above 1,456 is read as 1,456; of k the low 16 bits, of a feedback time those under 2^60; all other bits are ignored
+-- a slot's words: a length above 1,456 is read as 1,456; of k the low 16 bits, of a feedback time those under 2^60; all
+-- other bits are ignored
 lengths_read : (entry_of (1 + 4 * 1456) 0 0 ∷ entry_of (1 + 4 * 1457) 0 0 ∷ entry_of (1 + 4 * 2047) 0 0 ∷ []) ≡ (Received 1456 0 0 0 ∷ Received 1456 0 0 0 ∷ Received 1456 0 0 0 ∷ [])
 unfolding entry_of
 lengths_read = refl
@@ -209,7 +218,8 @@ others-written = refl
 bytes_past : with_payload (replicate 1460 9) 0 (1 ∷ 2 ∷ []) ≡ (1 ∷ 2 ∷ replicate 1458 9)
 bytes_past = refl
 
--- a departure after `now` is read as `now`; of its word those bits count that are under 2^60, of a data number those under 2^31
+-- a departure after `now` is read as `now`; of its word those bits count that are under 2^60, of a data number those
+-- under 2^31
 departures-read :
     (history.departure_at (0 ∷ 1000 ∷ []) 0 (pos 1000) ∷ history.departure_at (0 ∷ 1001 ∷ []) 0 (pos 1000) ∷ history.departure_at (0 ∷ (2 ^ 60 + 5) ∷ []) 0 (pos 1000) ∷ pos (history.number_at ((2 ^ 31 + 3) ∷ 0 ∷ []) 0) ∷ [])
     ≡ (pos 1000 ∷ pos 1000 ∷ pos 5 ∷ pos 3 ∷ [])

@@ -16,8 +16,7 @@ use Rattle.clock.specs.Sync.{fresh_clock}
 use Rattle.acks.specs.History.{fresh_history, history_ok}
 use Rattle.acks.specs.Rtt.{fresh_rtt, rtt_ok}
 use Rattle.intervals.specs.Rates.{fresh_arrivals, fresh_links, arrivals_ok, links_ok, window_of, all_under}
-use Rattle.head.specs.Head.{head_ok, fresh_head, unmade}
-use Rattle.head.specs.Rules.{then_of}
+use Rattle.head.specs.Head.{head_ok, fresh_head, nowhere}
 use Rattle.head.specs.declared.state.Head.{Head}
 use Rattle.upkeep.specs.Request.{room_call_of}
 use Rattle.packing.specs.Packed.{at, numbers_formed, sixteen_of, formed, head_of, unpack_of}
@@ -101,7 +100,7 @@ moment-right (suc (suc n)) time =
     rw (ne_eqb (suc (suc n)) 1 (λ e. omega arith), ne_eqb (suc (suc n)) 0 (λ e. omega arith), le-ltb (suc (suc n)) 2 (omega arith))
 
 -- words that are not formed say a head out of range
-by_form : (b : Bool) (h : Head) → head_ok (cond b h unmade) ≡ (b && head_ok h)
+by_form : (b : Bool) (h : Head) → head_ok (cond b h nowhere) ≡ (b && head_ok h)
 unfolding head_ok fresh_head
 by_form true h = refl
 by_form false h = refl
@@ -162,5 +161,5 @@ right =
     ∷ []
 
 causes-refused : map (λ (ws : List ℕ). (room_export_of ws).returned) (wrong ++ right) ≡ (replicate 13 1 ++ replicate 13 0)
-unfolding room_export_of room_call_of then_of unpack_of formed head_of numbers_formed sixteen_of head_ok fresh_head fresh_clock fresh_base no_samples fresh_rtt fresh_arrivals fresh_links fresh_history clock_ok rtt_ok arrivals_ok links_ok window_of all_under history_ok signed nan_bits of_bits fits
+unfolding room_export_of room_call_of unpack_of formed head_of numbers_formed sixteen_of head_ok fresh_head fresh_clock fresh_base no_samples fresh_rtt fresh_arrivals fresh_links fresh_history clock_ok rtt_ok arrivals_ok links_ok window_of all_under history_ok signed nan_bits of_bits fits
 causes-refused = refl

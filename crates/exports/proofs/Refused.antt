@@ -8,7 +8,6 @@ use borrow.Author.Tests.{ne_eqb}
 use lib.IntN.{ℤ}
 use Rattle.window.specs.declared.push.Packet.{Packet}
 use Rattle.head.specs.Head.{fresh_head, head_ok}
-use Rattle.head.specs.Rules.{then_of}
 use Rattle.head.specs.declared.state.Head.{Head}
 use Rattle.feedback.specs.Acking.{full_ack_call_of, ack2_call_of}
 use Rattle.receiver.specs.Data.{data_call_of}
@@ -20,7 +19,8 @@ use Rattle.feedback.specs.Sync.{clock_call_of}
 use Rattle.packing.specs.Packed.{formed, unpack_of}
 use Rattle.packing.specs.Tally.{counters_words, counters_of}
 use Rattle.cells.specs.Cells.{cells_of}
-use Rattle.head.specs.Paper.{refused_by}
+use Rattle.head.specs.Paper.{refused_line}
+use Rattle.head.specs.declared.refusal.Refusal.TheVariants.{HeadBad}
 use Rattle.exports.specs.Calls.{left, kept, new_of, data_export_of, message_export_of, loss_export_of, full_ack_export_of, ack2_export_of, drop_export_of, clock_export_of, clear_export_of, room_export_of, show_export_of, data_counted_of, ack2_counted_of, drop_counted_of, clock_counted_of}
 
 -- on a refusal the head's words stay
@@ -79,64 +79,64 @@ unformed ws e = rw e
 
 -- so each call refuses them with 1, and all that it was lent stays; counters go through their own words, which ten words do unchanged (packing's `tally-words`)
 abbrev head_bad : List ℤ
-head_bad = cells_of (refused_by 1 [])
+head_bad = cells_of (refused_line HeadBad)
 
 abbrev tally : List ℕ → List ℕ
 tally cs = counters_words (counters_of cs)
 
 module _ (ws : List ℕ) (e : formed ws ≡ false) where
   pub data-unformed : (slots payloads : List ℕ) (now : ℤ) (p : Packet) (payload : List ℕ) → data_export_of ws slots payloads now p payload ≡ left 1 ws head_bad (slots ∷ payloads ∷ [])
-  unfolding data_export_of data_call_of then_of
+  unfolding data_export_of data_call_of
   data-unformed slots payloads now p payload = rw (unformed ws e)
 
   pub message-unformed : (slots payloads output : List ℕ) (now : ℤ) → message_export_of ws slots payloads output now ≡ left 1 ws head_bad (output ∷ [])
-  unfolding message_export_of pop_call_of then_of
+  unfolding message_export_of pop_call_of
   message-unformed slots payloads output now = rw (unformed ws e)
 
   pub loss-unformed : (slots list : List ℕ) (now : ℤ) → loss_export_of ws slots list now ≡ left 1 ws head_bad (slots ∷ list ∷ [])
-  unfolding loss_export_of report_call_of then_of
+  unfolding loss_export_of report_call_of
   loss-unformed slots list now = rw (unformed ws e)
 
   pub full-ack-unformed : (history : List ℕ) (now : ℤ) → full_ack_export_of ws history now ≡ left 1 ws head_bad (history ∷ [])
-  unfolding full_ack_export_of full_ack_call_of then_of
+  unfolding full_ack_export_of full_ack_call_of
   full-ack-unformed history now = rw (unformed ws e)
 
   pub ack2-unformed : (history : List ℕ) (now : ℤ) (number : ℕ) → ack2_export_of ws history now number ≡ left 1 ws head_bad []
-  unfolding ack2_export_of ack2_call_of then_of
+  unfolding ack2_export_of ack2_call_of
   ack2-unformed history now number = rw (unformed ws e)
 
   pub drop-unformed : (slots : List ℕ) (first last : ℕ) → drop_export_of ws slots first last ≡ left 1 ws head_bad (slots ∷ [])
-  unfolding drop_export_of drop_call_of then_of
+  unfolding drop_export_of drop_call_of
   drop-unformed slots first last = rw (unformed ws e)
 
   pub clock-unformed : (now : ℤ) (stamp : ℕ) → clock_export_of ws now stamp ≡ left 1 ws head_bad []
-  unfolding clock_export_of clock_call_of then_of
+  unfolding clock_export_of clock_call_of
   clock-unformed now stamp = rw (unformed ws e)
 
   pub clear-unformed : clear_export_of ws ≡ left 1 ws head_bad []
-  unfolding clear_export_of clear_call_of then_of
+  unfolding clear_export_of clear_call_of
   clear-unformed = rw (unformed ws e)
 
   pub room-unformed : room_export_of ws ≡ left 1 ws head_bad []
-  unfolding room_export_of room_call_of then_of
+  unfolding room_export_of room_call_of
   room-unformed = rw (unformed ws e)
 
   pub show-unformed : (slots payloads : List ℕ) (number : ℕ) → show_export_of ws slots payloads number ≡ left 1 ws head_bad []
-  unfolding show_export_of shown_call_of place_call_of then_of
+  unfolding show_export_of shown_call_of place_call_of
   show-unformed slots payloads number = rw (unformed ws e)
 
   pub data-counted-unformed : (cs slots payloads : List ℕ) (now : ℤ) (p : Packet) (payload : List ℕ) → data_counted_of ws cs slots payloads now p payload ≡ left 1 ws head_bad (tally cs ∷ slots ∷ payloads ∷ [])
-  unfolding data_counted_of data_call_of then_of
+  unfolding data_counted_of data_call_of
   data-counted-unformed cs slots payloads now p payload = rw (unformed ws e)
 
   pub ack2-counted-unformed : (cs history : List ℕ) (now : ℤ) (number : ℕ) → ack2_counted_of ws cs history now number ≡ left 1 ws head_bad (tally cs ∷ [])
-  unfolding ack2_counted_of ack2_call_of then_of
+  unfolding ack2_counted_of ack2_call_of
   ack2-counted-unformed cs history now number = rw (unformed ws e)
 
   pub drop-counted-unformed : (cs slots : List ℕ) (first last : ℕ) → drop_counted_of ws cs slots first last ≡ left 1 ws head_bad (tally cs ∷ slots ∷ [])
-  unfolding drop_counted_of drop_call_of then_of
+  unfolding drop_counted_of drop_call_of
   drop-counted-unformed cs slots first last = rw (unformed ws e)
 
   pub clock-counted-unformed : (cs : List ℕ) (now : ℤ) (stamp : ℕ) → clock_counted_of ws cs now stamp ≡ left 1 ws head_bad (tally cs ∷ [])
-  unfolding clock_counted_of clock_call_of then_of
+  unfolding clock_counted_of clock_call_of
   clock-counted-unformed cs now stamp = rw (unformed ws e)

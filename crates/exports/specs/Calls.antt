@@ -1,10 +1,10 @@
 -- Each call on words: what the receiver's call does on the head that the words say. 01, "Refused, in order of test": a refusal leaves the head, so its words stay.
-use Rattle.std.specs.Prelude.{Bool, cond, List, [], ◌∷◌, ℕ, eqb, ℤ, length}
+use Rattle.std.specs.Prelude.{Bool, cond, List, [], ◌∷◌, ℕ, eqb, ℤ, length, Option, Some, None, Result, Ok, Err}
 use Rattle.window.specs.declared.push.Packet.{Packet}
 use Rattle.window.specs.declared.show.Part.{Part}
-use Rattle.head.specs.Head.{made_of}
+use Rattle.head.specs.Head.{made_of, head_made}
+use Rattle.head.specs.declared.refusal.Refusal.{Refusal}
 use Rattle.head.specs.declared.state.Head.{Head}
-use Rattle.head.specs.declared.state.Made.{Made}
 use Rattle.feedback.specs.Acking.{FullAckOutcome, full_ack_call_of, Ack2Outcome, ack2_call_of}
 use Rattle.receiver.specs.Data.{DataOutcome, data_call_of}
 use Rattle.feedback.specs.Loss.{LossOutcome, report_call_of}
@@ -15,7 +15,7 @@ use Rattle.feedback.specs.Sync.{ClockOutcome, clock_call_of}
 use Rattle.counters.specs.Calls.{Counted, data_counted, ack2_counted, drop_counted, clock_counted}
 use Rattle.packing.specs.Packed.{pack_of, unpack_of}
 use Rattle.packing.specs.Tally.{counters_words, counters_of}
-use Rattle.cells.specs.Cells.{cells_of, loss_cells, shown_cells, made_cells}
+use Rattle.cells.specs.Cells.{refusal_of, cells_of, loss_cells, shown_cells, made_cells}
 
 -- all that a call leaves: the number that it returns, the head's words and the head that they say, the answer's cells, and each area that it may write
 pub record Left : Type 0 where
@@ -40,8 +40,8 @@ after ws refusal h cells areas = record { returned = refusal; words = kept ws re
 
 -- each outcome of the receiver on words
 module _ (ws : List ℕ) where
-  abbrev pub from_made : Made → Left
-  from_made m = after ws m.refusal m.head (made_cells m.refusal) []
+  abbrev pub from_made : Result Head Refusal → Left
+  from_made m = after ws (refusal_of m) (head_made m) (made_cells m) []
 
   abbrev pub from_data : DataOutcome → Left
   from_data o = after ws o.line.refusal o.handled.head (cells_of o.line) (o.slots ∷ o.payloads ∷ [])
@@ -72,8 +72,9 @@ module _ (ws : List ℕ) where
   abbrev pub from_room : RoomOutcome → Left
   from_room o = left o.line.refusal ws (cells_of o.line) []
 
-  abbrev pub from_shown : ShownOutcome → Part → Left
-  from_shown o p = left o.line.refusal ws (shown_cells o.answer p.at p.len) []
+  abbrev pub from_shown : ShownOutcome → Option Part → Left
+  from_shown o (Some p) = left o.line.refusal ws (shown_cells o.answer p.at p.len) []
+  from_shown o None = left o.line.refusal ws (shown_cells o.answer 0 0) []
 
 -- an outcome with the counters' words as one more area
 abbrev pub counting : {A : Type 0} → (A → Left) → Counted A → Left

@@ -2,6 +2,8 @@
 ghost use Rattle.std.specs.Prelude.{◌≡◌, [], ◌∷◌};
 ghost use Rattle.exports.specs.Calls.{left, ack2_export_of, full_ack_export_of};
 
+use crate::keep::keep;
+
 pub fn pt_on_full_ack_event(
     words: &mut [u64; 79],
     answer: &mut [i64; 10],
@@ -12,12 +14,7 @@ pub fn pt_on_full_ack_event(
 {
     let h = packing::unpack::unpack(words);
     let r = feedback::acking::on_full_ack_event(h, history, time);
-    let next = r.head;
-    let a = r.answer;
-    let n = cells::full_ack_refusal(a);
-    crate::keep::keep(words, n, next);
-    *answer = cells::full_ack_cells(a);
-    n
+    keep(words, answer, r.head, r.answer)
 }
 
 pub fn pt_handle_ack2_packet(
@@ -31,10 +28,5 @@ pub fn pt_handle_ack2_packet(
 {
     let h = packing::unpack::unpack(words);
     let r = feedback::acking::handle_ack2_packet(h, history, time, number);
-    let next = r.head;
-    let a = r.answer;
-    let n = cells::rtt_refusal(a);
-    crate::keep::keep(words, n, next);
-    *answer = cells::rtt_cells(a);
-    n
+    keep(words, answer, r.head, r.answer)
 }

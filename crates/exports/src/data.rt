@@ -3,6 +3,9 @@ ghost use Rattle.std.specs.Prelude.{◌≡◌, [], ◌∷◌};
 ghost use Rattle.receiver.specs.Data.{packet};
 ghost use Rattle.exports.specs.Calls.{left, data_export_of};
 
+use crate::keep::say;
+use window::push::Packet;
+
 pub fn pt_handle_data_packet(
     words: &mut [u64; 79],
     answer: &mut [i64; 10],
@@ -17,9 +20,12 @@ pub fn pt_handle_data_packet(
 ) -> u32
     ensures { left result words.new answer.new (slots.new ∷ payloads.new ∷ []) ≡ data_export_of words.old slots.old payloads.old time (packet number message location stamp) payload.now }
 {
-    let a = inplace::data::handle_data_packet(
-        words, slots, payloads, time, number, message, location, stamp, payload,
-    );
-    *answer = cells::data_cells(a);
-    cells::data_refusal(a)
+    let p = Packet {
+        number,
+        message,
+        location,
+        stamp,
+    };
+    let a = inplace::data::handle_data_packet(words, slots, payloads, time, p, payload);
+    say(answer, a)
 }

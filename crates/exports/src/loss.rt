@@ -2,6 +2,8 @@
 ghost use Rattle.std.specs.Prelude.{◌≡◌, [], ◌∷◌};
 ghost use Rattle.exports.specs.Calls.{left, loss_export_of};
 
+use crate::keep::keep;
+
 pub fn pt_on_nak_event(
     words: &mut [u64; 79],
     answer: &mut [i64; 10],
@@ -13,10 +15,5 @@ pub fn pt_on_nak_event(
 {
     let h = packing::unpack::unpack(words);
     let r = feedback::loss::on_nak_event(h, slots, list, time);
-    let next = r.head;
-    let a = r.answer;
-    let n = cells::loss_refusal(a);
-    crate::keep::keep(words, n, next);
-    *answer = cells::loss_cells(a);
-    n
+    keep(words, answer, r.head, r.answer)
 }

@@ -2,6 +2,7 @@
 ghost use Rattle.std.specs.Prelude.{◌≡◌, []};
 ghost use Rattle.exports.specs.Calls.{left, new_of};
 
+use crate::keep::keep;
 use head::state::Head;
 
 pub fn pt_new(
@@ -16,9 +17,5 @@ pub fn pt_new(
     ensures { left result words.new answer.new [] ≡ new_of words.old start latency dropping first capacity }
 {
     let made = Head::new(start, latency, dropping, first, capacity);
-    let next = made.head;
-    let n = made.refusal;
-    crate::keep::keep(words, n, next);
-    *answer = cells::made_cells(n);
-    n
+    keep(words, answer, made.unwrap_or(Head::nowhere()), made)
 }

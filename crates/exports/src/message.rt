@@ -2,6 +2,8 @@
 ghost use Rattle.std.specs.Prelude.{◌≡◌, [], ◌∷◌};
 ghost use Rattle.exports.specs.Calls.{left, message_export_of};
 
+use crate::keep::say;
+
 pub fn pt_pop_next_message(
     words: &mut [u64; 79],
     answer: &mut [i64; 10],
@@ -13,6 +15,5 @@ pub fn pt_pop_next_message(
     ensures { left result words.new answer.new (output.new ∷ []) ≡ message_export_of words.old slots.now payloads.now output.old time }
 {
     let a = inplace::message::pop_next_message(words, slots, payloads, output, time);
-    *answer = cells::message_cells(a);
-    cells::message_refusal(a)
+    say(answer, a)
 }

@@ -1,6 +1,10 @@
-// The drop request, clear and room: 01, "Window", with refusals 1, 2 and 5; 1; and 1. A drop request and the question of room have no head to write.
+// The drop request, clear and room: 01, "Window", with refusals 1, 2 and 5; 1; and 1. A drop request and the question
+// of room have no head to write.
 ghost use Rattle.std.specs.Prelude.{◌≡◌, [], ◌∷◌};
 ghost use Rattle.exports.specs.Calls.{left, clear_export_of, drop_export_of, room_export_of};
+
+use crate::keep::{keep, say};
+use cells::{Gone, Room};
 
 pub fn pt_handle_drop_request(
     words: &[u64; 79],
@@ -13,8 +17,7 @@ pub fn pt_handle_drop_request(
 {
     let h = packing::unpack::unpack(words);
     let a = upkeep::request::handle_drop_request(h, slots, first, last);
-    *answer = cells::drop_cells(a);
-    cells::drop_refusal(a)
+    say(answer, a.map(Gone))
 }
 
 pub fn pt_clear(words: &mut [u64; 79], answer: &mut [i64; 10]) -> u32
@@ -22,12 +25,7 @@ pub fn pt_clear(words: &mut [u64; 79], answer: &mut [i64; 10]) -> u32
 {
     let h = packing::unpack::unpack(words);
     let r = upkeep::request::clear(h);
-    let next = r.head;
-    let a = r.answer;
-    let n = cells::clear_refusal(a);
-    crate::keep::keep(words, n, next);
-    *answer = cells::clear_cells(a);
-    n
+    keep(words, answer, r.head, r.answer)
 }
 
 pub fn pt_buffer_available(words: &[u64; 79], answer: &mut [i64; 10]) -> u32
@@ -35,6 +33,5 @@ pub fn pt_buffer_available(words: &[u64; 79], answer: &mut [i64; 10]) -> u32
 {
     let h = packing::unpack::unpack(words);
     let a = upkeep::request::buffer_available(h);
-    *answer = cells::room_cells(a);
-    cells::room_refusal(a)
+    say(answer, a.map(Room))
 }

@@ -1,6 +1,9 @@
-// Where a payload lies: 01, "Window", with refusals 1, 2 and 5. C has the payload area, so the answer is an offset and a length.
+// Where a payload lies: 01, "Window", with refusals 1, 2 and 5. C has the payload area, so the answer is an offset and
+// a length.
 ghost use Rattle.std.specs.Prelude.{◌≡◌, []};
 ghost use Rattle.exports.specs.Calls.{left, show_export_of};
+
+use crate::keep::say;
 
 pub fn pt_show(
     words: &[u64; 79],
@@ -14,6 +17,5 @@ pub fn pt_show(
     let h = packing::unpack::unpack(words);
     let a = upkeep::show::shown(h, slots, payloads, number);
     let p = upkeep::show::place_in(h, slots, payloads.len(), number);
-    *answer = cells::shown_cells(a, p.at, p.len);
-    cells::shown_refusal(a)
+    say(answer, a.and(Ok(p)))
 }

@@ -2,6 +2,8 @@
 ghost use Rattle.std.specs.Prelude.{◌≡◌, []};
 ghost use Rattle.exports.specs.Calls.{left, clock_export_of};
 
+use crate::keep::keep;
+
 pub fn pt_synchronize_clock(
     words: &mut [u64; 79],
     answer: &mut [i64; 10],
@@ -12,10 +14,5 @@ pub fn pt_synchronize_clock(
 {
     let h = packing::unpack::unpack(words);
     let r = feedback::sync::synchronize_clock(h, time, stamp);
-    let next = r.head;
-    let a = r.answer;
-    let n = cells::clock_refusal(a);
-    crate::keep::keep(words, n, next);
-    *answer = cells::clock_cells(a);
-    n
+    keep(words, answer, r.head, r.answer)
 }

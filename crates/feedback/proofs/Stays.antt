@@ -6,20 +6,16 @@ use Prim.Native.Nat.{ℕ, ◌*◌}
 use lib.Dec.{eqb, ltb}
 use lib.IntN.{ℤ}
 use lib.ListN.{length}
+use Rattle.std.specs.Prelude.{Some, None, Ok, Err}
 use Rattle.window_report.specs.Report as report
-use Rattle.window_report.specs.declared.report.ReportAnswer.TheVariants as reports
 use Rattle.head.specs.Rules.{first_refusal, timed_rules}
 use Rattle.head.specs.Head.{head_ok}
 use Rattle.head.specs.declared.state.Head.{Head}
+use Rattle.head.proofs.Gates.{by-refusal}
 use Rattle.feedback.specs.Stays.{LossStays}
 use Rattle.feedback.specs.Loss as loss
-use Rattle.feedback.specs.declared.loss.LossAnswer.TheVariants as losses
 
 module _ (h : Head) (ws list : List ℕ) (now : ℤ) where
-  loss-by : (t : Bool) (x y : loss.LossOutcome) → LossStays h ws list x → LossStays h ws list y → LossStays h ws list (cond t x y)
-  loss-by true x y p q = p
-  loss-by false x y p q = q
-
   report-by : (t : Bool) (x y : report.ReportOutcome) → LossStays h ws list (loss.ending h now x) → LossStays h ws list (loss.ending h now y) → LossStays h ws list (loss.ending h now (cond t x y))
   report-by true x y p q = p
   report-by false x y p q = q
@@ -30,9 +26,9 @@ module _ (h : Head) (ws list : List ℕ) (now : ℤ) where
       let w = h.window in
       let m = h.rtt.mean in
       let n = report.needed w ws now m in
-      let none = report.report_ended reports.Nothing ws list in
-      let short = report.report_ended reports.ListShort ws list in
-      let done = report.report_ended (reports.Report n) (report.slots_to w ws now m w.held) (report.list_all w ws now m list) in
+      let none = report.report_ended (Ok None) ws list in
+      let short = report.report_ended (Err (record {})) ws list in
+      let done = report.report_ended (Ok (Some n)) (report.slots_to w ws now m w.held) (report.list_all w ws now m list) in
       report-by (eqb n 0) none (cond (ltb (length list) n) short done)
       (λ e. absurd (e refl))
       (report-by (ltb (length list) n) short done (λ e. refl) (λ e. absurd (e refl)))
@@ -40,5 +36,6 @@ module _ (h : Head) (ws list : List ℕ) (now : ℤ) where
   pub loss-stays : LossStays h ws list (loss.report_call_of h ws list now)
   unfolding loss.report_call_of
   loss-stays =
-      let n = first_refusal (timed_rules (head_ok h) (length ws) (3 * h.window.capacity) now h.latest) in
-      loss-by (eqb n 0) (loss.reported_of h ws list now) (loss.loss_ended (record { head = h; answer = losses.Refused n }) ws list) reported-stays (λ e. refl)
+      by-refusal (LossStays h ws list) (first_refusal (timed_rules (head_ok h) (length ws) (3 * h.window.capacity) now h.latest)) _ _
+      (λ x t. reported-stays)
+      (λ e t n. refl)

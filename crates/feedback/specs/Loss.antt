@@ -1,17 +1,20 @@
 -- The loss report call: 01, "Window", with refusals 1 to 4 and 12.
-use Rattle.std.specs.Prelude.{List, ℕ, ◌*◌, ℤ, length}
+use Rattle.std.specs.Prelude.{List, ℕ, ◌*◌, ℤ, length, Option, Result, Ok, Err}
 use Rattle.window_report.specs.Report.{ReportOutcome, report_of}
-use Rattle.window_report.specs.declared.report.ReportAnswer.{ReportAnswer}
-use Rattle.window_report.specs.declared.report.ReportAnswer.TheVariants as reports
+use Rattle.window_report.specs.declared.report.ListShort.{ListShort}
 use Rattle.head.specs.Rules.{first_refusal, judged, timed_rules}
 use Rattle.head.specs.Head.{head_ok}
 use Rattle.head.specs.Parts.{with_latest}
+use Rattle.head.specs.declared.refusal.Refusal.{Refusal}
+use Rattle.head.specs.declared.refusal.Refusal.TheVariants as refusals
+use Rattle.head.specs.declared.left.Left.{Left}
 use Rattle.head.specs.declared.state.Head.{Head}
 use Rattle.head.specs.Paper.{Line}
 use Rattle.feedback.specs.Paper.{loss_line}
-use Rattle.feedback.specs.declared.loss.Reported.{Reported}
-use Rattle.feedback.specs.declared.loss.LossAnswer.{LossAnswer}
-use Rattle.feedback.specs.declared.loss.LossAnswer.TheVariants as answers
+
+-- what the call gives back: the head and the answer or the refusal
+abbrev pub Reported : Type 0
+Reported = Left (Option ℕ)
 
 -- all that the call leaves: the head and the answer, its line on paper, the slot area and the list of loss words
 pub record LossOutcome : Type 0 where
@@ -23,19 +26,17 @@ pub record LossOutcome : Type 0 where
 abbrev pub loss_ended : Reported → List ℕ → List ℕ → LossOutcome
 loss_ended r ws list = record { reported = r; line = loss_line r.answer list; slots = ws; list = list }
 
--- the window's answer as the call's
-abbrev pub answer_of : ReportAnswer → LossAnswer
-answer_of reports.Nothing = answers.Nothing
-answer_of (reports.Report words) = answers.Report words
-answer_of reports.ListShort = answers.Refused 12
+-- the window's answer as the call's; 12 ListShort
+abbrev pub answer_of : Result (Option ℕ) ListShort → Result (Option ℕ) Refusal
+answer_of (Ok words) = Ok words
+answer_of (Err _) = Err refusals.ListShort
 
 -- on refusal 12 the head stays
-abbrev pub head_after : Head → ReportAnswer → ℤ → Head
-head_after h reports.Nothing now = with_latest h now
-head_after h (reports.Report words) now = with_latest h now
-head_after h reports.ListShort now = h
+abbrev pub head_after : Head → Result (Option ℕ) ListShort → ℤ → Head
+head_after h (Ok _) now = with_latest h now
+head_after h (Err _) now = h
 
-abbrev pub after_report : Head → ReportAnswer → ℤ → Reported
+abbrev pub after_report : Head → Result (Option ℕ) ListShort → ℤ → Reported
 after_report h a now = record { head = head_after h a now; answer = answer_of a }
 
 -- the window's outcome as the call's; on refusal 12 the window leaves slots and list
@@ -49,4 +50,4 @@ unfoldable pub report_call_of : Head → List ℕ → List ℕ → ℤ → LossO
 report_call_of h ws list now =
     judged (first_refusal (timed_rules (head_ok h) (length ws) (3 * h.window.capacity) now h.latest))
     (reported_of h ws list now)
-    (λ n. loss_ended (record { head = h; answer = answers.Refused n }) ws list)
+    (λ e. loss_ended (record { head = h; answer = Err e }) ws list)

@@ -2,110 +2,69 @@
 ghost use Rattle.std.specs.Prelude.{◌≡◌, true, ◌≤◌};
 ghost use Rattle.intervals.specs.Rates.{arrivals_ok};
 ghost use Rattle.head.specs.Ready.{InRange};
-ghost use Rattle.head.specs.Parts.{with_rtt, with_history, with_latest};
 ghost use Rattle.feedback.specs.Acking.{figures_of, after_ack, roomy_ack, due_ack, full_ack_ended, full_ack_call_of, after_ack2, held_ack2, ack2_ended, ack2_call_of};
 ghost use Rattle.feedback.specs.Ready.{AckReady};
 
-use acks::history::{Ack2Answer, AckAnswer, History};
+use acks::history::{Acked, Answered, FasnWorn};
 use acks::rtt::Rtt;
+use head::left::Left;
+use head::refusal::Refusal;
 use head::state::Head;
-use intervals::rates::{Arrivals, Links, Rate};
+use intervals::rates::{Arrivals, Links};
 use window::Window;
 
 // The rates have the names that the Rust's AckStatistics gives them.
-#[derive(Clone, Copy)]
-pub enum FullAckAnswer {
-    Nothing,
-    Ack {
-        number: u32,
-        lrsn: u32,
-        mean: u32,
-        variance: u32,
-        room: usize,
-        packet_receive_rate: Rate,
-        estimated_link_capacity: Rate,
-        data_receive_rate: Rate,
-    },
-    Refused(u32),
+#[derive(Clone, Copy, PartialEq, Eq, Debug)]
+pub struct FullAck {
+    pub number: u32,
+    pub lrsn: u32,
+    pub mean: u32,
+    pub variance: u32,
+    pub room: usize,
+    pub packet_receive_rate: Option<u32>,
+    pub estimated_link_capacity: Option<u32>,
+    pub data_receive_rate: Option<u32>,
 }
 
-#[derive(Drop)]
-pub struct FullAcked {
-    pub head: Head,
-    pub answer: FullAckAnswer,
-}
+pub type FullAcked = Left<Option<FullAck>>;
 
-#[derive(Clone, Copy)]
-pub enum RttAnswer {
-    Nothing,
-    Rtt { mean: u32, variance: u32 },
-    Refused(u32),
-}
+// The new figures of the round trip, if the ACK is held.
+pub type Ack2ed = Left<Option<Rtt>>;
 
-#[derive(Drop)]
-pub struct Ack2ed {
-    pub head: Head,
-    pub answer: RttAnswer,
-}
-
-// The head with the history after an ACK, at a reading.
-fn with_history(h: Head, history: History, time: i64) -> Head
-    ensures { result ≡ with_latest (with_history h history) time }
-{
-    let next = h.with_history(history);
-    next.with_latest(time)
-}
-
-// The same, with the figures of the round trip after an ACK2.
-fn with_rtt(h: Head, history: History, rtt: Rtt, time: i64) -> Head
-    ensures { result ≡ with_latest (with_rtt (with_history h history) rtt) time }
-{
-    let kept = h.with_history(history);
-    let next = kept.with_rtt(rtt);
-    next.with_latest(time)
-}
-
-// An ACK of this number with the head's figures, by the parts that have them. Its estimated_link_capacity carries bytes a second, and its
-// data_receive_rate the link figure.
-fn figures(number: u32, w: Window, rtt: Rtt, arrivals: Arrivals, links: Links) -> FullAckAnswer
+// An ACK of this number with the head's figures, by the parts that have them. Its estimated_link_capacity carries
+// bytes a second, and its data_receive_rate the link figure.
+fn figures(number: u32, w: Window, rtt: Rtt, arrivals: Arrivals, links: Links) -> FullAck
     requires { (w.held ≤ w.capacity) × (arrivals_ok arrivals ≡ true) }
     ensures { result ≡ figures_of number w rtt arrivals links }
 {
-    let room = window::room(w);
     let speed = arrivals.speed();
-    let packets = speed.packets;
-    let bytes = speed.bytes;
-    let link = links.capacity();
-    FullAckAnswer::Ack {
+    FullAck {
         number,
         lrsn: w.lrsn,
         mean: rtt.mean,
         variance: rtt.variance,
-        room,
-        packet_receive_rate: packets,
-        estimated_link_capacity: bytes,
-        data_receive_rate: link,
+        room: window::room(w),
+        packet_receive_rate: speed.map(|s| s.packets),
+        estimated_link_capacity: speed.map(|s| s.bytes),
+        data_receive_rate: links.capacity(),
     }
 }
 
 // The history's answer as the call's; a worn history leaves the head.
-fn after_ack(h: Head, history: History, answer: AckAnswer, time: i64) -> FullAcked
+fn after_ack(h: Head, acked: Result<Option<Acked>, FasnWorn>, time: i64) -> FullAcked
     requires { InRange h }
-    ensures { result ≡ after_ack h history answer time }
+    ensures { result ≡ after_ack h acked time }
 {
-    match answer {
-        AckAnswer::Nothing => FullAcked {
+    match acked {
+        Ok(None) => FullAcked {
             head: h.with_latest(time),
-            answer: FullAckAnswer::Nothing,
+            answer: Ok(None),
         },
-        AckAnswer::Worn => FullAcked {
-            head: h,
-            answer: FullAckAnswer::Refused(13),
+        Ok(Some(Acked { history, number })) => FullAcked {
+            head: h.with_history(history).with_latest(time),
+            answer: Ok(Some(figures(number, h.window, h.rtt, h.arrivals, h.links))),
         },
-        AckAnswer::Ack(number) => FullAcked {
-            head: with_history(h, history, time),
-            answer: figures(number, h.window, h.rtt, h.arrivals, h.links),
-        },
+        Err(refusal) => FullAcked::refused(h, Refusal::from(refusal)),
     }
 }
 
@@ -114,11 +73,10 @@ fn roomy_ack(h: Head, area: &mut [u64], time: i64) -> FullAcked
     requires { AckReady h area.old }
     ensures { full_ack_ended result area.new ≡ roomy_ack h area.old time }
 {
-    let y = h.history;
-    let acked = y.next_full_ack(area, time, h.rtt.mean, h.latency, h.window.lrsn);
-    let history = acked.history;
-    let answer = acked.answer;
-    after_ack(h, history, answer, time)
+    let acked = h
+        .history
+        .next_full_ack(area, time, h.rtt.mean, h.latency, h.window.lrsn);
+    after_ack(h, acked, time)
 }
 
 // The same, with the question of room.
@@ -126,11 +84,10 @@ fn due_ack(h: Head, area: &mut [u64], time: i64) -> FullAcked
     requires { AckReady h area.old }
     ensures { full_ack_ended result area.new ≡ due_ack h area.old time }
 {
-    let w = h.window;
-    if window::room(w) == 0 {
+    if window::room(h.window) == 0 {
         return FullAcked {
             head: h.with_latest(time),
-            answer: FullAckAnswer::Nothing,
+            answer: Ok(None),
         };
     }
     roomy_ack(h, area, time)
@@ -139,34 +96,26 @@ fn due_ack(h: Head, area: &mut [u64], time: i64) -> FullAcked
 pub fn on_full_ack_event(h: Head, area: &mut [u64], time: i64) -> FullAcked
     ensures { full_ack_ended result area.new ≡ full_ack_call_of h area.old time }
 {
-    let n = head::refuse::history(h, area.len(), time);
-    if n == 0 {
-        return due_ack(h, area, time);
+    if let Err(refusal) = head::refuse::history(h, area.len(), time) {
+        return FullAcked::refused(h, refusal);
     }
-    FullAcked {
-        head: h,
-        answer: FullAckAnswer::Refused(n),
-    }
+    due_ack(h, area, time)
 }
 
 // The history's answer as the call's; a number that is not held moves the latest reading only.
-fn after_ack2(h: Head, history: History, answer: Ack2Answer, time: i64) -> Ack2ed
-    ensures { result ≡ after_ack2 h history answer time }
+fn after_ack2(h: Head, answered: Option<Answered>, time: i64) -> Ack2ed
+    ensures { result ≡ after_ack2 h answered time }
 {
-    let Ack2Answer::Held { r } = answer else {
+    let Some(Answered { history, r }) = answered else {
         return Ack2ed {
             head: h.with_latest(time),
-            answer: RttAnswer::Nothing,
+            answer: Ok(None),
         };
     };
-    let old = h.rtt;
-    let rtt = old.update(r);
+    let rtt = h.rtt.update(r);
     Ack2ed {
-        head: with_rtt(h, history, rtt, time),
-        answer: RttAnswer::Rtt {
-            mean: rtt.mean,
-            variance: rtt.variance,
-        },
+        head: h.with_history(history).with_rtt(rtt).with_latest(time),
+        answer: Ok(Some(rtt)),
     }
 }
 
@@ -175,22 +124,14 @@ fn held_ack2(h: Head, area: &[u64], time: i64, number: u32) -> Ack2ed
     requires { AckReady h area.now }
     ensures { result ≡ held_ack2 h area.now time number }
 {
-    let y = h.history;
-    let answered = y.calculate_ack2(area, time, number);
-    let history = answered.history;
-    let answer = answered.answer;
-    after_ack2(h, history, answer, time)
+    after_ack2(h, h.history.calculate_ack2(area, time, number), time)
 }
 
 pub fn handle_ack2_packet(h: Head, area: &[u64], time: i64, number: u32) -> Ack2ed
     ensures { ack2_ended result ≡ ack2_call_of h area.now time number }
 {
-    let n = head::refuse::history(h, area.len(), time);
-    if n == 0 {
-        return held_ack2(h, area, time, number);
+    if let Err(refusal) = head::refuse::history(h, area.len(), time) {
+        return Ack2ed::refused(h, refusal);
     }
-    Ack2ed {
-        head: h,
-        answer: RttAnswer::Refused(n),
-    }
+    held_ack2(h, area, time, number)
 }

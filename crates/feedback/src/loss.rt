@@ -1,48 +1,26 @@
 // The loss report call, arq.rs `on_nak_event`: 01, "Window", with refusals 1 to 4 and 12.
 ghost use Rattle.std.specs.Prelude.{◌≡◌};
-ghost use Rattle.feedback.specs.Loss.{loss_ended, answer_of, after_report, reported_of, report_call_of};
+ghost use Rattle.feedback.specs.Loss.{loss_ended, after_report, reported_of, report_call_of};
 ghost use Rattle.feedback.specs.Ready.{ReportReady};
 
+use head::left::Left;
+use head::refusal::Refusal;
 use head::state::Head;
-use window_report::report::ReportAnswer;
+use window_report::report::ListShort;
 
-#[derive(Clone, Copy)]
-pub enum LossAnswer {
-    Nothing,
-    Report { words: usize },
-    Refused(u32),
-}
-
-#[derive(Drop)]
-pub struct Reported {
-    pub head: Head,
-    pub answer: LossAnswer,
-}
-
-// The window's answer as the call's.
-fn answer_of(answer: ReportAnswer) -> LossAnswer
-    ensures { result ≡ answer_of answer }
-{
-    match answer {
-        ReportAnswer::Nothing => LossAnswer::Nothing,
-        ReportAnswer::Report { words } => LossAnswer::Report { words },
-        ReportAnswer::ListShort => LossAnswer::Refused(12),
-    }
-}
+// How many words the report has, if there is one.
+pub type Reported = Left<Option<usize>>;
 
 // A list that is short leaves the head; all else moves it on.
-fn after_report(h: Head, answer: ReportAnswer, time: i64) -> Reported
-    ensures { result ≡ after_report h answer time }
+fn after_report(h: Head, report: Result<Option<usize>, ListShort>, time: i64) -> Reported
+    ensures { result ≡ after_report h report time }
 {
-    let (ReportAnswer::Nothing | ReportAnswer::Report { .. }) = answer else {
-        return Reported {
-            head: h,
-            answer: LossAnswer::Refused(12),
-        };
-    };
-    Reported {
-        head: h.with_latest(time),
-        answer: answer_of(answer),
+    match report {
+        Ok(words) => Reported {
+            head: h.with_latest(time),
+            answer: Ok(words),
+        },
+        Err(refusal) => Reported::refused(h, Refusal::from(refusal)),
     }
 }
 
@@ -51,20 +29,15 @@ fn report(h: Head, words: &mut [u64], list: &mut [u32], time: i64) -> Reported
     requires { ReportReady h words.old }
     ensures { loss_ended result words.new list.new ≡ reported_of h words.old list.old time }
 {
-    let w = h.window;
-    let answer = window_report::report::loss_report(w, words, list, time, h.rtt.mean);
-    after_report(h, answer, time)
+    let report = window_report::report::loss_report(h.window, words, list, time, h.rtt.mean);
+    after_report(h, report, time)
 }
 
 pub fn on_nak_event(h: Head, words: &mut [u64], list: &mut [u32], time: i64) -> Reported
     ensures { loss_ended result words.new list.new ≡ report_call_of h words.old list.old time }
 {
-    let n = head::refuse::report(h, words.len(), time);
-    if n == 0 {
-        return report(h, words, list, time);
+    if let Err(refusal) = head::refuse::report(h, words.len(), time) {
+        return Reported::refused(h, refusal);
     }
-    Reported {
-        head: h,
-        answer: LossAnswer::Refused(n),
-    }
+    report(h, words, list, time)
 }

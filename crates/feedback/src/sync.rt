@@ -2,61 +2,26 @@
 ghost use Rattle.std.specs.Prelude.{◌≡◌};
 ghost use Rattle.feedback.specs.Sync.{after_sync, sync_of, clock_ended, clock_call_of};
 ghost use Rattle.head.specs.Ready.{Timed};
-ghost use Rattle.head.specs.Parts.{with_clock, with_latest};
 
-use clock::time::{Step, Synchronized, SynchronizedRemoteClock};
+use clock::base::DriftRange;
+use clock::time::Step;
+pub use clock::time::Synchronized as ClockAnswer;
+use head::left::Left;
+use head::refusal::Refusal;
 use head::state::Head;
 
-#[derive(Clone, Copy)]
-pub enum ClockAnswer {
-    Nothing,
-    Adjusted { mean: i32, deviation: u32 },
-    Unsteady { deviation: u32, variance: f64 },
-    Refused(u32),
-}
+pub type Clocked = Left<ClockAnswer>;
 
-#[derive(Drop)]
-pub struct Clocked {
-    pub head: Head,
-    pub answer: ClockAnswer,
-}
-
-// The head with the clock after a sample, at a reading.
-fn with_clock(h: Head, clock: SynchronizedRemoteClock, time: i64) -> Head
-    ensures { result ≡ with_latest (with_clock h clock) time }
+// The clock's step as the call's; a clock that refuses 14 leaves the head.
+fn after_sync(h: Head, step: Result<Step, DriftRange>, time: i64) -> Clocked
+    ensures { result ≡ after_sync h step time }
 {
-    let next = h.with_clock(clock);
-    next.with_latest(time)
-}
-
-// The clock's answer as the call's; a clock that refuses 14 leaves the head.
-fn after_sync(h: Head, clock: SynchronizedRemoteClock, answer: Synchronized, time: i64) -> Clocked
-    ensures { result ≡ after_sync h clock answer time }
-{
-    let head = with_clock(h, clock, time);
-    match answer {
-        Synchronized::Nothing => Clocked {
-            head,
-            answer: ClockAnswer::Nothing,
+    match step {
+        Ok(Step { clock, answer }) => Clocked {
+            head: h.with_clock(clock).with_latest(time),
+            answer: Ok(answer),
         },
-        Synchronized::Adjusted { mean, deviation } => Clocked {
-            head,
-            answer: ClockAnswer::Adjusted { mean, deviation },
-        },
-        Synchronized::Unsteady {
-            deviation,
-            variance,
-        } => Clocked {
-            head,
-            answer: ClockAnswer::Unsteady {
-                deviation,
-                variance,
-            },
-        },
-        Synchronized::DriftRange => Clocked {
-            head: h,
-            answer: ClockAnswer::Refused(14),
-        },
+        Err(refusal) => Clocked::refused(h, Refusal::from(refusal)),
     }
 }
 
@@ -65,22 +30,14 @@ fn synchronize(h: Head, time: i64, stamp: u32) -> Clocked
     requires { Timed h time }
     ensures { result ≡ sync_of h time stamp }
 {
-    let k = h.clock;
-    let step = k.synchronize(time, stamp);
-    let clock = step.clock;
-    let answer = step.answer;
-    after_sync(h, clock, answer, time)
+    after_sync(h, h.clock.synchronize(time, stamp), time)
 }
 
 pub fn synchronize_clock(h: Head, time: i64, stamp: u32) -> Clocked
     ensures { clock_ended result ≡ clock_call_of h time stamp }
 {
-    let n = head::refuse::clock(h, time);
-    if n == 0 {
-        return synchronize(h, time, stamp);
+    if let Err(refusal) = head::refuse::clock(h, time) {
+        return Clocked::refused(h, refusal);
     }
-    Clocked {
-        head: h,
-        answer: ClockAnswer::Refused(n),
-    }
+    synchronize(h, time, stamp)
 }

@@ -4,7 +4,8 @@ use mathlib.Core.Bool.{Bool, false, ◌&&◌}
 use Prim.Native.Nat.{ℕ}
 use borrow.Author.Rules.{rules}
 use lib.Dec.{leb}
-use lib.IntN.{ℤ, pos}
+use lib.IntN.{ℤ}
+use Rattle.std.specs.Prelude.{Result, Ok, Err}
 use Rattle.numbers.specs.Instants.{is_reading}
 use Rattle.clock.specs.Sync.{fresh_clock}
 use Rattle.clock.specs.Ranges.{clock_ok}
@@ -17,10 +18,10 @@ use Rattle.intervals.specs.declared.rates.Arrivals.{Arrivals}
 use Rattle.intervals.specs.declared.rates.Links.{Links}
 use Rattle.acks.specs.declared.history.History.{History}
 use Rattle.head.specs.Rules.{first_refusal, make_rules}
-use Rattle.head.specs.Head.{head_ok, fresh_head, unmade, made_of}
+use Rattle.head.specs.Head.{head_ok, fresh_head, nowhere, made_of}
 use Rattle.window.specs.Window.{window_ok}
+use Rattle.head.specs.declared.refusal.Refusal.{Refusal}
 use Rattle.head.specs.declared.state.Head.{Head}
-use Rattle.head.specs.declared.state.Made.{Made}
 use Rattle.head.proofs.Gates.{taken, refused}
 
 -- Head::fresh, Head::new
@@ -31,21 +32,25 @@ pub fresh-head : (start : ℤ) (latency : ℕ) (dropping : Bool) (first capacity
 unfolding fresh_head
 fresh-head start latency dropping first capacity a b c d e f g = rw (a, b, c, d, e, f, g)
 
-pub made : (start : ℤ) (latency : ℕ) (dropping : Bool) (first capacity : ℕ) {s s₁ : ℤ} {n : ℕ} {h : Head}
-    → n ≡ first_refusal (make_rules s latency first capacity) → s ≡ start → n ≡ 0 → h ≡ fresh_head s₁ latency dropping first capacity → s₁ ≡ start
-    → ◌≡◌ {A = Made} (record { refusal = 0; head = h }) (made_of start latency dropping first capacity)
+pub made : (start : ℤ) (latency : ℕ) (dropping : Bool) (first capacity : ℕ) {s s₁ : ℤ} {x : Unit} {h : Head}
+    → Ok x ≡ first_refusal (make_rules s latency first capacity) → s ≡ start → h ≡ fresh_head s₁ latency dropping first capacity → s₁ ≡ start
+    → ◌≡◌ {A = Result Head Refusal} (Ok h) (made_of start latency dropping first capacity)
 unfolding made_of
-made start latency dropping first capacity a b c d e =
-    rw (d, e)
-    (sym (taken (record { refusal = 0; head = fresh_head start latency dropping first capacity }) (λ n. record { refusal = n; head = unmade }) (a ∙ ap (λ (z : ℤ). first_refusal (make_rules z latency first capacity)) b) c))
+made start latency dropping first capacity a b c d =
+    rw (c, d)
+    (sym (taken (Ok (fresh_head start latency dropping first capacity)) (λ e. Err e) (a ∙ ap (λ (z : ℤ). first_refusal (make_rules z latency first capacity)) b)))
 
-pub not_made : (start : ℤ) (latency : ℕ) (dropping : Bool) (first capacity : ℕ) {s : ℤ} {n : ℕ} {h : Head}
-    → n ≡ first_refusal (make_rules s latency first capacity) → s ≡ start → (n ≡ 0 → ⊥) → h ≡ fresh_head (pos 0) 0 false 0 0
-    → ◌≡◌ {A = Made} (record { refusal = n; head = h }) (made_of start latency dropping first capacity)
+pub not_made : (start : ℤ) (latency : ℕ) (dropping : Bool) (first capacity : ℕ) {s : ℤ} {e : Refusal}
+    → Err e ≡ first_refusal (make_rules s latency first capacity) → s ≡ start
+    → ◌≡◌ {A = Result Head Refusal} (Err e) (made_of start latency dropping first capacity)
 unfolding made_of
-not_made start latency dropping first capacity a b c d =
-    rw d
-    (sym (refused (record { refusal = 0; head = fresh_head start latency dropping first capacity }) (λ n. record { refusal = n; head = unmade }) (a ∙ ap (λ (z : ℤ). first_refusal (make_rules z latency first capacity)) b) c))
+not_made start latency dropping first capacity a b =
+    sym (refused (Ok (fresh_head start latency dropping first capacity)) (λ e. Err e) (a ∙ ap (λ (z : ℤ). first_refusal (make_rules z latency first capacity)) b))
+
+-- Head::nowhere
+pub nowhere-bad : {h : Head} → h ≡ nowhere → head_ok h ≡ false
+unfolding head_ok fresh_head
+nowhere-bad e = rw e
 
 -- Head::in_range
 pub in-range : (h : Head) {a b c d e f g : Bool} {z : ℤ}
@@ -55,4 +60,4 @@ pub in-range : (h : Head) {a b c d e f g : Bool} {z : ℤ}
 unfolding head_ok
 in-range h a b c d e f g i = rw (a, b, c, d, e, f, g, i)
 
-pub ruleset heads = (fresh-head, made, not_made, in-range, rules)
+pub ruleset heads = (fresh-head, made, not_made, nowhere-bad, in-range, rules)

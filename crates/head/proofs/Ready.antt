@@ -1,16 +1,17 @@
 -- What a head in range, and a call that nothing refused, have shown: the facts that the layers below ask for. Assumes nothing.
-use mathlib.Core.Path.{◌≡◌, sym, ◌∙◌}
+use mathlib.Core.Path.{◌≡◌}
 use mathlib.Core.Bool.{true, ◌&&◌}
 use mathlib.Core.List.{List}
-use Prim.Native.Nat.{ℕ, ◌-◌, ◌*◌, ◌^◌, ◌<◌, ◌≤◌}
+use Prim.Native.Nat.{ℕ, ◌*◌, ◌^◌, ◌≤◌}
 use borrow.Author.Tests.{leb-true, leb-false, ltb-false, not-false}
-use lib.Dec.{leb, lit<}
+use lib.Dec.{leb}
 use lib.IntN.{ℤ}
 use lib.ListN.{length}
+use Rattle.std.specs.Prelude.{Ok}
 use Rattle.numbers.specs.Instants.{is_reading}
 use Rattle.numbers.proofs.Flags.{and_left, and_right}
 use Rattle.clock.specs.Ranges.{clock_ok}
-use Rattle.clock.proofs.Ranges.{ready, ranges}
+use Rattle.clock.proofs.Ranges.{ready}
 use Rattle.acks.specs.Rtt.{rtt_ok}
 use Rattle.intervals.specs.Rates.{arrivals_ok, links_ok}
 use Rattle.acks.specs.History.{history_ok}
@@ -57,23 +58,23 @@ in_parts h e =
 pub good : (w : Window) (ws : List ℕ) → window_ok w ≡ true → 3 * w.capacity ≤ length ws → Good w ws
 good w ws e h = record { ranges = in_window w e; words = h }
 
-pub head-ready : (h : Head) → first_refusal (head_rules (head_ok h)) ≡ 0 → InRange h
-head-ready h e = let c = clear (head_rules (head_ok h)) (lit< tt, tt) e in in_parts h (not-false (head_ok h) c.0)
+pub head-ready : (h : Head) {x : Unit} → Ok x ≡ first_refusal (head_rules (head_ok h)) → InRange h
+head-ready h e = let c = clear (head_rules (head_ok h)) e in in_parts h (not-false (head_ok h) c.0)
 
 module _ (h : Head) (now : ℤ) where
-  pub clock-ready : first_refusal (clock_rules (head_ok h) now h.latest) ≡ 0 → Timed h now
+  pub clock-ready : {x : Unit} → Ok x ≡ first_refusal (clock_rules (head_ok h) now h.latest) → Timed h now
   clock-ready e =
-      let c = clear (clock_rules (head_ok h) now h.latest) (lit< tt, (lit< tt, (lit< tt, tt))) e in
+      let c = clear (clock_rules (head_ok h) now h.latest) e in
       record { head = in_parts h (not-false (head_ok h) c.0); reading = not-false (is_reading now) c.1.0; later = c.1.1.0 }
 
-  pub timed-ready : (len need : ℕ) → first_refusal (timed_rules (head_ok h) len need now h.latest) ≡ 0 → Timed h now × (need ≤ len)
+  pub timed-ready : (len need : ℕ) {x : Unit} → Ok x ≡ first_refusal (timed_rules (head_ok h) len need now h.latest) → Timed h now × (need ≤ len)
   timed-ready len need e =
-      let c = clear (timed_rules (head_ok h) len need now h.latest) (lit< tt, (lit< tt, (lit< tt, (lit< tt, tt)))) e in
+      let c = clear (timed_rules (head_ok h) len need now h.latest) e in
       (record { head = in_parts h (not-false (head_ok h) c.0); reading = not-false (is_reading now) c.1.1.0; later = c.1.1.1.0 }, ltb-false len need c.1.0)
 
-  pub pop-ready : (ws bs : List ℕ) → first_refusal (pop_rules (head_ok h) h.window.capacity (length ws) (length bs) now h.latest) ≡ 0 → PopReady h.clock h.latency h.window ws bs now
+  pub pop-ready : (ws bs : List ℕ) {x : Unit} → Ok x ≡ first_refusal (pop_rules (head_ok h) h.window.capacity (length ws) (length bs) now h.latest) → PopReady h.clock h.latency h.window ws bs now
   pop-ready ws bs e =
-      let c = clear (pop_rules (head_ok h) h.window.capacity (length ws) (length bs) now h.latest) (lit< tt, (lit< tt, (lit< tt, (lit< tt, (lit< tt, tt))))) e in
+      let c = clear (pop_rules (head_ok h) h.window.capacity (length ws) (length bs) now h.latest) e in
       let r = in_parts h (not-false (head_ok h) c.0) in
       let k = ready h.clock now r.clock (not-false (is_reading now) c.1.1.1.0) in
       record {
@@ -85,10 +86,10 @@ module _ (h : Head) (now : ℤ) where
       }
 
 -- a push that nothing refused
-pub push-ready : (h : Head) (ws bs : List ℕ) (now : ℤ) (p : Packet) (payload : List ℕ)
-    → first_refusal (push_rules (head_ok h) h.window.capacity (length ws) (length bs) now h.latest p (length payload)) ≡ 0 → PushReady h ws bs now p payload
+pub push-ready : (h : Head) (ws bs : List ℕ) (now : ℤ) (p : Packet) (payload : List ℕ) {x : Unit}
+    → Ok x ≡ first_refusal (push_rules (head_ok h) h.window.capacity (length ws) (length bs) now h.latest p (length payload)) → PushReady h ws bs now p payload
 push-ready h ws bs now p payload e =
-    let c = clear (push_rules (head_ok h) h.window.capacity (length ws) (length bs) now h.latest p (length payload)) (lit< tt, (lit< tt, (lit< tt, (lit< tt, (lit< tt, (lit< tt, (lit< tt, (lit< tt, (lit< tt, tt))))))))) e in
+    let c = clear (push_rules (head_ok h) h.window.capacity (length ws) (length bs) now h.latest p (length payload)) e in
     let r = in_parts h (not-false (head_ok h) c.0) in
     record {
       head = r;
@@ -103,21 +104,21 @@ push-ready h ws bs now p payload e =
       };
     }
 
--- a drop request and a show that nothing refused, by the number that a program has
-pub drop-ready : (h : Head) (ws : List ℕ) (first last : ℕ) {n : ℕ} → n ≡ first_refusal (drop_rules (head_ok h) h.window.capacity (length ws) first last) → n ≡ 0 → Good h.window ws
-drop-ready h ws first last b z =
-    let c = clear (drop_rules (head_ok h) h.window.capacity (length ws) first last) (lit< tt, (lit< tt, (lit< tt, (lit< tt, tt)))) (sym b ∙ z) in
+-- a drop request and a show that nothing refused
+pub drop-ready : (h : Head) (ws : List ℕ) (first last : ℕ) {x : Unit} → Ok x ≡ first_refusal (drop_rules (head_ok h) h.window.capacity (length ws) first last) → Good h.window ws
+drop-ready h ws first last b =
+    let c = clear (drop_rules (head_ok h) h.window.capacity (length ws) first last) b in
     let r = in_parts h (not-false (head_ok h) c.0) in
     good h.window ws r.window (ltb-false (length ws) (3 * h.window.capacity) c.1.0)
 
-module _ (h : Head) (ws : List ℕ) (bytes number : ℕ) {n : ℕ} (b : n ≡ first_refusal (show_rules (head_ok h) h.window.capacity (length ws) bytes number)) (z : n ≡ 0) where
+module _ (h : Head) (ws : List ℕ) (bytes number : ℕ) {x : Unit} (b : Ok x ≡ first_refusal (show_rules (head_ok h) h.window.capacity (length ws) bytes number)) where
   pub show-ready : Good h.window ws
   show-ready =
-      let c = clear (show_rules (head_ok h) h.window.capacity (length ws) bytes number) (lit< tt, (lit< tt, (lit< tt, (lit< tt, tt)))) (sym b ∙ z) in
+      let c = clear (show_rules (head_ok h) h.window.capacity (length ws) bytes number) b in
       let r = in_parts h (not-false (head_ok h) c.0) in
       good h.window ws r.window (ltb-false (length ws) (3 * h.window.capacity) c.1.0)
 
   pub show-bytes : 1456 * h.window.capacity ≤ bytes
   show-bytes =
-      let c = clear (show_rules (head_ok h) h.window.capacity (length ws) bytes number) (lit< tt, (lit< tt, (lit< tt, (lit< tt, tt)))) (sym b ∙ z) in
+      let c = clear (show_rules (head_ok h) h.window.capacity (length ws) bytes number) b in
       ltb-false bytes (1456 * h.window.capacity) c.1.1.0

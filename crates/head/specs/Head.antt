@@ -1,5 +1,5 @@
 -- The head and its ranges: 01, "Head and lent areas".
-use Rattle.std.specs.Prelude.{Bool, false, ◌&&◌, ℕ, leb, ℤ, pos}
+use Rattle.std.specs.Prelude.{Bool, false, ◌&&◌, ℕ, leb, ℤ, pos, Result, Ok, Err}
 use Rattle.numbers.specs.Instants.{is_reading}
 use Rattle.clock.specs.Sync.{fresh_clock}
 use Rattle.clock.specs.Ranges.{clock_ok}
@@ -8,8 +8,8 @@ use Rattle.intervals.specs.Rates.{fresh_arrivals, fresh_links, arrivals_ok, link
 use Rattle.acks.specs.History.{fresh_history, history_ok}
 use Rattle.window.specs.Window.{window_ok}
 use Rattle.head.specs.Rules.{first_refusal, judged, make_rules}
+use Rattle.head.specs.declared.refusal.Refusal.{Refusal}
 use Rattle.head.specs.declared.state.Head.{Head}
-use Rattle.head.specs.declared.state.Made.{Made}
 
 -- every head number is in its range; flags and the two f64 have none
 unfoldable pub head_ok : Head → Bool
@@ -39,12 +39,15 @@ fresh_head start latency dropping first capacity =
     }
 
 -- a head of capacity 0, which is out of range, so that each call refuses it with 1
-abbrev pub unmade : Head
-unmade = fresh_head (pos 0) 0 false 0 0
+abbrev pub nowhere : Head
+nowhere = fresh_head (pos 0) 0 false 0 0
 
--- making: the fresh head, or refusal 15 and a head that each call refuses
-unfoldable pub made_of : ℤ → ℕ → Bool → ℕ → ℕ → Made
+-- the head of a making; where that is refused there is none, and this one stands where a caller must have one
+abbrev pub head_made : Result Head Refusal → Head
+head_made (Ok h) = h
+head_made (Err e) = nowhere
+
+-- making: the fresh head, or refusal 15
+unfoldable pub made_of : ℤ → ℕ → Bool → ℕ → ℕ → Result Head Refusal
 made_of start latency dropping first capacity =
-    judged (first_refusal (make_rules start latency first capacity))
-    (record { refusal = 0; head = fresh_head start latency dropping first capacity })
-    (λ n. record { refusal = n; head = unmade })
+    judged (first_refusal (make_rules start latency first capacity)) (Ok (fresh_head start latency dropping first capacity)) (λ e. Err e)

@@ -1,6 +1,9 @@
 -- An answer on paper: the refusal's number (01, "Refused, in order of test"), the word and the values in order (01, "Trace, mark DLT").
 -- Each call's outcome holds its line beside the answer.
-use Rattle.std.specs.Prelude.{Bool, cond, List, [], ℕ, ℤ, pos, Float}
+use Rattle.std.specs.Prelude.{Bool, cond, List, [], ◌∷◌, ℕ, ℤ, pos, Float}
+use Rattle.head.specs.Rules.{number_of}
+use Rattle.head.specs.declared.refusal.Refusal.{Refusal}
+use Rattle.head.specs.declared.refusal.Refusal.TheVariants.{PacketTooEarly}
 
 -- the words of the trace, and those of the calls that it does not have: making, room, the second question of show
 pub data Word : Type 0 where
@@ -25,8 +28,13 @@ pub record Line : Type 0 where
 abbrev pub said : Word → List Value → Line
 said w vs = record { word = w; refusal = 0; values = vs; exact = [] }
 
-abbrev pub refused_by : ℕ → List Value → Line
-refused_by n vs = record { word = refused; refusal = n; values = vs; exact = [] }
+-- a refusal's values: 8 has its two numbers, room and need
+abbrev pub refusal_values : Refusal → List Value
+refusal_values (PacketTooEarly places need) = plain places ∷ plain need ∷ []
+refusal_values _ = []
+
+abbrev pub refused_line : Refusal → Line
+refused_line e = record { word = refused; refusal = number_of e; values = refusal_values e; exact = [] }
 
 -- 1 if it holds
 abbrev pub flag : Bool → Value

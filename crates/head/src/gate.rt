@@ -1,34 +1,63 @@
-// The tests that refuse, in order: 01, "Refused, in order of test". Each is safe by itself, so that all can be asked in one line after the other.
-ghost use Rattle.std.specs.Prelude.{◌≡◌, ◌*◌, ltb};
-ghost use Rattle.head.specs.Rules.{first_refusal, then_of, push_rules, pop_rules, timed_rules, drop_rules, show_rules, clock_rules, head_rules};
+// The tests that refuse: 01, "Refused, in order of test". A function a test; the calls put them in order.
+ghost use Rattle.std.specs.Prelude.{◌≡◌, ◌*◌};
+ghost use Rattle.head.specs.Rules.{tested, rule, head_rule, short_rule, reading_rule, back_rule, number_rule, first_refusal, push_rules, pop_rules};
 
-// The first number that is not 0 stays.
-pub fn then(k: u32, bad: bool, n: u32) -> u32
-    ensures { result ≡ then_of k bad n }
+use crate::refusal::Refusal;
+use window::push::Packet;
+
+// One test.
+pub(crate) fn refuse_if(bad: bool, refusal: Refusal) -> Result<(), Refusal>
+    ensures { result ≡ tested (rule bad refusal) }
 {
-    if k == 0 {
-        if bad {
-            return n;
-        }
-        return 0;
-    }
-    k
+    if bad { Err(refusal) } else { Ok(()) }
 }
 
-// An area of `len` elements, `each` a slot. By a quotient, since the capacity may be any number here.
-fn words_short(len: usize, capacity: usize) -> bool
-    ensures { result ≡ ltb len (3 * capacity) }
+pub(crate) fn head(ok: bool) -> Result<(), Refusal>
+    ensures { result ≡ tested (head_rule ok) }
 {
-    len / 3 < capacity
+    refuse_if(!ok, Refusal::HeadBad)
 }
 
-fn bytes_short(len: usize, capacity: usize) -> bool
-    ensures { result ≡ ltb len (1456 * capacity) }
+// An area that holds a slot, or a payload, for each entry: two functions, as each has its own number by name in 01. By
+// a quotient, since the capacity may be any number here.
+pub(crate) fn slots(words: usize, capacity: usize) -> Result<(), Refusal>
+    ensures { result ≡ tested (short_rule words (3 * capacity)) }
 {
-    len / 1456 < capacity
+    refuse_if(words / 3 < capacity, Refusal::AreaShort)
 }
 
-// Each call's tests, in its order: 0, or the number that refuses.
+pub(crate) fn payloads(bytes: usize, capacity: usize) -> Result<(), Refusal>
+    ensures { result ≡ tested (short_rule bytes (1456 * capacity)) }
+{
+    refuse_if(bytes / 1456 < capacity, Refusal::AreaShort)
+}
+
+pub(crate) fn entries(words: usize) -> Result<(), Refusal>
+    ensures { result ≡ tested (short_rule words 2048) }
+{
+    refuse_if(words < 2048, Refusal::AreaShort)
+}
+
+pub(crate) fn reading(time: i64) -> Result<(), Refusal>
+    ensures { result ≡ tested (reading_rule time) }
+{
+    refuse_if(!numbers::instant::is_reading(time), Refusal::ClockRange)
+}
+
+pub(crate) fn back(time: i64, latest: i64) -> Result<(), Refusal>
+    ensures { result ≡ tested (back_rule time latest) }
+{
+    refuse_if(time < latest, Refusal::ClockBack)
+}
+
+pub(crate) fn number(n: u32) -> Result<(), Refusal>
+    ensures { result ≡ tested (number_rule n) }
+{
+    refuse_if(0x8000_0000 <= n, Refusal::BadNumber)
+}
+
+// These two stand beside those of refuse.rt, since the calls on words (crates/inplace) have a test of the head of
+// their own.
 pub fn refuse_push(
     ok: bool,
     capacity: usize,
@@ -36,20 +65,20 @@ pub fn refuse_push(
     bytes: usize,
     time: i64,
     latest: i64,
-    p: window::push::Packet,
+    p: Packet,
     len: usize,
-) -> u32
+) -> Result<(), Refusal>
     ensures { result ≡ first_refusal (push_rules ok capacity words bytes time latest p len) }
 {
-    let a = then(0, !ok, 1);
-    let b = then(a, words_short(words, capacity), 2);
-    let c = then(b, bytes_short(bytes, capacity), 2);
-    let d = then(c, !numbers::instant::is_reading(time), 3);
-    let e = then(d, time < latest, 4);
-    let f = then(e, 0x8000_0000 <= p.number, 5);
-    let g = then(f, 0x400_0000 <= p.message, 5);
-    let h = then(g, 4 <= p.location, 5);
-    then(h, 1456 < len, 6)
+    head(ok)?;
+    slots(words, capacity)?;
+    payloads(bytes, capacity)?;
+    reading(time)?;
+    back(time, latest)?;
+    number(p.number)?;
+    refuse_if(0x400_0000 <= p.message, Refusal::BadNumber)?;
+    refuse_if(4 <= p.location, Refusal::BadNumber)?;
+    refuse_if(1456 < len, Refusal::PayloadLong)
 }
 
 pub fn refuse_pop(
@@ -59,62 +88,12 @@ pub fn refuse_pop(
     bytes: usize,
     time: i64,
     latest: i64,
-) -> u32
+) -> Result<(), Refusal>
     ensures { result ≡ first_refusal (pop_rules ok capacity words bytes time latest) }
 {
-    let a = then(0, !ok, 1);
-    let b = then(a, words_short(words, capacity), 2);
-    let c = then(b, bytes_short(bytes, capacity), 2);
-    let d = then(c, !numbers::instant::is_reading(time), 3);
-    then(d, time < latest, 4)
-}
-
-pub fn refuse_report(ok: bool, capacity: usize, words: usize, time: i64, latest: i64) -> u32
-    ensures { result ≡ first_refusal (timed_rules ok words (3 * capacity) time latest) }
-{
-    let a = then(0, !ok, 1);
-    let b = then(a, words_short(words, capacity), 2);
-    let c = then(b, !numbers::instant::is_reading(time), 3);
-    then(c, time < latest, 4)
-}
-
-pub fn refuse_history(ok: bool, words: usize, time: i64, latest: i64) -> u32
-    ensures { result ≡ first_refusal (timed_rules ok words 2048 time latest) }
-{
-    let a = then(0, !ok, 1);
-    let b = then(a, words < 2048, 2);
-    let c = then(b, !numbers::instant::is_reading(time), 3);
-    then(c, time < latest, 4)
-}
-
-pub fn refuse_drop(ok: bool, capacity: usize, words: usize, first: u32, last: u32) -> u32
-    ensures { result ≡ first_refusal (drop_rules ok capacity words first last) }
-{
-    let a = then(0, !ok, 1);
-    let b = then(a, words_short(words, capacity), 2);
-    let c = then(b, 0x8000_0000 <= first, 5);
-    then(c, 0x8000_0000 <= last, 5)
-}
-
-pub fn refuse_show(ok: bool, capacity: usize, words: usize, bytes: usize, number: u32) -> u32
-    ensures { result ≡ first_refusal (show_rules ok capacity words bytes number) }
-{
-    let a = then(0, !ok, 1);
-    let b = then(a, words_short(words, capacity), 2);
-    let c = then(b, bytes_short(bytes, capacity), 2);
-    then(c, 0x8000_0000 <= number, 5)
-}
-
-pub fn refuse_clock(ok: bool, time: i64, latest: i64) -> u32
-    ensures { result ≡ first_refusal (clock_rules ok time latest) }
-{
-    let a = then(0, !ok, 1);
-    let b = then(a, !numbers::instant::is_reading(time), 3);
-    then(b, time < latest, 4)
-}
-
-pub fn refuse_head(ok: bool) -> u32
-    ensures { result ≡ first_refusal (head_rules ok) }
-{
-    then(0, !ok, 1)
+    head(ok)?;
+    slots(words, capacity)?;
+    payloads(bytes, capacity)?;
+    reading(time)?;
+    back(time, latest)
 }

@@ -1,6 +1,6 @@
 -- Where all tests are clear at once, none refuses. Assumes nothing.
 use mathlib.Core.Path.{◌≡◌, sym, ◌∙◌}
-use mathlib.Core.Bool.{Bool, true, false, not, ◌&&◌}
+use mathlib.Core.Bool.{Bool, true, false, not}
 use mathlib.Core.List.{List, [], ◌∷◌}
 use Prim.Native.Nat.{ℕ, ◌*◌, ◌%◌, ◌^◌}
 use native.Mathlib.Nat.{mod-eq_of_lt}
@@ -10,9 +10,9 @@ use borrow.Author.Tests.{ltb-true, leb-true, le-ltb, lt-leb, not-true}
 use lib.Dec.{ltb, leb}
 use lib.IntN.{ℤ}
 use lib.Signed.{lt_z}
+use Rattle.std.specs.Prelude.{Ok}
 use Rattle.numbers.specs.Instants.{is_reading}
 use Rattle.window.specs.declared.push.Packet.{Packet}
-use Rattle.head.specs.Rules as rules
 use Rattle.head.specs.Rules.{first_refusal, push_rules, pop_rules}
 use Rattle.head.specs.Head.{head_ok}
 use Rattle.packing.specs.Words.{whole_of}
@@ -40,12 +40,10 @@ module _ (ok : Bool) (capacity slots bytes : ℕ) (now latest : ℤ) (c : areas_
   bytes-long : ltb bytes (1456 * capacity) ≡ false
   bytes-long = let h = leb-true (capacity % 16384 * 1456) bytes clear.1.1.1.0 in le-ltb bytes (1456 * capacity) (omega (arith, itself))
 
-  pop-clear : first_refusal (pop_rules ok capacity slots bytes now latest) ≡ 0
-  unfolding rules.then_of
+  pop-clear : first_refusal (pop_rules ok capacity slots bytes now latest) ≡ Ok tt
   pop-clear = rw (clear.0, slots-long, bytes-long, clear.1.1.1.1.0, not-true early clear.1.1.1.1.1.0)
 
-  push-clear : (p : Packet) (size : ℕ) → packet_clear p size ≡ true → first_refusal (push_rules ok capacity slots bytes now latest p size) ≡ 0
-  unfolding rules.then_of
+  push-clear : (p : Packet) (size : ℕ) → packet_clear p size ≡ true → first_refusal (push_rules ok capacity slots bytes now latest p size) ≡ Ok tt
   push-clear p size d =
       let q = parts (ltb p.number (2 ^ 31)) (ltb p.message (2 ^ 26) ∷ ltb p.location 4 ∷ leb size 1456 ∷ []) d in
       rw (
@@ -60,23 +58,16 @@ module _ (ok : Bool) (capacity slots bytes : ℕ) (now latest : ℤ) (c : areas_
         le-ltb 1456 size (leb-true size 1456 q.1.1.1.0),
       )
 
--- areas_clear: the machine's whole numbers are the definition's
-pub areas-by : (ok : Bool) (capacity slots bytes : ℕ) (now latest : ℤ) {b : Bool} {t t₁ l : ℤ} → b ≡ is_reading t → t ≡ now → t₁ ≡ now → l ≡ latest
-    → (ok && leb capacity 8192 && leb (capacity % 16384 * 3) slots && leb (capacity % 16384 * 1456) bytes && b && not (lt_z t₁ l)) ≡ areas_clear ok capacity slots bytes now latest
-areas-by ok capacity slots bytes now latest e f g h = rw (e, f, g, h)
-
--- refusal: 0 where all is clear
+-- refusal: Ok where all is clear
 module _ (ws : List ℕ) (slots bytes : ℕ) (now : ℤ) {ok a : Bool} {c : ℕ} {t l l₁ : ℤ} (e : ok ≡ head_ok (unpack_of ws)) (f : c ≡ at ws 1) (g : l ≡ whole_of (at ws 0)) (h : l₁ ≡ l)
     (i : a ≡ areas_clear ok c slots bytes t l₁) (k : t ≡ now) (d : a ≡ true) where
-  pub pop-none : 0 ≡ pop_refusal ws slots bytes now
+  pub pop-none : Ok tt ≡ pop_refusal ws slots bytes now
   unfolding pop_refusal
   pop-none = sym (pop-clear (head_ok (unpack_of ws)) (at ws 1) slots bytes now (whole_of (at ws 0)) (rw (e, f, h, g, k) at (sym i ∙ d)))
 
-  pub push-none : (p : Packet) (size : ℕ) {b : Bool} → b ≡ packet_clear p size → b ≡ true → 0 ≡ push_refusal ws slots bytes now p size
+  pub push-none : (p : Packet) (size : ℕ) {b : Bool} → b ≡ packet_clear p size → b ≡ true → Ok tt ≡ push_refusal ws slots bytes now p size
   unfolding push_refusal
   push-none p size m n = sym (push-clear (head_ok (unpack_of ws)) (at ws 1) slots bytes now (whole_of (at ws 0)) (rw (e, f, h, g, k) at (sym i ∙ d)) p size (sym m ∙ n))
-
-pub ruleset clears = (areas-by, rules)
 
 pub ruleset pop-clears = (pop-none, pop-by, rules)
 

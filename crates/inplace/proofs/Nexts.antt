@@ -1,6 +1,6 @@
 -- What the code of data.rt does with a packet at the next expected number, as laws over plain values: its append is the push's. Assumes nothing.
 use mathlib.Core.Path.{◌≡◌, refl, sym, ◌∙◌, ap}
-use mathlib.Core.Bool.{Bool, true, false, cond}
+use mathlib.Core.Bool.{Bool, true, false}
 use mathlib.Core.List.{List}
 use Prim.Native.Nat.{ℕ, ◌+◌, ◌^◌, ◌≤◌}
 use native.Mathlib.Nat.{mod-mod}
@@ -10,12 +10,11 @@ use borrow.Author.Tests.{eq-eqb, ne_eqb}
 use lib.Dec.{eqb}
 use lib.IntN.{ℤ}
 use lib.ListN.{length, set}
+use Rattle.std.specs.Prelude.{Result, Err}
 use Rattle.numbers.specs.Order.{order}
-use Rattle.numbers.specs.Circular.{distance, equal, before, sum}
+use Rattle.numbers.specs.Circular.{distance, equal}
 use Rattle.numbers.proofs.Flags.{by_bool}
-use Rattle.acks.specs.History.{light_ack_of}
 use Rattle.acks.specs.declared.history.History.{History}
-use Rattle.acks.specs.declared.history.LightAcked.{LightAcked}
 use Rattle.slots.specs.Words.{write_at}
 use Rattle.slots.specs.Ring.{with_payload}
 use Rattle.slots.proofs.Laws.{slot-words, slot-bytes}
@@ -23,14 +22,14 @@ use Rattle.window.specs.Window.{slot_in, next_of}
 use Rattle.window.specs.Push.{received, moved_past, append_next_of, push_of}
 use Rattle.window.specs.declared.Window.{Window}
 use Rattle.window.specs.declared.push.Packet.{Packet}
+use Rattle.head.specs.declared.refusal.Refusal.{Refusal}
+use Rattle.head.specs.declared.refusal.Refusal.TheVariants.{BufferFull}
 use Rattle.head.specs.declared.state.Head.{Head}
-use Rattle.receiver.specs.Data.{got_answer, placed_of, rated_of}
+use Rattle.receiver.specs.Data.{placed_of, rated_of}
 use Rattle.receiver.specs.declared.data.DataAnswer.{DataAnswer}
-use Rattle.receiver.specs.declared.data.DataAnswer.TheVariants as answers
 use Rattle.packing.specs.Words.{word_of}
 use Rattle.packing.specs.Packed as packed
 use Rattle.packing.specs.Packed.{at, window_of, history_of, head_of, pack_of}
-use Rattle.packing.specs.Puts.{put_history}
 use Rattle.packing.proofs.Undo.{pack-unpack}
 use Rattle.inplace.proofs.Messages.{says-head}
 use Rattle.inplace.proofs.Datas.{rated-words, placed-words, take-ready, take-is}
@@ -43,32 +42,23 @@ pub next-by : (w : Window) (number : ℕ) {n d : ℕ} → n ≡ next_of w → d 
 unfolding is_next equal
 next-by w number e f = rw (f, e)
 
--- put_next, acknowledge_next, keep_next
+-- put_next, keep_next
 pub next-put : (ws : List ℕ) (held lrsn : ℕ) (now : ℤ) {a b c : ℕ} {z : ℤ} → a ≡ held → b ≡ lrsn → c ≡ word_of z → z ≡ now → set (set (set ws 3 a) 5 b) 0 c ≡ put_next ws held lrsn now
 unfolding put_next
 next-put ws held lrsn now a b c d = rw (a, b, c, d)
 
-module _ (ws : List ℕ) (lrsn : ℕ) {y : History} {l : LightAcked} (e : y ≡ history_of ws) (f : l ≡ light_ack_of y lrsn) where
-  pub next-light : {n : ℕ} → l.light ≡ true → n ≡ lrsn → heard (answers.Light lrsn false) (set ws 78 n) ≡ acked_next ws lrsn
-  unfolding acked_next
-  next-light b g = rw (← e, ← f, b, g)
-
-  pub next-got : l.light ≡ false → heard (answers.Got lrsn false) ws ≡ acked_next ws lrsn
-  unfolding acked_next
-  next-got b = rw (← e, ← f, b)
-
-pub next-kept : (ws : List ℕ) (held lrsn : ℕ) (now : ℤ) (number size : ℕ) {us vs : List ℕ} {z z₁ : ℤ} {x : Heard}
-    → us ≡ put_rated ws z number size → z ≡ now → vs ≡ put_next us held lrsn z₁ → z₁ ≡ now → x ≡ acked_next vs lrsn → x ≡ kept_next ws held lrsn now number size
-unfolding kept_next
-next-kept ws held lrsn now number size a b c d e = e ∙ rw (c, a, b, d)
+pub next-kept : (ws : List ℕ) (held lrsn : ℕ) (now : ℤ) (number size : ℕ) {us vs : List ℕ} {z z₁ : ℤ} {y : History} {x : Heard}
+    → us ≡ put_rated ws z number size → z ≡ now → vs ≡ put_next us held lrsn z₁ → z₁ ≡ now → y ≡ history_of vs → x ≡ acked_in vs y lrsn false → x ≡ kept_next ws held lrsn now number size
+unfolding kept_next acked_next
+next-kept ws held lrsn now number size a b c d f e = e ∙ rw (f, c, a, b, d)
 
 -- take_next
 module _ (ws : List ℕ) (w : Window) (slots bs : List ℕ) (now : ℤ) (p : Packet) (payload : List ℕ) where
-  pub next-full : w.held ≡ w.capacity → data_left (answers.Refused 7) ws slots bs ≡ next_taken ws w slots bs now p payload
+  pub next-full : w.held ≡ w.capacity → data_left (Err BufferFull) ws slots bs ≡ next_taken ws w slots bs now p payload
   unfolding next_taken
   next-full h = rw (eq-eqb _ _ h)
 
-  pub next-gone : {lrsn s : ℕ} {z : ℤ} {slots₁ bs₁ vs : List ℕ} {r : DataAnswer}
+  pub next-gone : {lrsn s : ℕ} {z : ℤ} {slots₁ bs₁ vs : List ℕ} {r : Result DataAnswer Refusal}
       → (w.held ≡ w.capacity → ⊥) → lrsn ≡ moved_past w.lrsn p.number → s ≡ slot_in w w.held
       → slots₁ ≡ write_at slots s (received p payload) → bs₁ ≡ with_payload bs s payload
       → heard r vs ≡ kept_next ws (w.held + 1) lrsn z p.number (length payload) → z ≡ now → data_left r vs slots₁ bs₁ ≡ next_taken ws w slots bs now p payload
@@ -93,13 +83,9 @@ history-again : (ws : List ℕ) (g : Head) → g.history ≡ history_of ws → h
 unfolding pack_of packed.numbers_words
 history-again ws g e = rw (e, mod-mod (at ws 76) (2 ^ 32), mod-mod (at ws 77) (2 ^ 32), mod-mod (at ws 78) (2 ^ 32))
 
-acked-again : (g : Head) (l : ℕ) → acked_in (pack_of g) g.history l false ≡ (let b = (light_ack_of g.history l).light in heard (got_answer b l false) (cond b (set (pack_of g) 78 l) (pack_of g)))
-unfolding acked_in light_ack_of put_history pack_of packed.numbers_words
-acked-again g l = by_bool (before 31 l (sum 31 g.history.lastack 64)) (λ b. rw b) (λ b. rw b)
-
 acked-next : (ws : List ℕ) (g : Head) (l : ℕ) → g.history ≡ history_of ws → acked_next (pack_of g) l ≡ acked_in (pack_of g) (history_of ws) l false
 unfolding acked_next
-acked-next ws g l e = rw (history-again ws g e, ← e) (sym (acked-again g l))
+acked-next ws g l e = rw (history-again ws g e)
 
 module _ (ws : List ℕ) (ok : pack_of (head_of ws) ≡ ws) (r : Rates ws) (n l : ℕ) (now : ℤ) (number size : ℕ) where
   abbrev rated : Head
@@ -138,6 +124,6 @@ module _ (ws slots bs : List ℕ) (now : ℤ) (p : Packet) (payload : List ℕ) 
     pub next-taken : {c : Bool} {z : ℤ} {x : DataLeft} → Typed ws → c ≡ is_next w p.number → c ≡ true → x ≡ next_taken ws w slots bs z p payload → z ≡ now → x ≡ data_taken ws slots bs now p payload
     next-taken t d h x q = take-is ws slots bs now p payload r refl refl t (x ∙ rw (e, q) (next-is t r (rw e at (sym d ∙ h))))
 
-pub ruleset nexts = (slot-words, slot-bytes, next-by, next-put, next-light, next-got, next-kept, next-full, next-gone, rules)
+pub ruleset nexts = (slot-words, slot-bytes, next-by, next-put, next-kept, next-full, next-gone, rules)
 
 pub ruleset takes-next = (next-held, not-next, next-taken, take-ready, take-is, rules)

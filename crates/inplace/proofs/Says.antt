@@ -13,8 +13,7 @@ use lib.Ieee.Bits.{of_bits-fits}
 use lib.IntN.{ℤ, pos, negsuc, nat_abs}
 use lib.ListN.{length, set, length-set}
 use lib.Seq.{get_or-set_same, get_or-set_other}
-use Rattle.numbers.specs.declared.instant.Moment.{Moment}
-use Rattle.numbers.specs.declared.instant.Moment.TheVariants.{Unset, At}
+use Rattle.std.specs.Prelude.{Option, Some, None, Result, Ok, Err}
 use Rattle.numbers.proofs.Flags.{and_left, and_right, by_bool, by-test, by-order}
 use Rattle.numbers.proofs.Signs.{reading-size, since-under}
 use Rattle.clock.specs.Ranges.{last_ok}
@@ -28,7 +27,6 @@ use Rattle.acks.specs.History.{history_ok}
 use Rattle.numbers.specs.Circular.{before, sum}
 use Rattle.numbers.specs.Instants.{since_time}
 use Rattle.acks.specs.declared.history.History.{History}
-use Rattle.acks.specs.declared.history.LightAcked.{LightAcked}
 use Rattle.intervals.specs.declared.rates.Arrivals.{Arrivals}
 use Rattle.intervals.specs.declared.rates.Links.{Links}
 use Rattle.acks.specs.declared.rtt.Rtt.{Rtt}
@@ -36,17 +34,20 @@ use Rattle.acks.proofs.HistoryKept.{history-ranges}
 use Rattle.window.specs.Push.{push_of}
 use Rattle.window.specs.declared.Window.{Window}
 use Rattle.window.specs.declared.push.Packet.{Packet}
+use Rattle.window.specs.declared.push.Pushed.{Pushed}
+use Rattle.window.specs.declared.push.PushRefusal.{PushRefusal}
 use Rattle.window.specs.declared.push.PushAnswer.{PushAnswer}
 use Rattle.window.specs.declared.push.PushAnswer.TheVariants as pushes
-use Rattle.window_pop.specs.Pop.{PopOutcome, pop_of}
-use Rattle.window_pop.specs.declared.pop.PopAnswer.{PopAnswer}
-use Rattle.window_pop.specs.declared.pop.PopAnswer.TheVariants as pops
+use Rattle.window_pop.specs.Pop.{PopOutcome, clock_after, pop_of}
+use Rattle.window_pop.specs.declared.pop.Popped.{Popped}
+use Rattle.window_pop.specs.declared.pop.OutShort.{OutShort}
 use Rattle.window_pop.proofs.PopLaws.{pop-cases}
-use Rattle.head.specs.Rules.{first_refusal, pop_rules, push_rules}
+use Rattle.head.specs.Rules.{number_of, first_refusal, pop_rules, push_rules}
 use Rattle.head.specs.Head as heads
 use Rattle.head.specs.Head.{head_ok}
 use Rattle.head.specs.declared.state.Head.{Head}
-use Rattle.head.proofs.Gates.{clear}
+use Rattle.head.specs.declared.refusal.Refusal.{Refusal}
+use Rattle.head.proofs.Gates.{by-refusal, clear}
 use Rattle.head.proofs.Ready.{in_parts, push-ready}
 use Rattle.window.proofs.Ranges.{in_window}
 use lib.Ieee as ieee
@@ -54,7 +55,7 @@ use Rattle.clock.specs.Base as bases
 use Rattle.clock.specs.Samples as samples
 use Rattle.clock.specs.Sync as syncs
 use Rattle.acks.specs.History as histories
-use Rattle.receiver.specs.Data.{DataOutcome, placed_of, rated_of, got_of, acked_of, after_push, taken_of as dataTakenOf, data_call_of}
+use Rattle.receiver.specs.Data.{DataOutcome, placed_of, rated_of, light_or_got, got_of, acked_of, after_taken, after_push, taken_of as dataTakenOf, data_call_of}
 use Rattle.receiver.specs.Message.{MessageOutcome, head_after, taken_of, pop_call_of}
 use Rattle.kept.proofs.DataKept.{data-kept}
 use Rattle.kept.proofs.Parts.{from_parts}
@@ -63,6 +64,7 @@ use Rattle.packing.specs.Packed.{at, sixteen_of, numbers_formed, formed, head_of
 use Rattle.packing.specs.Holds.{Number, Whole, Time, Numbers, Double, RttHolds, HistoryHolds, Holds}
 use Rattle.packing.proofs.Undo.{unpack-pack}
 use Rattle.sound.proofs.Sounds.{formed-under, element}
+use Rattle.inplace.proofs.Messages.{not-zero}
 
 -- what a head in range has beside its ranges
 pub record Rest (h : Head) : Type 0 where
@@ -132,14 +134,14 @@ mag-small : (z : ℤ) → nat_abs z ≤ 2 ^ 62 → Whole z
 mag-small (pos n) h = omega arith
 mag-small (negsuc n) h = omega arith
 
-last-small : (m : Moment) → last_ok m ≡ true → Time m
-last-small Unset e = tt
-last-small (At (pos n)) e = let h = leb-true n (2 ^ 61 + 2 ^ 31) e in omega arith
-last-small (At (negsuc n)) e = let h = leb-true n (2 ^ 61 + 2 ^ 31 - 1) (and_left (leb n (2 ^ 61 + 2 ^ 31 - 1)) true e) in omega arith
+last-small : (m : Option ℤ) → last_ok m ≡ true → Time m
+last-small None e = tt
+last-small (Some (pos n)) e = let h = leb-true n (2 ^ 61 + 2 ^ 31) e in omega arith
+last-small (Some (negsuc n)) e = let h = leb-true n (2 ^ 61 + 2 ^ 31 - 1) (and_left (leb n (2 ^ 61 + 2 ^ 31 - 1)) true e) in omega arith
 
-time-small : (m : Moment) → time_ok m ≡ true → Time m
-time-small Unset e = tt
-time-small (At t) e = mag-small t (let h = reading-size t e in omega arith)
+time-small : (m : Option ℤ) → time_ok m ≡ true → Time m
+time-small None e = tt
+time-small (Some t) e = mag-small t (let h = reading-size t e in omega arith)
 
 rtt-small : (t : Rtt) → rtt_ok t ≡ true → RttHolds t
 unfolding rtt_ok
@@ -179,29 +181,25 @@ holds-from h e r =
       history = history-small h.history p.history r.first;
     }
 
+some-number : (e : Refusal) → number_of e ≡ 0 → ⊥
+some-number e = eqb-false (number_of e) 0 (not-zero e)
+
 -- a pop keeps the rest: of the clock it moves only the last released time
 module _ (k : SynchronizedRemoteClock) (latency : ℕ) (drop : Bool) (w : Window) (ws : List ℕ) (now : ℤ) (bs out : List ℕ) where
   abbrev Same : PopOutcome → Type 0
-  Same o = (o.popped.clock.base ≡ k.base) × (o.popped.clock.stats ≡ k.stats)
+  Same o = ((clock_after k o.popped).base ≡ k.base) × ((clock_after k o.popped).stats ≡ k.stats)
 
   pop-same : Same (pop_of k latency drop w ws now bs out)
   unfolding release_of
-  pop-same = pop-cases k latency drop w ws now bs out Same (refl, refl) (refl, refl) (λ a b c. (refl, refl)) (λ n s a b. (refl, refl))
+  pop-same = pop-cases k latency drop w ws now bs out Same (refl, refl) (λ m a b. (refl, refl)) (λ m a b. (refl, refl)) (λ n s a b. (refl, refl))
 
-rest-after-pop : (h : Head) (w : Window) (k : SynchronizedRemoteClock) (now : ℤ) → k.base ≡ h.clock.base → k.stats ≡ h.clock.stats → Rest h → (a : PopAnswer) → Rest (head_after h w k a now)
-rest-after-pop h w k now e f r = go
-  where
-    moved : Rest (head_after h w k pops.Nothing now)
-    moved = record { stamp = rw e r.stamp; mean = rw f r.mean; squares = rw f r.squares; gaps = r.gaps; sizes = r.sizes; probes = r.probes; first = r.first }
-
-    go : (a : PopAnswer) → Rest (head_after h w k a now)
-    go pops.Nothing = moved
-    go (pops.Message t b p) = moved
-    go (pops.Late s l d) = moved
-    go pops.OutShort = r
+rest-after-pop : (h : Head) (now : ℤ) → Rest h → (r : Result Popped OutShort) → (clock_after h.clock r).base ≡ h.clock.base → (clock_after h.clock r).stats ≡ h.clock.stats → Rest (head_after h r now)
+rest-after-pop h now r (Ok p) e f =
+    record { stamp = rw e r.stamp; mean = rw f r.mean; squares = rw f r.squares; gaps = r.gaps; sizes = r.sizes; probes = r.probes; first = r.first }
+rest-after-pop h now r (Err _) e f = r
 
 module _ (h : Head) (slots bs out : List ℕ) (now : ℤ) where
-  abbrev pop_refusal : ℕ
+  abbrev pop_refusal : Result Unit Refusal
   pop_refusal = first_refusal (pop_rules (head_ok h) h.window.capacity (length slots) (length bs) now h.latest)
 
   rest-message : Rest h → Rest (pop_call_of h slots bs out now).given.head
@@ -209,18 +207,21 @@ module _ (h : Head) (slots bs out : List ℕ) (now : ℤ) where
   rest-message r =
       let o = pop_of h.clock h.latency h.dropping h.window slots now bs out in
       let s = pop-same h.clock h.latency h.dropping h.window slots now bs out in
-      by-test (λ (x : MessageOutcome). Rest x.given.head) (eqb pop_refusal 0) _ _
-      (λ z. rest-after-pop h o.popped.window o.popped.clock now s.0 s.1 r o.popped.answer)
-      (λ z. r)
+      by-refusal (λ (x : MessageOutcome). Rest x.given.head) pop_refusal _ _
+      (λ x z. rest-after-pop h now r o.popped s.0 s.1)
+      (λ e z. r)
 
-  message-open : (pop_call_of h slots bs out now).line.refusal ≡ 0 → pop_refusal ≡ 0
+  message-open : (pop_call_of h slots bs out now).line.refusal ≡ 0 → Ok tt ≡ pop_refusal
   unfolding pop_call_of
-  message-open = by-test (λ (x : MessageOutcome). x.line.refusal ≡ 0 → pop_refusal ≡ 0) (eqb pop_refusal 0) _ _ (λ z e. eqb-true pop_refusal 0 z) (λ z e. e)
+  message-open =
+      by-refusal (λ (x : MessageOutcome). x.line.refusal ≡ 0 → Ok tt ≡ pop_refusal) pop_refusal _ _
+      (λ x z e. sym z)
+      (λ x z e. absurd (some-number x e))
 
   message-ranged : (pop_call_of h slots bs out now).line.refusal ≡ 0 → head_ok h ≡ true
   message-ranged e =
       not-false (head_ok h)
-      (clear (pop_rules (head_ok h) h.window.capacity (length slots) (length bs) now h.latest) (lit< tt, (lit< tt, (lit< tt, (lit< tt, (lit< tt, tt))))) (message-open e)).0
+      (clear (pop_rules (head_ok h) h.window.capacity (length slots) (length bs) now h.latest) (message-open e)).0
 
 pub message-says : (ws slots bs out : List ℕ) (now : ℤ)
     → let o = pop_call_of (unpack_of ws) slots bs out now in o.line.refusal ≡ 0 → unpack_of (pack_of o.given.head) ≡ o.given.head
@@ -239,60 +240,62 @@ rest-rated h now number size l r =
     under : (t : ℤ) → since_time now t < 2 ^ 32
     under t = let k = since-under now t in omega arith
 
-    arrived : (m : Moment) → Numbers (rates.arrived_since m h.arrivals now size).gaps × Numbers (rates.arrived_since m h.arrivals now size).sizes
-    arrived Unset = (r.gaps, r.sizes)
-    arrived (At t) = (numbers-set h.arrivals.gaps h.arrivals.at (since_time now t) r.gaps (under t), numbers-set h.arrivals.sizes h.arrivals.at size r.sizes l)
+    arrived : (m : Option ℤ) → Numbers (rates.arrived_since m h.arrivals now size).gaps × Numbers (rates.arrived_since m h.arrivals now size).sizes
+    arrived None = (r.gaps, r.sizes)
+    arrived (Some t) = (numbers-set h.arrivals.gaps h.arrivals.at (since_time now t) r.gaps (under t), numbers-set h.arrivals.sizes h.arrivals.at size r.sizes l)
 
-    paired : (m : Moment) → Numbers (rates.paired_since m h.links now).gaps
-    paired Unset = r.probes
-    paired (At t) = numbers-set h.links.gaps h.links.at (since_time now t) r.probes (under t)
+    paired : (m : Option ℤ) → Numbers (rates.paired_since m h.links now).gaps
+    paired None = r.probes
+    paired (Some t) = numbers-set h.links.gaps h.links.at (since_time now t) r.probes (under t)
 
-    linked : Numbers (cond (eqb (number % 16) 0) (rates.with_probe h.links (At now)) (cond (eqb (number % 16) 1) (rates.paired_since h.links.probe h.links now) h.links)).gaps
+    linked : Numbers (cond (eqb (number % 16) 0) (rates.with_probe h.links (Some now)) (cond (eqb (number % 16) 1) (rates.paired_since h.links.probe h.links now) h.links)).gaps
     linked =
         by-test (λ (x : Links). Numbers x.gaps) (eqb (number % 16) 0) _ _
         (λ b. r.probes)
         (λ b. by-test (λ (x : Links). Numbers x.gaps) (eqb (number % 16) 1) _ _ (λ c. paired h.links.probe) (λ c. r.probes))
 
-by-light : (h : Head) (lrsn : ℕ) → Number h.history.first → Number (histories.light_ack_of h.history lrsn).history.first
-unfolding histories.light_ack_of
-by-light h lrsn f = by-test (λ (x : LightAcked). Number x.history.first) (before 31 lrsn (sum 31 h.history.lastack 64)) _ _ (λ b. f) (λ b. f)
-
-rest-acked : (h : Head) (w : Window) (now : ℤ) (lrsn : ℕ) (recovered : Bool) → Rest h → Rest (acked_of (placed_of h w now) lrsn recovered).head
-unfolding acked_of
-rest-acked h w now lrsn recovered r =
-    record { stamp = r.stamp; mean = r.mean; squares = r.squares; gaps = r.gaps; sizes = r.sizes; probes = r.probes; first = kept }
-  where
-    kept : Number (histories.light_ack_of h.history lrsn).history.first
-    kept = by-light h lrsn r.first
-
-rest-after-push : (h : Head) (w : Window) (now : ℤ) (number size : ℕ) → size < 2 ^ 32 → Rest h → (a : PushAnswer) → Rest (after_push h w a now number size).head
-unfolding got_of
-rest-after-push h w now number size l r (pushes.Got lrsn true) = rest-acked h w now lrsn true r
-rest-after-push h w now number size l r (pushes.Got lrsn false) = rest-acked (rated_of h now number size) w now lrsn false (rest-rated h now number size l r)
-rest-after-push h w now number size l r (pushes.Loss first last) =
+rest-placed : (h : Head) (w : Window) (now : ℤ) → Rest h → Rest (placed_of h w now)
+rest-placed h w now r =
     record { stamp = r.stamp; mean = r.mean; squares = r.squares; gaps = r.gaps; sizes = r.sizes; probes = r.probes; first = r.first }
-rest-after-push h w now number size l r pushes.BufferFull = r
-rest-after-push h w now number size l r (pushes.PacketTooEarly room need) = r
-rest-after-push h w now number size l r pushes.PacketTooLate = r
-rest-after-push h w now number size l r pushes.DiscardedDuplicate = r
+
+rest-acked : (h : Head) (lrsn : ℕ) (recovered : Bool) → Rest h → Rest (acked_of h lrsn recovered).head
+unfolding acked_of histories.light_ack_of
+rest-acked h lrsn recovered r =
+    by-test (λ (x : Option History). Rest (light_or_got h lrsn recovered x).head) (before 31 lrsn (sum 31 h.history.lastack 64)) _ _
+    (λ b. r)
+    (λ b. record { stamp = r.stamp; mean = r.mean; squares = r.squares; gaps = r.gaps; sizes = r.sizes; probes = r.probes; first = r.first })
+
+rest-after-taken : (h : Head) (w : Window) (now : ℤ) (number size : ℕ) → size < 2 ^ 32 → Rest h → (a : PushAnswer) → Rest (after_taken h w a now number size).head
+unfolding got_of
+rest-after-taken h w now number size l r (pushes.Got lrsn true) = rest-acked (placed_of h w now) lrsn true (rest-placed h w now r)
+rest-after-taken h w now number size l r (pushes.Got lrsn false) =
+    let g = rated_of h now number size in rest-acked (placed_of g w now) lrsn false (rest-placed g w now (rest-rated h now number size l r))
+rest-after-taken h w now number size l r (pushes.Loss first last) = rest-placed h w now r
+
+rest-after-push : (h : Head) (now : ℤ) (number size : ℕ) → size < 2 ^ 32 → Rest h → (r : Result Pushed PushRefusal) → Rest (after_push h r now number size).head
+rest-after-push h now number size l r (Ok u) = rest-after-taken h u.window now number size l r u.answer
+rest-after-push h now number size l r (Err _) = r
 
 module _ (h : Head) (slots bs : List ℕ) (now : ℤ) (p : Packet) (payload : List ℕ) where
-  abbrev push_refusal : ℕ
+  abbrev push_refusal : Result Unit Refusal
   push_refusal = first_refusal (push_rules (head_ok h) h.window.capacity (length slots) (length bs) now h.latest p (length payload))
 
   rest-data : Rest h → Rest (data_call_of h slots bs now p payload).handled.head
   unfolding data_call_of dataTakenOf
   rest-data r =
       let o = push_of h.window slots bs now p payload in
-      by-test (λ (x : DataOutcome). Rest x.handled.head) (eqb push_refusal 0) _ _
-      (λ z.
-      let d = push-ready h slots bs now p payload (eqb-true push_refusal 0 z) in
-      rest-after-push h o.pushed.window now p.number (length payload) (let b = d.right.bytes in omega arith) r o.pushed.answer)
-      (λ z. r)
+      by-refusal (λ (x : DataOutcome). Rest x.handled.head) push_refusal _ _
+      (λ x z.
+      let d = push-ready h slots bs now p payload (sym z) in
+      rest-after-push h now p.number (length payload) (let b = d.right.bytes in omega arith) r o.pushed)
+      (λ e z. r)
 
-  data-open : (data_call_of h slots bs now p payload).line.refusal ≡ 0 → push_refusal ≡ 0
+  data-open : (data_call_of h slots bs now p payload).line.refusal ≡ 0 → Ok tt ≡ push_refusal
   unfolding data_call_of
-  data-open = by-test (λ (x : DataOutcome). x.line.refusal ≡ 0 → push_refusal ≡ 0) (eqb push_refusal 0) _ _ (λ z e. eqb-true push_refusal 0 z) (λ z e. e)
+  data-open =
+      by-refusal (λ (x : DataOutcome). x.line.refusal ≡ 0 → Ok tt ≡ push_refusal) push_refusal _ _
+      (λ x z e. sym z)
+      (λ x z e. absurd (some-number x e))
 
   data-ranged : (data_call_of h slots bs now p payload).line.refusal ≡ 0 → head_ok h ≡ true
   data-ranged e = from_parts h (push-ready h slots bs now p payload (data-open e)).head

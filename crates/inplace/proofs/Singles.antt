@@ -11,8 +11,8 @@ use lib.IntN.{ℤ, nat_abs}
 use lib.ListN.{length, set}
 use lib.Seq.{paste}
 use lib.Signed.{lt_z}
+use Rattle.std.specs.Prelude.{Option, Some, Ok}
 use Rattle.numbers.proofs.Flags.{impossible, and_left, and_right}
-use Rattle.numbers.specs.declared.instant.Moment.{Moment}
 use Rattle.clock.specs.Release as releases
 use Rattle.clock.specs.Release.{release_of}
 use Rattle.clock.specs.declared.base.TimeBase.{TimeBase}
@@ -29,10 +29,8 @@ use Rattle.window.specs.Ready.{Good}
 use Rattle.window.specs.declared.Window.{Window}
 use Rattle.window_pop.specs.Pop.{pop_ended, run_from, message_of, filled, due_of, pop_of}
 use Rattle.window_pop.specs.Pop as pop
-use Rattle.window_pop.specs.declared.pop.Message.{Message}
-use Rattle.window_pop.specs.declared.pop.PopAnswer.TheVariants as pops
+use Rattle.window_pop.specs.declared.pop.PopAnswer.TheVariants as answers
 use Rattle.head.specs.declared.state.Head.{Head}
-use Rattle.receiver.specs.declared.message.MessageAnswer.TheVariants as answers
 use Rattle.packing.specs.Words.{word_of, number_of, flag_of, moment_of}
 use Rattle.packing.specs.Packed as packed
 use Rattle.packing.specs.Packed.{at, window_of, base_of, clock_of, head_of, formed, pack_of}
@@ -91,12 +89,12 @@ module _ (w : Window) (base : TimeBase) (slots bs out : List ℕ) where
   pub single-gone : (ws : List ℕ) (now : ℤ) {e : Entry} {n s : ℕ} {t t₁ z : ℤ} {c : Window} {vs out₁ : List ℕ}
       → e ≡ entry_at slots w.start → n ≡ length_in e → out₁ ≡ paste out 0 (payload_at bs w.start n) n → s ≡ stamp_in e
       → t ≡ release_time ws base s → t₁ ≡ t → c ≡ cut w 1 → vs ≡ put_single ws c t₁ z → z ≡ now
-      → pop_in (answers.Message t n 1) vs out₁ ≡ single_of ws w base slots bs out now
+      → pop_in (Ok (answers.Message t n 1)) vs out₁ ≡ single_of ws w base slots bs out now
   unfolding single_of
   single-gone ws now a b c d e f g h i = rw (h, c, g, f, i, e, d, b, a)
 
 -- release_time
-pub timed : (ws : List ℕ) (base : TimeBase) (s : ℕ) {m : Moment} (b : Bool) (x : OnlineStats) {r : Release}
+pub timed : (ws : List ℕ) (base : TimeBase) (s : ℕ) {m : Option ℤ} (b : Bool) (x : OnlineStats) {r : Release}
     → m ≡ moment_of (at ws 10) (at ws 11) → r ≡ release_of (record { base = base; last = m; seen = b; stats = x }) s → r.time ≡ release_time ws base s
 unfolding release_of releases.released
 timed ws base s b x d f = rw (f, d)
@@ -155,11 +153,11 @@ module _ (w : Window) (base : TimeBase) (latency : ℕ) (slots : List ℕ) (room
     in-front : entry_in w slots 0 ≡ front
     in-front = ap (entry_at slots) at-start
 
-    run : (n : ℕ) → run_from w.capacity w.start slots (message_in front) 0 0 (suc n) ≡ record { packets = 1; bytes = length_in front }
+    run : (n : ℕ) → run_from w.capacity w.start slots (message_in front) 0 0 (suc n) ≡ Some (record { packets = 1; bytes = length_in front })
     unfolding run_from
     run n = let z : 0 + length_in front ≡ length_in front = omega arith in rw (at-start, own-message front with_first, with-last, z)
 
-    counted : message_of w slots ≡ record { packets = 1; bytes = length_in front }
+    counted : message_of w slots ≡ Some (record { packets = 1; bytes = length_in front })
     unfolding message_of
     counted = let e : w.held ≡ suc (w.held - 1) = omega (arith, some) in rw (in-front, with_first, e) (run (w.held - 1))
 
@@ -171,7 +169,7 @@ pop-single : (k : SynchronizedRemoteClock) (latency : ℕ) (drop : Bool) (w : Wi
     → let e = entry_at slots w.start in
     let r = release_of k (stamp_in e) in
     pop_of k latency drop w slots now bs out
-    ≡ pop_ended (record { window = cut w 1; clock = r.clock; answer = pops.Message r.time (length_in e) 1 }) (paste out 0 (payload_at bs w.start (length_in e)) (length_in e))
+    ≡ pop_ended (Ok (record { window = cut w 1; clock = r.clock; answer = answers.Message r.time (length_in e) 1 })) (paste out 0 (payload_at bs w.start (length_in e)) (length_in e))
 unfolding pop_of pop.front_of pop.released_of
 pop-single k latency drop w slots now bs out g h =
     let b = k.base in

@@ -1,5 +1,5 @@
 -- How the code of message.rt pops on words. `Calls` says what comes of it.
-use Rattle.std.specs.Prelude.{◌≡◌, Bool, true, not, ◌&&◌, List, ℕ, ◌^◌, ◌<◌, ◌≤◌, ltb, ℤ, nat_abs, length, set}
+use Rattle.std.specs.Prelude.{◌≡◌, Bool, true, not, ◌&&◌, List, ℕ, ◌^◌, ◌<◌, ◌≤◌, ltb, ℤ, nat_abs, length, set, Result, Ok, Err}
 use Rattle.std.proofs.Math.Seq.{paste}
 use Rattle.std.specs.Int.Signed.{lt_z}
 use Rattle.clock.specs.Base.{instant_of}
@@ -13,13 +13,14 @@ use Rattle.clock.specs.declared.time.SynchronizedRemoteClock.{SynchronizedRemote
 use Rattle.window.specs.declared.Window.{Window}
 use Rattle.window_pop.specs.Pop.{PopOutcome, pop_of, due_of}
 use Rattle.window_pop.specs.Ready.{PopReady}
+use Rattle.window_pop.specs.declared.pop.Popped.{Popped}
+use Rattle.window_pop.specs.declared.pop.OutShort.{OutShort}
 use Rattle.window_pop.specs.declared.pop.PopAnswer.{PopAnswer}
-use Rattle.window_pop.specs.declared.pop.PopAnswer.TheVariants as pops
+use Rattle.window_pop.specs.declared.pop.PopAnswer.TheVariants as answers
 use Rattle.head.specs.Rules.{first_refusal, pop_rules}
 use Rattle.head.specs.Head.{head_ok}
-use Rattle.receiver.specs.Message.{taken_of}
-use Rattle.receiver.specs.declared.message.MessageAnswer.{MessageAnswer}
-use Rattle.receiver.specs.declared.message.MessageAnswer.TheVariants as answers
+use Rattle.head.specs.declared.refusal.Refusal.{Refusal}
+use Rattle.receiver.specs.Message.{answer_of, taken_of}
 use Rattle.packing.specs.Words.{word_of, whole_of, number_of, flag_of, moment_of}
 use Rattle.packing.specs.Packed.{at, window_of, base_of, clock_of, head_of, formed, unpack_of}
 use Rattle.packing.specs.Puts.{put_window, put_base, put_stats}
@@ -31,22 +32,23 @@ put_popped ws w k now = set (put_stats (put_base (put_window ws w) k) k) 0 (word
 
 -- an answer and the words
 pub record Settled : Type 0 where
-  pub answer : MessageAnswer
+  pub answer : Result PopAnswer Refusal
   pub words : List ℕ
 
-abbrev pub settled : MessageAnswer → List ℕ → Settled
+abbrev pub settled : Result PopAnswer Refusal → List ℕ → Settled
 settled a ws = record { answer = a; words = ws }
 
 -- an output that is short leaves the words
-abbrev pub settled_of : List ℕ → Window → SynchronizedRemoteClock → PopAnswer → ℤ → Settled
-settled_of ws w k pops.Nothing now = settled answers.Nothing (put_popped ws w k now)
-settled_of ws w k (pops.Message time bytes packets) now = settled (answers.Message time bytes packets) (put_popped ws w k now)
-settled_of ws w k (pops.Late first end delay) now = settled (answers.Late first end delay) (put_popped ws w k now)
-settled_of ws w k pops.OutShort now = settled (answers.Refused 11) ws
+abbrev pub words_after : List ℕ → Result Popped OutShort → ℤ → List ℕ
+words_after ws (Ok p) now = put_popped ws p.window p.clock now
+words_after ws (Err _) now = ws
+
+abbrev pub settled_of : List ℕ → Result Popped OutShort → ℤ → Settled
+settled_of ws r now = settled (answer_of r) (words_after ws r now)
 
 abbrev pub settled_by : List ℕ → ℤ → PopOutcome → PopIn
 settled_by ws now o =
-    let s = settled_of ws o.popped.window o.popped.clock o.popped.answer now in pop_in s.answer s.words o.output
+    let s = settled_of ws o.popped now in pop_in s.answer s.words o.output
 
 unfoldable pub released_of : List ℕ → List ℕ → List ℕ → List ℕ → ℤ → PopIn
 released_of ws slots bs out now = settled_by ws now (pop_of (clock_of ws) (number_of (at ws 6)) (flag_of (at ws 7)) (window_of ws) slots now bs out)
@@ -79,7 +81,7 @@ unfoldable pub single_of : List ℕ → Window → TimeBase → List ℕ → Lis
 single_of ws w base slots bs out now =
     let e = entry_at slots w.start in
     let t = release_time ws base (stamp_in e) in
-    pop_in (answers.Message t (length_in e) 1) (put_single ws (cut w 1) t now) (paste out 0 (payload_at bs w.start (length_in e)) (length_in e))
+    pop_in (Ok (answers.Message t (length_in e) 1)) (put_single ws (cut w 1) t now) (paste out 0 (payload_at bs w.start (length_in e)) (length_in e))
 
 -- the same on the words
 pub record Fronted (ws slots : List ℕ) : Type 0 where
@@ -97,7 +99,7 @@ pub record Usual (ws slots bs out : List ℕ) : Type 0 where
 unfoldable pub usual_of : List ℕ → List ℕ → List ℕ → List ℕ → ℤ → PopIn
 usual_of ws slots bs out now = single_of ws (window_of ws) (base_of ws) slots bs out now
 
-unfoldable pub pop_refusal : List ℕ → ℕ → ℕ → ℤ → ℕ
+unfoldable pub pop_refusal : List ℕ → ℕ → ℕ → ℤ → Result Unit Refusal
 pop_refusal ws slots bytes now = first_refusal (pop_rules (head_ok (unpack_of ws)) (at ws 1) slots bytes now (whole_of (at ws 0)))
 
 -- once nothing refuses it: the words say a head, and the window asks for this

@@ -1,4 +1,5 @@
-// Whether nothing refuses, all tests at once: 01, "Refused, in order of test", 1 to 6. Which one refuses is asked only where one does.
+// Whether nothing refuses, all tests at once: 01, "Refused, in order of test", 1 to 6. Which one refuses is asked only
+// where one does.
 ghost use Rattle.std.specs.Prelude.{◌≡◌};
 ghost use Rattle.inplace.specs.Clear.{areas_clear, packet_clear};
 

@@ -1,13 +1,14 @@
-// A data packet on a head's words: 01, "Window" with refusals 1 to 10, and of "ACKs, RTT, rates" what a push does. receiver/src/data.rt has the same on a head.
-ghost use Rattle.std.specs.Prelude.{◌≡◌, true, false, ◌<◌, ◌≤◌};
-ghost use Rattle.receiver.specs.Data.{packet};
+// A data packet on a head's words: 01, "Window" with refusals 1 to 10, and of "ACKs, RTT, rates" what a push does.
+// receiver/src/data.rt has the same on a head.
+ghost use Rattle.std.specs.Prelude.{◌≡◌, true, false, ◌<◌, ◌≤◌, Ok};
 ghost use Rattle.packing.specs.Packed.{at};
 ghost use Rattle.inplace.specs.Calls.{data_in, data_left};
-ghost use Rattle.inplace.specs.Pushes.{put_last, put_arrival, put_pair, put_linked, put_rated, put_placed, heard, acked_in, recovered_in, after_other, taken_by, Pairs, Rates, TakeReady, is_next, put_next, acked_next, kept_next, next_taken, Pushing, data_taken, push_refusal};
+ghost use Rattle.inplace.specs.Pushes.{put_last, put_arrival, put_pair, put_linked, put_rated, put_placed, heard, acked_in, recovered_in, after_other, taken_by, Pairs, Rates, TakeReady, is_next, put_next, kept_next, next_taken, Pushing, data_taken, push_refusal};
 
 use acks::history::History;
+use head::refusal::Refusal;
 use intervals::rates::one_more;
-use numbers::instant::{Moment, since};
+use numbers::instant::since;
 use packing::{pack, unpack, words};
 use receiver::data::DataAnswer;
 use window::Window;
@@ -21,11 +22,11 @@ fn put_last(ws: &mut [u64; 79], time: i64)
 }
 
 // An arrival: the interval since the last one enters its window, if there was one.
-fn put_arrival(ws: &mut [u64; 79], at: usize, count: usize, last: Moment, time: i64, size: u32)
+fn put_arrival(ws: &mut [u64; 79], at: usize, count: usize, last: Option<i64>, time: i64, size: u32)
     requires { (at < 16) × (count ≤ 16) }
     ensures { ws.new ≡ put_arrival ws.old at count last time size }
 {
-    let Moment::At(t) = last else {
+    let Some(t) = last else {
         put_last(ws, time);
         return;
     };
@@ -37,13 +38,13 @@ fn put_arrival(ws: &mut [u64; 79], at: usize, count: usize, last: Moment, time: 
 }
 
 // The second packet of a pair: the interval since the first enters, if there was one.
-fn put_pair(ws: &mut [u64; 79], at: usize, count: usize, probe: Moment, time: i64)
+fn put_pair(ws: &mut [u64; 79], at: usize, count: usize, probe: Option<i64>, time: i64)
     requires { (at < 16) × (count ≤ 16) }
     ensures { ws.new ≡ put_pair ws.old at count probe time }
 {
     ws[72] = 0;
     ws[73] = 0;
-    let Moment::At(t) = probe else {
+    let Some(t) = probe else {
         return;
     };
     ws[54 + at] = words::of_number(since(time, t));
@@ -90,51 +91,42 @@ fn place(ws: &mut [u64; 79], window: Window, time: i64)
     ws[0] = words::of_whole(time);
 }
 
-// A recovery asks for a light ACK, as an append without gap does.
-fn acknowledge(ws: &mut [u64; 79], y: History, lrsn: u32) -> DataAnswer
-    ensures { heard result ws.new ≡ acked_in ws.old y lrsn true }
+// A recovery or an append without gap asks for a light ACK. Of the history that moves one word, and all else none.
+fn acknowledge(ws: &mut [u64; 79], y: History, lrsn: u32, recovered: bool) -> DataAnswer
+    ensures { heard (Ok result) ws.new ≡ acked_in ws.old y lrsn recovered }
 {
-    let acked = y.next_light_ack(lrsn);
-    let history = acked.history;
-    pack::put_history(ws, history);
-    if acked.light {
-        return DataAnswer::Light {
-            lrsn,
-            recovered: true,
-        };
-    }
-    DataAnswer::Got {
-        lrsn,
-        recovered: true,
+    match y.next_light_ack(lrsn) {
+        Some(_) => {
+            ws[78] = words::of_number(lrsn);
+            DataAnswer::Light { lrsn, recovered }
+        }
+        None => DataAnswer::Got { lrsn, recovered },
     }
 }
 
 // A packet recovered.
 fn recovered(ws: &mut [u64; 79], window: Window, lrsn: u32, time: i64) -> DataAnswer
-    ensures { heard result ws.new ≡ recovered_in ws.old window lrsn time }
+    ensures { heard (Ok result) ws.new ≡ recovered_in ws.old window lrsn time }
 {
     let y = unpack::history(ws);
     place(ws, window, time);
-    acknowledge(ws, y, lrsn)
+    acknowledge(ws, y, lrsn, true)
 }
 
-// The window's answer as the call's: a refusal leaves the words, a gap asks for no ACK. What a packet that is not the next one got, it recovered.
+// The window's answer as the call's: a gap asks for no ACK. What a packet that is not the next one got, it recovered.
 fn after_push(ws: &mut [u64; 79], pushed: Pushed, time: i64) -> DataAnswer
-    ensures { heard result ws.new ≡ after_other ws.old pushed.window pushed.answer time }
+    ensures { heard (Ok result) ws.new ≡ after_other ws.old pushed.window pushed.answer time }
 {
-    let window = pushed.window;
-    let answer = pushed.answer;
-    let PushAnswer::Got { lrsn, recovered: _ } = answer else {
-        let PushAnswer::Loss { first, last } = answer else {
-            return receiver::data::refused_by(answer);
-        };
-        place(ws, window, time);
-        return DataAnswer::Loss { first, last };
-    };
-    recovered(ws, window, lrsn, time)
+    match pushed.answer {
+        PushAnswer::Got { lrsn, .. } => recovered(ws, pushed.window, lrsn, time),
+        PushAnswer::Loss { first, last } => {
+            place(ws, pushed.window, time);
+            DataAnswer::Loss { first, last }
+        }
+    }
 }
 
-// The call, once nothing refuses it, of a packet that is not the next one.
+// The call, once nothing refuses it, of a packet that is not the next one. A refusal of the window leaves the words.
 fn take_packet(
     ws: &mut [u64; 79],
     w: Window,
@@ -143,15 +135,16 @@ fn take_packet(
     time: i64,
     p: Packet,
     payload: &[u8],
-) -> DataAnswer
+) -> Result<DataAnswer, Refusal>
     requires { TakeReady ws.old w slots.old bytes.old time p payload.now × (is_next w p.number ≡ false) }
     ensures { data_left result ws.new slots.new bytes.new ≡ taken_by ws.old w slots.old bytes.old time p payload.now }
 {
-    let pushed = window::push::push(w, slots, bytes, time, p, payload);
-    after_push(ws, pushed, time)
+    let pushed = window::push::push(w, slots, bytes, time, p, payload)?;
+    Ok(after_push(ws, pushed, time))
 }
 
-// Whether a packet is the next expected one: by the distance, as the push tells it, so that the compiler sees that no other packet is appended without gap.
+// Whether a packet is the next expected one: by the distance, as the push tells it, so that the compiler sees that no
+// other packet is appended without gap.
 fn is_next(w: Window, number: u32) -> bool
     requires { w.held ≤ 8192 }
     ensures { result ≡ is_next w number }
@@ -169,25 +162,6 @@ fn put_next(ws: &mut [u64; 79], held: usize, lrsn: u32, time: i64)
     ws[0] = words::of_whole(time);
 }
 
-// Of the history a light ACK moves one word, and all else none.
-fn acknowledge_next(ws: &mut [u64; 79], lrsn: u32) -> DataAnswer
-    ensures { heard result ws.new ≡ acked_next ws.old lrsn }
-{
-    let y = unpack::history(ws);
-    let acked = y.next_light_ack(lrsn);
-    if acked.light {
-        ws[78] = words::of_number(lrsn);
-        return DataAnswer::Light {
-            lrsn,
-            recovered: false,
-        };
-    }
-    DataAnswer::Got {
-        lrsn,
-        recovered: false,
-    }
-}
-
 // The words after it, and the answer.
 fn keep_next(
     ws: &mut [u64; 79],
@@ -198,14 +172,15 @@ fn keep_next(
     size: u32,
 ) -> DataAnswer
     requires { Rates ws.old }
-    ensures { heard result ws.new ≡ kept_next ws.old held lrsn time number size }
+    ensures { heard (Ok result) ws.new ≡ kept_next ws.old held lrsn time number size }
 {
     rate(ws, time, number, size);
     put_next(ws, held, lrsn, time);
-    acknowledge_next(ws, lrsn)
+    acknowledge(ws, unpack::history(ws), lrsn, false)
 }
 
-// The packet that nearly every call brings: with room, it goes into its slot, and of the words only those are written that it moves.
+// The packet that nearly every call brings: with room, it goes into its slot, and of the words only those are written
+// that it moves.
 fn take_next(
     ws: &mut [u64; 79],
     w: Window,
@@ -214,20 +189,17 @@ fn take_next(
     time: i64,
     p: Packet,
     payload: &[u8],
-) -> DataAnswer
+) -> Result<DataAnswer, Refusal>
     requires { TakeReady ws.old w slots.old bytes.old time p payload.now }
     ensures { data_left result ws.new slots.new bytes.new ≡ next_taken ws.old w slots.old bytes.old time p payload.now }
 {
     if w.held == w.capacity {
-        return DataAnswer::Refused(7);
+        return Err(Refusal::BufferFull);
     }
-    let number = p.number;
-    let size = payload.len() as u32;
-    let held = w.held + 1;
-    let lrsn = window::push::moved_past(w.lrsn, number);
+    let lrsn = window::push::moved_past(w.lrsn, p.number);
     let s = slots::ring::slot(w.capacity, w.start, w.held);
     window::push::put_packet(slots, bytes, s, p, payload);
-    keep_next(ws, held, lrsn, time, number, size)
+    Ok(keep_next(ws, w.held + 1, lrsn, time, p.number, payload.len() as u32))
 }
 
 // The same, as the head's call: what the type says of the words is needed for that.
@@ -238,7 +210,7 @@ fn take(
     time: i64,
     p: Packet,
     payload: &[u8],
-) -> DataAnswer
+) -> Result<DataAnswer, Refusal>
     requires { Pushing ws.old slots.old bytes.old time p payload.now }
     ensures { data_left result ws.new slots.new bytes.new ≡ data_taken ws.old slots.old bytes.old time p payload.now }
 {
@@ -250,16 +222,23 @@ fn take(
     take_packet(ws, w, slots, bytes, time, p, payload)
 }
 
-fn refusal(ws: &[u64; 79], slots: usize, bytes: usize, time: i64, p: Packet, size: usize) -> u32
+fn refusal(
+    ws: &[u64; 79],
+    slots: usize,
+    bytes: usize,
+    time: i64,
+    p: Packet,
+    size: usize,
+) -> Result<(), Refusal>
     ensures { result ≡ push_refusal ws.now slots bytes time p size }
 {
     let ok = sound::sound(ws);
     let capacity = words::size(ws[1]);
     let latest = words::whole(ws[0]);
-    if crate::clear::areas_clear(ok, capacity, slots, bytes, time, latest) {
-        if crate::clear::packet_clear(p, size) {
-            return 0;
-        }
+    if crate::clear::areas_clear(ok, capacity, slots, bytes, time, latest)
+        && crate::clear::packet_clear(p, size)
+    {
+        return Ok(());
     }
     head::gate::refuse_push(ok, capacity, slots, bytes, time, latest, p, size)
 }
@@ -269,23 +248,11 @@ pub fn handle_data_packet(
     slots: &mut [u64],
     bytes: &mut [u8],
     time: i64,
-    number: u32,
-    message: u32,
-    location: u32,
-    stamp: u32,
+    p: Packet,
     payload: &[u8],
-) -> DataAnswer
-    ensures { data_left result ws.new slots.new bytes.new ≡ data_in ws.old slots.old bytes.old time (packet number message location stamp) payload.now }
+) -> Result<DataAnswer, Refusal>
+    ensures { data_left result ws.new slots.new bytes.new ≡ data_in ws.old slots.old bytes.old time p payload.now }
 {
-    let p = Packet {
-        number,
-        message,
-        location,
-        stamp,
-    };
-    let n = refusal(ws, slots.len(), bytes.len(), time, p, payload.len());
-    if n == 0 {
-        return take(ws, slots, bytes, time, p, payload);
-    }
-    DataAnswer::Refused(n)
+    refusal(ws, slots.len(), bytes.len(), time, p, payload.len())?;
+    take(ws, slots, bytes, time, p, payload)
 }

@@ -1,20 +1,20 @@
 // The pop on a head's words: 01, "Window", with refusals 1 to 4 and 11. receiver/src/message.rt has the same on a head.
-ghost use Rattle.std.specs.Prelude.{◌≡◌, ◌^◌, ◌≤◌, ◌<◌, nat_abs};
+ghost use Rattle.std.specs.Prelude.{◌≡◌, ◌^◌, ◌≤◌, ◌<◌, nat_abs, Ok};
 ghost use Rattle.window.specs.Ready.{Good};
 ghost use Rattle.window_pop.specs.Pop.{pop_of};
 ghost use Rattle.window_pop.specs.Ready.{PopReady};
 ghost use Rattle.packing.specs.Words.{number_of};
 ghost use Rattle.packing.specs.Packed.{at, window_of, clock_of};
 ghost use Rattle.inplace.specs.Calls.{pop_in, message_in};
-ghost use Rattle.inplace.specs.Pops.{put_popped, settled, settled_of, settled_by, released_of, is_single, release_time, put_single, Single, single_of, Fronted, is_usual, Usual, usual_of, Popping, message_taken, pop_refusal};
+ghost use Rattle.inplace.specs.Pops.{put_popped, settled_by, released_of, is_single, release_time, put_single, Single, single_of, Fronted, is_usual, Usual, usual_of, Popping, message_taken, pop_refusal};
 
 use clock::base::TimeBase;
 use clock::stats::OnlineStats;
 use clock::time::SynchronizedRemoteClock;
+use head::refusal::Refusal;
 use packing::{pack, unpack, words};
 use receiver::message::MessageAnswer;
 use window::Window;
-use window_pop::pop::PopAnswer;
 
 // The window and clock after a pop, and the reading as the latest.
 fn put_popped(ws: &mut [u64; 79], window: Window, clock: SynchronizedRemoteClock, time: i64)
@@ -26,24 +26,7 @@ fn put_popped(ws: &mut [u64; 79], window: Window, clock: SynchronizedRemoteClock
     ws[0] = words::of_whole(time);
 }
 
-// An output that is short leaves the words; all else moves them on.
-fn settle(
-    ws: &mut [u64; 79],
-    window: Window,
-    clock: SynchronizedRemoteClock,
-    answer: PopAnswer,
-    time: i64,
-) -> MessageAnswer
-    ensures { settled result ws.new ≡ settled_of ws.old window clock answer time }
-{
-    let (PopAnswer::Nothing | PopAnswer::Message { .. } | PopAnswer::Late { .. }) = answer else {
-        return MessageAnswer::Refused(11);
-    };
-    put_popped(ws, window, clock, time);
-    receiver::message::answer_of(answer)
-}
-
-// The pop of the window, and what it leaves.
+// The pop of the window, and what it leaves: an output that is short leaves the words; all else moves them on.
 fn move_on(
     ws: &mut [u64; 79],
     w: Window,
@@ -54,15 +37,13 @@ fn move_on(
     bytes: &[u8],
     out: &mut [u8],
     time: i64,
-) -> MessageAnswer
+) -> Result<MessageAnswer, Refusal>
     requires { PopReady k latency w slots.now bytes.now time }
     ensures { pop_in result ws.new out.new ≡ settled_by ws.old time (pop_of k latency dropping w slots.now time bytes.now out.old) }
 {
-    let popped = window_pop::pop::pop(w, k, latency, dropping, slots, bytes, out, time);
-    let window = popped.window;
-    let clock = popped.clock;
-    let answer = popped.answer;
-    settle(ws, window, clock, answer, time)
+    let popped = window_pop::pop::pop(w, k, latency, dropping, slots, bytes, out, time)?;
+    put_popped(ws, popped.window, popped.clock, time);
+    Ok(popped.answer)
 }
 
 // The call, once nothing refuses it.
@@ -72,7 +53,7 @@ fn release(
     bytes: &[u8],
     out: &mut [u8],
     time: i64,
-) -> MessageAnswer
+) -> Result<MessageAnswer, Refusal>
     requires { PopReady (clock_of ws.old) (number_of (at ws.old 6)) (window_of ws.old) slots.now bytes.now time }
     ensures { pop_in result ws.new out.new ≡ released_of ws.old slots.now bytes.now out.old time }
 {
@@ -110,8 +91,7 @@ fn release_time(ws: &[u64; 79], base: TimeBase, stamp: u32) -> i64
         seen: true,
         stats: OnlineStats::new(),
     };
-    let released = k.monotonic_instant_from(stamp);
-    released.time
+    k.monotonic_instant_from(stamp).time
 }
 
 // The words that the release of one packet moves: the front, the last released time and the latest reading.
@@ -137,7 +117,7 @@ fn release_single(
     time: i64,
 ) -> MessageAnswer
     requires { Single w base slots.now bytes.now out.old }
-    ensures { pop_in result ws.new out.new ≡ single_of ws.old w base slots.now bytes.now out.old time }
+    ensures { pop_in (Ok result) ws.new out.new ≡ single_of ws.old w base slots.now bytes.now out.old time }
 {
     let c = window::cut_front(w, 1);
     let e = slots::entry::read_at(slots, w.start);
@@ -171,7 +151,7 @@ fn release_usual(
     time: i64,
 ) -> MessageAnswer
     requires { Usual ws.old slots.now bytes.now out.old }
-    ensures { pop_in result ws.new out.new ≡ usual_of ws.old slots.now bytes.now out.old time }
+    ensures { pop_in (Ok result) ws.new out.new ≡ usual_of ws.old slots.now bytes.now out.old time }
 {
     let w = unpack::window(ws);
     let base = unpack::base(ws);
@@ -179,25 +159,31 @@ fn release_usual(
 }
 
 // The same, as the head's call: what the type says of the words is needed for that.
-fn take(ws: &mut [u64; 79], slots: &[u64], bytes: &[u8], out: &mut [u8], time: i64) -> MessageAnswer
+fn take(
+    ws: &mut [u64; 79],
+    slots: &[u64],
+    bytes: &[u8],
+    out: &mut [u8],
+    time: i64,
+) -> Result<MessageAnswer, Refusal>
     requires { Popping ws.old slots.now bytes.now time }
     ensures { pop_in result ws.new out.new ≡ message_taken ws.old slots.now bytes.now out.old time }
 {
     sound::typed(ws);
     if is_usual(ws, slots, out.len(), time) {
-        return release_usual(ws, slots, bytes, out, time);
+        return Ok(release_usual(ws, slots, bytes, out, time));
     }
     release(ws, slots, bytes, out, time)
 }
 
-fn refusal(ws: &[u64; 79], slots: usize, bytes: usize, time: i64) -> u32
+fn refusal(ws: &[u64; 79], slots: usize, bytes: usize, time: i64) -> Result<(), Refusal>
     ensures { result ≡ pop_refusal ws.now slots bytes time }
 {
     let ok = sound::sound(ws);
     let capacity = words::size(ws[1]);
     let latest = words::whole(ws[0]);
     if crate::clear::areas_clear(ok, capacity, slots, bytes, time, latest) {
-        return 0;
+        return Ok(());
     }
     head::gate::refuse_pop(ok, capacity, slots, bytes, time, latest)
 }
@@ -208,12 +194,9 @@ pub fn pop_next_message(
     bytes: &[u8],
     out: &mut [u8],
     time: i64,
-) -> MessageAnswer
+) -> Result<MessageAnswer, Refusal>
     ensures { pop_in result ws.new out.new ≡ message_in ws.old slots.now bytes.now out.old time }
 {
-    let n = refusal(ws, slots.len(), bytes.len(), time);
-    if n == 0 {
-        return take(ws, slots, bytes, out, time);
-    }
-    MessageAnswer::Refused(n)
+    refusal(ws, slots.len(), bytes.len(), time)?;
+    take(ws, slots, bytes, out, time)
 }

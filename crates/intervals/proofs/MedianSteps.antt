@@ -3,25 +3,25 @@ use mathlib.Core.Path.{◌≡◌, refl, ap, sym, ◌∙◌}
 use mathlib.Core.Bool.{Bool, true, false, ◌&&◌, cond}
 use mathlib.Core.List.{List, [], ◌∷◌, ◌++◌}
 use Prim.Native.Nat.{ℕ, suc, ◌+◌, ◌-◌, ◌<◌, ◌≤◌}
-use native.Mathlib.Numerals.{add-one}
 use native.Mathlib.Omega.{arith}
 use borrow.Author.Rules.{rules}
 use lib.Dec.{ltb, leb}
 use lib.ListN.{length, get_or, take}
-use lib.Seq.{take-suc, take_all}
+use native.Mathlib.Numerals.{add-one}
 use mir.Syntax.{w64}
 use mir.Val.{Fits}
+use lib.Seq.{take-suc, take_all}
 use Rattle.numbers.proofs.Flags.{by_bool}
 use Rattle.intervals.specs.Median.{median_of}
 use Rattle.intervals.specs.Inner.{below, has_index, pick}
 use Rattle.intervals.proofs.Sorted.{picked}
 
--- the loop of below
 pub below-append : (l m : List ℕ) (b : ℕ) → below (l ++ m) b ≡ below l b + below m b
 unfolding below
 below-append [] m b = omega arith
 below-append (x ∷ l) m b = let r = below-append l m b in omega arith
 
+-- the loop of below
 below_one : (x b : ℕ) → below (x ∷ []) b ≡ cond (ltb x b) 1 0
 unfolding below
 below_one x b = omega arith
@@ -66,9 +66,9 @@ module _ (l : List ℕ) (k i : ℕ) {r : ℕ} (e : r ≡ pick l k i (15 - i)) wh
     unfolding pick
     pick-found t = sym (e ∙ rw left (rw (← f, t)))
 
-  pub pick-done : 15 ≤ i → get_or l i 0 ≡ r
+  pub pick-done : i ≤ 15 → 15 ≤ i → get_or l 15 0 ≡ r
   unfolding pick
-  pick-done h = let z : 15 - i ≡ 0 = omega arith in sym (e ∙ rw z)
+  pick-done g h = let p : i ≡ 15 = omega arith in sym (rw p at e)
 
 pub ruleset medians = (
   below-start,

@@ -2,7 +2,7 @@
 -- twice, as it is (`now`) and as the machine reads it back (`n`). Assumes nothing.
 use mathlib.Core.Path.{◌≡◌, refl, sym, ◌∙◌}
 use mathlib.Core.Bool.{Bool, true, false, ◌&&◌}
-use mathlib.Core.List.{List}
+use mathlib.Core.List.{List, [], ◌∷◌}
 use Prim.Native.Nat.{ℕ, ◌+◌, ◌*◌, ◌/◌, ◌%◌, ◌^◌, ◌<◌, ◌≤◌}
 use native.Mathlib.Nat.{div-le_of_le-mul}
 use native.Mathlib.Numerals.{add-one}
@@ -11,57 +11,55 @@ use borrow.Author.Rules.{rules}
 use borrow.Author.Tests.{eq-eqb, ne_eqb, lt-ltb, le-ltb, le-leb, lt-leb}
 use lib.Dec.{ltb}
 use lib.IntN.{ℤ}
-use lib.ListN.{get_or, set, replicate}
+use lib.ListN.{length, get_or, set, replicate}
 use mir.Syntax.{w32}
 use mir.Val.{Fits}
 use Rattle.numbers.specs.Instants.{is_reading, since_time}
-use Rattle.numbers.specs.declared.instant.Moment.{Moment}
-use Rattle.numbers.specs.declared.instant.Moment.TheVariants.{Unset, At}
+use Rattle.std.specs.Prelude.{Option, Some, None}
 use Rattle.numbers.proofs.Flags.{by-test}
 use Rattle.intervals.specs.Median.{median_of}
 use Rattle.intervals.specs.Rates.{next_place, count_after, fresh_arrivals, fresh_links, arrived_first, arrival_of, keeps, take_in, kept_of, rate_of, no_speed, some_speed, speed_kept, speed_of, with_probe, pair_of, link_of, link_rate, capacity_of, place_before, window_of, arrival_sizes, all_under, time_ok, intervals_ok, arrivals_ok, links_ok}
-use Rattle.intervals.specs.Inner.{first_under}
+use Rattle.std.specs.List.{fold}
 use Rattle.intervals.specs.declared.rates.Arrivals.{Arrivals}
 use Rattle.intervals.specs.declared.rates.Links.{Links}
 use Rattle.intervals.specs.declared.rates.Kept.{Kept}
-use Rattle.intervals.specs.declared.rates.Rate.TheVariants.{Unknown, PerSecond}
 use Rattle.intervals.proofs.Windows.{under-place, under-sixteen, interval-ranges, arrival-ranges, kept-count, kept-sum, kept-bytes}
 
 -- the constructors
-pub fresh-arrivals : ◌≡◌ {A = Arrivals} (record { gaps = replicate 16 0; sizes = replicate 16 0; at = 0; count = 0; last = Unset }) fresh_arrivals
+pub fresh-arrivals : ◌≡◌ {A = Arrivals} (record { gaps = replicate 16 0; sizes = replicate 16 0; at = 0; count = 0; last = None }) fresh_arrivals
 unfolding fresh_arrivals
 fresh-arrivals = refl
 
-pub fresh-links : ◌≡◌ {A = Links} (record { gaps = replicate 16 0; at = 0; count = 0; probe = Unset }) fresh_links
+pub fresh-links : ◌≡◌ {A = Links} (record { gaps = replicate 16 0; at = 0; count = 0; probe = None }) fresh_links
 unfolding fresh_links
 fresh-links = refl
 
 -- record of Arrivals
 module _ (a : Arrivals) (now : ℤ) (size : ℕ) where
-  pub arrives-first : {m : Moment} {n : ℤ} → m ≡ a.last → m ≡ Unset → n ≡ now → arrived_first a n ≡ arrival_of a now size
+  pub arrives-first : {m : Option ℤ} {n : ℤ} → m ≡ a.last → m ≡ None → n ≡ now → arrived_first a n ≡ arrival_of a now size
   unfolding arrival_of
   arrives-first e f p = rw (← e, f, p)
 
-  pub arrives : {m : Moment} {t t₁ n n₁ : ℤ} {g count : ℕ}
-      → m ≡ a.last → m ≡ At t → g ≡ since_time n t₁ → n ≡ now → t₁ ≡ t → n₁ ≡ now → count ≡ count_after a.count
-      → ◌≡◌ {A = Arrivals} (record { gaps = set a.gaps a.at g; sizes = set a.sizes a.at size; at = next_place a.at; count = count; last = At n₁ }) (arrival_of a now size)
+  pub arrives : {m : Option ℤ} {t t₁ n n₁ : ℤ} {g count : ℕ}
+      → m ≡ a.last → m ≡ Some t → g ≡ since_time n t₁ → n ≡ now → t₁ ≡ t → n₁ ≡ now → count ≡ count_after a.count
+      → ◌≡◌ {A = Arrivals} (record { gaps = set a.gaps a.at g; sizes = set a.sizes a.at size; at = next_place a.at; count = count; last = Some n₁ }) (arrival_of a now size)
   unfolding arrival_of
   arrives e f g p q p₁ c = rw (← e, f, g, p, q, p₁, c)
 
 -- pair and record of Links
 module _ (l : Links) (now : ℤ) where
-  pub pairs-none : {m : Moment} → m ≡ l.probe → m ≡ Unset → with_probe l Unset ≡ pair_of l now
+  pub pairs-none : {m : Option ℤ} → m ≡ l.probe → m ≡ None → with_probe l None ≡ pair_of l now
   unfolding pair_of
   pairs-none e f = rw (← e, f)
 
-  pub pairs : {m : Moment} {t t₁ n : ℤ} {g count : ℕ}
-      → m ≡ l.probe → m ≡ At t → g ≡ since_time n t₁ → n ≡ now → t₁ ≡ t → count ≡ count_after l.count
-      → ◌≡◌ {A = Links} (record { gaps = set l.gaps l.at g; at = next_place l.at; count = count; probe = Unset }) (pair_of l now)
+  pub pairs : {m : Option ℤ} {t t₁ n : ℤ} {g count : ℕ}
+      → m ≡ l.probe → m ≡ Some t → g ≡ since_time n t₁ → n ≡ now → t₁ ≡ t → count ≡ count_after l.count
+      → ◌≡◌ {A = Links} (record { gaps = set l.gaps l.at g; at = next_place l.at; count = count; probe = None }) (pair_of l now)
   unfolding pair_of
   pairs e f g p q c = rw (← e, f, g, p, q, c)
 
   module _ (number : ℕ) where
-    pub probes : {n : ℤ} → number % 16 ≡ 0 → n ≡ now → with_probe l (At n) ≡ link_of l now number
+    pub probes : {n : ℤ} → number % 16 ≡ 0 → n ≡ now → with_probe l (Some n) ≡ link_of l now number
     unfolding link_of
     probes h p = rw (eq-eqb _ _ h, p)
 
@@ -126,21 +124,20 @@ pub link-some : (m : ℕ) → (m ≡ 0 → ⊥) → 1000000 / m ≡ link_rate m
 unfolding link_rate
 link-some m e = rw (ne_eqb _ _ e)
 
--- the loop of every: its start, a turn, its end
-pub every-start : (b : ℕ) (l : List ℕ) → true ≡ first_under b l 0
-unfolding first_under
-every-start b l = refl
+-- every: a fold over the whole list, from the left
+every-from : (b : ℕ) (l : List ℕ) (ok : Bool) → fold (λ ok x. ok && ltb x b) ok l ≡ (ok && all_under b l)
+unfolding all_under
+every-from b [] true = refl
+every-from b [] false = refl
+every-from b (x ∷ l) true = every-from b l (ltb x b)
+every-from b (x ∷ l) false = every-from b l false
 
-pub every-again : (b : ℕ) (l : List ℕ) (n : ℕ) {ok : Bool} → ok ≡ first_under b l n → (ltb (get_or l n 0) b && ok) ≡ first_under b l (n + 1)
-unfolding first_under
-every-again b l n e = rw (add-one n, e)
-
-pub every-done : (b : ℕ) (l : List ℕ) (n : ℕ) {ok : Bool} → ok ≡ first_under b l n → n ≤ 16 → 16 ≤ n → ok ≡ first_under b l 16
-every-done b l n e h k = let z : n ≡ 16 = omega arith in rw z at e
+pub every-is : (b : ℕ) (l : List ℕ) {ok : Bool} → ok ≡ fold (λ ok x. ok && ltb x b) true l → ok ≡ all_under b l
+every-is b l e = e ∙ every-from b l true
 
 -- all_under
-pub under_all : (b : ℕ) (l : List ℕ) (at count : ℕ) {ok : Bool} → ok ≡ first_under b l 16 → ok ≡ true → true ≡ all_under b (window_of l at count)
-under_all b l at count e t = sym (under-sixteen b l at count (sym e ∙ t))
+pub under_all : (b : ℕ) (l : List ℕ) (at count : ℕ) {ok : Bool} → ok ≡ all_under b l → ok ≡ true → length l ≡ 16 → true ≡ all_under b (window_of l at count)
+under_all b l at count e t k = sym (under-sixteen b l at count k (sym e ∙ t))
 
 -- the loop of window_under: its start, a turn, its end
 pub under-start : (b : ℕ) (l : List ℕ) (at : ℕ) → true ≡ all_under b (window_of l at 0)
@@ -155,7 +152,7 @@ pub under-done : (b : ℕ) (l : List ℕ) (at n count : ℕ) {ok : Bool} → ok 
 under-done b l at n count e h k = let z : n ≡ count = omega arith in rw z at e
 
 -- time_ok
-pub time-test : {m : Moment} {t t₁ : ℤ} {b : Bool} → m ≡ At t → b ≡ is_reading t₁ → t₁ ≡ t → b ≡ time_ok m
+pub time-test : {m : Option ℤ} {t t₁ : ℤ} {b : Bool} → m ≡ Some t → b ≡ is_reading t₁ → t₁ ≡ t → b ≡ time_ok m
 time-test e f p = rw (e, ← p) f
 
 -- speed
@@ -201,11 +198,11 @@ module _ (a : Arrivals) where
 
 -- capacity
 module _ (l : Links) where
-  pub capacity-few : l.count < 16 → Unknown ≡ capacity_of l
+  pub capacity-few : l.count < 16 → None ≡ capacity_of l
   unfolding capacity_of
   capacity-few h = rw (lt-ltb _ _ h)
 
-  pub capacity-some : {m r : ℕ} → 16 ≤ l.count → m ≡ median_of l.gaps 7 → r ≡ link_rate m → PerSecond r ≡ capacity_of l
+  pub capacity-some : {m r : ℕ} → 16 ≤ l.count → m ≡ median_of l.gaps 7 → r ≡ link_rate m → Some r ≡ capacity_of l
   unfolding capacity_of
   capacity-some h e f = rw (le-ltb _ _ h, ← e, f)
 
@@ -262,9 +259,7 @@ pub ruleset rateSteps = (
   rate-is,
   link-none,
   link-some,
-  every-start,
-  every-again,
-  every-done,
+  every-is,
   under_all,
   under-start,
   under-again,

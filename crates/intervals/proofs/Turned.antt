@@ -15,7 +15,7 @@ use Rattle.intervals.specs.Rates.{place_before, window_of, arrival_gaps, arrival
 use Rattle.intervals.specs.declared.rates.Arrivals.{Arrivals}
 use Rattle.intervals.specs.declared.rates.Links.{Links}
 use Rattle.intervals.specs.declared.rates.Kept.{Kept}
-use Rattle.intervals.specs.declared.rates.Rate.TheVariants.{PerSecond}
+use Rattle.std.specs.Prelude.{Some}
 use Rattle.intervals.proofs.Sorted.{index_is, median-has}
 use Rattle.intervals.proofs.MedianSteps.{below-append}
 
@@ -159,7 +159,7 @@ module _ (a : Arrivals) (full : a.count ≡ 16) (h : a.at < 16) (e : length a.ga
       rw (le-ltb _ _ l, m, kept-turned (median_of a.gaps 8))
 
 -- and so is the capacity
-pub capacity-window : (l : Links) → l.count ≡ 16 → l.at < 16 → length l.gaps ≡ 16 → capacity_of l ≡ PerSecond (link_rate (median_of (link_gaps l) 7))
+pub capacity-window : (l : Links) → l.count ≡ 16 → l.at < 16 → length l.gaps ≡ 16 → capacity_of l ≡ Some (link_rate (median_of (link_gaps l) 7))
 unfolding capacity_of
 capacity-window l full h e =
     let k : 16 ≤ l.count = omega arith in

@@ -11,7 +11,6 @@ use lib.ListN.{length, get_or, set, drop, get_or-eq_default}
 use lib.Seq.{get_or-set_same, get_or-set_other, set_out}
 use Rattle.numbers.proofs.Flags.{and_left, and_right, by-test, by-order}
 use Rattle.intervals.specs.Rates.{next_place, count_after, place_before, window_of, arrival_sizes, keeps, take_in, kept_of, all_under, time_ok, intervals_ok, arrivals_ok, links_ok}
-use Rattle.intervals.specs.Inner.{first_under}
 use Rattle.intervals.specs.declared.rates.Arrivals.{Arrivals}
 use Rattle.intervals.specs.declared.rates.Links.{Links}
 use Rattle.intervals.specs.declared.rates.Kept.{Kept}
@@ -91,18 +90,16 @@ under-place b l at i h k e =
     rw p at (under-before b l at 16 n e (omega arith))
 
 -- a window has no other places than the sixteen
-under_first : (b : ℕ) (l : List ℕ) (n i : ℕ) → first_under b l n ≡ true → i < n → ltb (get_or l i 0) b ≡ true
-unfolding first_under
-under_first b l zero i e h = absurd (omega arith)
-under_first b l (suc n) i e h =
-    by-order i n
-    (λ u. under_first b l n i (and_right (ltb (get_or l n 0) b) _ e) u)
-    (λ u. let p : i ≡ n = omega arith in rw p (and_left (ltb (get_or l n 0) b) _ e))
+under_at : (b : ℕ) (l : List ℕ) (i : ℕ) → all_under b l ≡ true → i < length l → ltb (get_or l i 0) b ≡ true
+unfolding all_under
+under_at b [] i e h = absurd (omega arith)
+under_at b (x ∷ l) zero e h = and_left (ltb x b) _ e
+under_at b (x ∷ l) (suc i) e h = under_at b l i (and_right (ltb x b) _ e) (omega arith)
 
-pub under-sixteen : (b : ℕ) (l : List ℕ) (at count : ℕ) → first_under b l 16 ≡ true → all_under b (window_of l at count) ≡ true
+pub under-sixteen : (b : ℕ) (l : List ℕ) (at count : ℕ) → length l ≡ 16 → all_under b l ≡ true → all_under b (window_of l at count) ≡ true
 unfolding window_of all_under
-under-sixteen b l at zero e = refl
-under-sixteen b l at (suc n) e = rw (under_first b l 16 (place_before at (suc n)) e (omega arith)) (under-sixteen b l at n e)
+under-sixteen b l at zero k e = refl
+under-sixteen b l at (suc n) k e = rw (under_at b l (place_before at (suc n)) e (omega arith)) (under-sixteen b l at n k e)
 
 -- the test of a window's intervals, taken apart and put together
 pub record IntervalRanges (gaps : List ℕ) (at count : ℕ) : Type 0 where

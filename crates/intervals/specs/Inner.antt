@@ -1,5 +1,5 @@
 -- For the loops of the code: no rule of 01 of its own.
-use Rattle.std.specs.Prelude.{Bool, true, ◌&&◌, cond, List, [], ◌∷◌, ℕ, zero, suc, ◌+◌, ltb, leb, get_or}
+use Rattle.std.specs.Prelude.{Bool, ◌&&◌, cond, List, [], ◌∷◌, ℕ, zero, suc, ◌+◌, ltb, leb, get_or}
 
 -- how many are below b; the code counts, and does not sort
 unfoldable pub below : List ℕ → ℕ → ℕ
@@ -14,8 +14,3 @@ has_index l k v = leb (below l v) k && ltb k (below l (v + 1))
 unfoldable pub pick : List ℕ → ℕ → ℕ → ℕ → ℕ
 pick l k i zero = get_or l i 0
 pick l k i (suc n) = cond (has_index l k (get_or l i 0)) (get_or l i 0) (pick l k (i + 1) n)
-
--- each of the first n places under a bound, in the window or not: a quick test that suffices for all_under
-unfoldable pub first_under : ℕ → List ℕ → ℕ → Bool
-first_under b l zero = true
-first_under b l (suc n) = ltb (get_or l n 0) b && first_under b l n

@@ -9,15 +9,13 @@ fn one_if(b: bool) -> usize
     if b { 1 } else { 0 }
 }
 
-// How many values are below b.
+// How many values are below b. A chain of `filter` and `count` branches at each value, and takes several times as long.
 fn below(values: [u32; 16], b: u64) -> usize
     ensures { result ≡ below values b }
 {
     let mut n = 0;
-    let mut i = 0;
-    while i < 16 {
+    for i in 0..16 {
         n += one_if((values[i] as u64) < b);
-        i += 1;
     }
     n
 }
@@ -36,13 +34,11 @@ pub fn median(values: [u32; 16], k: usize) -> u32
     requires { k < 16 }
     ensures { result ≡ median_of values k }
 {
-    let mut i = 0;
-    while i < 15 {
+    for i in 0..15 {
         let v = values[i];
         if has_index(values, k, v) {
             return v;
         }
-        i += 1;
     }
-    values[i]
+    values[15]
 }

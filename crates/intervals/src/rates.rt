@@ -1,56 +1,50 @@
 // The two windows of intervals and their rates, arq.rs: 01, "ACKs, RTT, rates". The caller records appends without gap.
 ghost use Rattle.std.specs.Prelude.{◌≡◌, true, ◌*◌, ◌<◌, ◌≤◌, ◌^◌};
 ghost use Rattle.intervals.specs.Rates.{count_after, window_of, fresh_arrivals, fresh_links, arrival_of, keeps, take_in, kept_of, rate_of, speed_of, pair_of, link_of, link_rate, capacity_of, all_under, time_ok, intervals_ok, arrivals_ok, links_ok};
-ghost use Rattle.intervals.specs.Inner.{first_under};
 
-use numbers::instant::{Moment, since};
+use numbers::instant::since;
 
-// Intervals between arrivals, with the sizes of what came; `at` is the next place to be written, `last` the last arrival.
-#[derive(Clone, Copy)]
+// Intervals between arrivals, with the sizes of what came; `at` is the next place to be written, `last` the last
+// arrival. Gaps and sizes lie in two arrays: the packed head has them apart for C, and a few vector instructions test
+// each.
+#[derive(Clone, Copy, PartialEq, Eq, Debug)]
 pub struct Arrivals {
     pub gaps: [u32; 16],
     pub sizes: [u32; 16],
     pub at: usize,
     pub count: usize,
-    pub last: Moment,
+    pub last: Option<i64>,
 }
 
 // Intervals between the packets of a pair.
-#[derive(Clone, Copy)]
+#[derive(Clone, Copy, PartialEq, Eq, Debug)]
 pub struct Links {
     pub gaps: [u32; 16],
     pub at: usize,
     pub count: usize,
-    pub probe: Moment,
+    pub probe: Option<i64>,
 }
 
 // What is left of a window: how many intervals, their sum, and that of their sizes.
-#[derive(Drop)]
+#[derive(Clone, Copy)]
 struct Kept {
     count: u64,
     sum: u64,
     bytes: u64,
 }
 
-// A rate, which may be unknown.
-#[derive(Clone, Copy)]
-pub enum Rate {
-    Unknown,
-    PerSecond(u32),
-}
-
-// What arrives: both rates are known, or neither.
-#[derive(Drop)]
+// What arrives: packets and bytes a second, known together.
+#[derive(Clone, Copy, PartialEq, Eq, Debug)]
 pub struct Speed {
-    pub packets: Rate,
-    pub bytes: Rate,
+    pub packets: u32,
+    pub bytes: u32,
 }
 
 pub fn one_more(count: usize) -> usize
     requires { count ≤ 16 }
     ensures { result ≡ count_after count }
 {
-    if count < 16 { count + 1 } else { 16 }
+    (count + 1).min(16)
 }
 
 fn keeps(ai: u32, i: u32) -> bool
@@ -83,10 +77,9 @@ fn keep(gaps: [u32; 16], sizes: [u32; 16], ai: u32) -> Kept
         sum: 0,
         bytes: 0,
     };
-    let mut i = 0;
-    while i < 16 {
+    // By place: a fold's closure does not know how large the sums are by then, and take_in has to.
+    for i in 0..16 {
         k = take_in(k, ai, gaps[i], sizes[i]);
-        i += 1;
     }
     k
 }
@@ -108,34 +101,28 @@ fn link_rate(median: u32) -> u32
     1_000_000 / median
 }
 
-// Whether all sixteen values are under a bound. No place is reckoned, so that a few vector instructions do it.
+// Whether all sixteen values are under a bound. None ends it early, so that a few vector instructions do it.
 fn every(values: &[u32; 16], bound: u32) -> bool
-    ensures { result ≡ first_under bound values.now 16 }
+    ensures { result ≡ all_under bound values.now }
 {
-    let mut ok = true;
-    let mut i = 0;
-    while i < 16 {
-        ok = (values[i] < bound) & ok;
-        i += 1;
-    }
-    ok
+    values.iter().fold(true, |ok, v| ok & (*v < bound))
 }
 
-// Whether every value of a window is under a bound, place by place.
+// Whether every value of a window is under a bound, place by place. The place is reckoned from the turn, so that no
+// iterator walks a window.
 fn window_under(values: &[u32; 16], at: usize, count: usize, bound: u32) -> bool
     requires { (at < 16) × (count ≤ 16) }
     ensures { result ≡ all_under bound (window_of values.now at count) }
 {
     let mut ok = true;
-    let mut n = 0;
-    while n < count {
-        n += 1;
-        ok = (values[(at + (16 - n)) % 16] < bound) & ok;
+    for n in 0..count {
+        ok = (values[(at + (16 - (n + 1))) % 16] < bound) & ok;
     }
     ok
 }
 
-// Whether every interval, or size, of a window is under a bound. Most often all sixteen are; if not, the window is asked alone.
+// Whether every interval, or size, of a window is under a bound. Most often all sixteen are; if not, the window is
+// asked alone.
 fn all_under(values: [u32; 16], at: usize, count: usize, bound: u32) -> bool
     requires { (at < 16) × (count ≤ 16) }
     ensures { result ≡ all_under bound (window_of values at count) }
@@ -159,13 +146,13 @@ fn intervals_ok(gaps: [u32; 16], at: usize, count: usize) -> bool
     all_under(gaps, at, count, 0x8000_0000)
 }
 
-pub fn time_ok(time: Moment) -> bool
+pub fn time_ok(time: Option<i64>) -> bool
     ensures { result ≡ time_ok time }
 {
-    let Moment::At(t) = time else {
-        return true;
-    };
-    numbers::instant::is_reading(t)
+    match time {
+        Some(t) => numbers::instant::is_reading(t),
+        None => true,
+    }
 }
 
 impl Arrivals {
@@ -177,7 +164,7 @@ impl Arrivals {
             sizes: [0; 16],
             at: 0,
             count: 0,
-            last: Moment::Unset,
+            last: None,
         }
     }
 
@@ -186,18 +173,14 @@ impl Arrivals {
         requires { (self.at < 16) × (self.count ≤ 16) }
         ensures { result ≡ arrival_of self now size }
     {
-        let last = self.last;
-        let mut gaps = self.gaps;
-        let mut sizes = self.sizes;
-        let Moment::At(t) = last else {
+        let Some(t) = self.last else {
             return Arrivals {
-                gaps,
-                sizes,
-                at: self.at,
-                count: self.count,
-                last: Moment::At(now),
+                last: Some(now),
+                ..self
             };
         };
+        let mut gaps = self.gaps;
+        let mut sizes = self.sizes;
         let at = self.at;
         gaps[at] = since(now, t);
         sizes[at] = size;
@@ -206,52 +189,36 @@ impl Arrivals {
             sizes,
             at: (at + 1) % 16,
             count: one_more(self.count),
-            last: Moment::At(now),
+            last: Some(now),
         }
     }
 
     // Packets and bytes a second, by the intervals that are near the median.
-    pub fn speed(self) -> Speed
+    pub fn speed(self) -> Option<Speed>
         requires { arrivals_ok self ≡ true }
         ensures { result ≡ speed_of self }
     {
         if self.count < 16 {
-            return Speed {
-                packets: Rate::Unknown,
-                bytes: Rate::Unknown,
-            };
+            return None;
         }
-        let gaps = self.gaps;
-        let sizes = self.sizes;
-        let ai = crate::median::median(gaps, 8);
-        let k = keep(gaps, sizes, ai);
+        let ai = crate::median::median(self.gaps, 8);
+        let k = keep(self.gaps, self.sizes, ai);
         if k.count <= 8 {
-            return Speed {
-                packets: Rate::Unknown,
-                bytes: Rate::Unknown,
-            };
+            return None;
         }
         let packets = rate_of(k.count, k.sum);
         let bytes = rate_of(k.bytes, k.sum);
-        Speed {
-            packets: Rate::PerSecond(packets),
-            bytes: Rate::PerSecond(bytes),
-        }
+        Some(Speed { packets, bytes })
     }
 
     pub fn in_range(self) -> bool
         ensures { result ≡ arrivals_ok self }
     {
-        let at = self.at;
-        let count = self.count;
-        let gaps = self.gaps;
-        let sizes = self.sizes;
-        let last = self.last;
-        if intervals_ok(gaps, at, count) {} else {
+        if !intervals_ok(self.gaps, self.at, self.count) {
             return false;
         }
-        let lengths = all_under(sizes, at, count, 1457);
-        lengths & time_ok(last)
+        let lengths = all_under(self.sizes, self.at, self.count, 1457);
+        lengths & time_ok(self.last)
     }
 }
 
@@ -263,7 +230,7 @@ impl Links {
             gaps: [0; 16],
             at: 0,
             count: 0,
-            probe: Moment::Unset,
+            probe: None,
         }
     }
 
@@ -272,23 +239,17 @@ impl Links {
         requires { (self.at < 16) × (self.count ≤ 16) }
         ensures { result ≡ pair_of self now }
     {
-        let probe = self.probe;
-        let mut gaps = self.gaps;
-        let Moment::At(t) = probe else {
-            return Links {
-                gaps,
-                at: self.at,
-                count: self.count,
-                probe: Moment::Unset,
-            };
+        let Some(t) = self.probe else {
+            return self;
         };
+        let mut gaps = self.gaps;
         let at = self.at;
         gaps[at] = since(now, t);
         Links {
             gaps,
             at: (at + 1) % 16,
             count: one_more(self.count),
-            probe: Moment::Unset,
+            probe: None,
         }
     }
 
@@ -299,12 +260,9 @@ impl Links {
     {
         let place = number % 16;
         if place == 0 {
-            let gaps = self.gaps;
             return Links {
-                gaps,
-                at: self.at,
-                count: self.count,
-                probe: Moment::At(now),
+                probe: Some(now),
+                ..self
             };
         }
         if place == 1 {
@@ -314,25 +272,19 @@ impl Links {
     }
 
     // Packets a second, by the median interval of the pairs.
-    pub fn capacity(self) -> Rate
+    pub fn capacity(self) -> Option<u32>
         ensures { result ≡ capacity_of self }
     {
         if self.count < 16 {
-            return Rate::Unknown;
+            return None;
         }
-        let gaps = self.gaps;
-        let median = crate::median::median(gaps, 7);
-        Rate::PerSecond(link_rate(median))
+        let median = crate::median::median(self.gaps, 7);
+        Some(link_rate(median))
     }
 
     pub fn in_range(self) -> bool
         ensures { result ≡ links_ok self }
     {
-        let at = self.at;
-        let count = self.count;
-        let gaps = self.gaps;
-        let probe = self.probe;
-        let intervals = intervals_ok(gaps, at, count);
-        intervals & time_ok(probe)
+        intervals_ok(self.gaps, self.at, self.count) & time_ok(self.probe)
     }
 }

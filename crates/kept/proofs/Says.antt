@@ -6,14 +6,17 @@ use lib.Dec.{eqb, ltb}
 use lib.IntN.{ℤ}
 use Rattle.numbers.specs.Circular.{distance, before}
 use Rattle.numbers.specs.Order.{order}
-use Rattle.numbers.specs.declared.seq.Order.{Order}
-use Rattle.numbers.specs.declared.seq.Order.TheVariants.{Before, Equal, After}
+use Rattle.std.specs.Prelude.{Result, Ok, Err}
+use Rattle.std.specs.declared.cmp.Ordering.{Ordering}
+use Rattle.std.specs.declared.cmp.Ordering.TheVariants.{Less, Equal, Greater}
 use Rattle.numbers.proofs.Flags.{by-test}
 use Rattle.slots.specs.Words.{is_lost}
 use Rattle.window.specs.Window.{entry_in, next_of, room_of}
 use Rattle.window.specs.Push.{PushOutcome, append_next_of, append_with_loss_of, recovered_of, recover_of, by_order, push_of}
 use Rattle.window.specs.declared.Window.{Window}
 use Rattle.window.specs.declared.push.Packet.{Packet}
+use Rattle.window.specs.declared.push.Pushed.{Pushed}
+use Rattle.window.specs.declared.push.PushRefusal.{PushRefusal}
 use Rattle.window.specs.declared.push.PushAnswer.{PushAnswer}
 use Rattle.window.specs.declared.push.PushAnswer.TheVariants as pushes
 
@@ -21,14 +24,15 @@ use Rattle.window.specs.declared.push.PushAnswer.TheVariants as pushes
 abbrev pub Says : ℕ → PushAnswer → Type 0
 Says l (pushes.Got lrsn recovered) = lrsn ≡ l
 Says l (pushes.Loss first last) = Unit
-Says l pushes.BufferFull = Unit
-Says l (pushes.PacketTooEarly room need) = Unit
-Says l pushes.PacketTooLate = Unit
-Says l pushes.DiscardedDuplicate = Unit
+
+-- and of a push that is not refused
+abbrev pub PushSays : Result Pushed PushRefusal → Type 0
+PushSays (Ok r) = Says r.window.lrsn r.answer
+PushSays (Err e) = Unit
 
 module _ (w : Window) (ws bs : List ℕ) (time : ℤ) (p : Packet) (payload : List ℕ) where
   abbrev Said : PushOutcome → Type 0
-  Said o = Says o.pushed.window.lrsn o.pushed.answer
+  Said o = PushSays o.pushed
 
   next-says : Said (append_next_of w ws bs time p payload)
   unfolding append_next_of
@@ -49,7 +53,7 @@ module _ (w : Window) (ws bs : List ℕ) (time : ℤ) (p : Packet) (payload : Li
   unfolding push_of
   push-says = go (order 31 p.number (next_of w))
     where
-      go : (o : Order) → Said (by_order w ws bs time p payload o)
+      go : (o : Ordering) → Said (by_order w ws bs time p payload o)
       go Equal = next-says
-      go After = loss-says (distance 31 p.number (next_of w))
-      go Before = recover-says
+      go Greater = loss-says (distance 31 p.number (next_of w))
+      go Less = recover-says

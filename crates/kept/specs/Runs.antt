@@ -1,5 +1,5 @@
 -- Every head that calls reach from new, whatever the arguments and the lent contents: 01, "Refused, in order of test".
-use Rattle.std.specs.Prelude.{◌≡◌, Bool, List, ℕ, ℤ}
+use Rattle.std.specs.Prelude.{◌≡◌, Bool, List, ℕ, ℤ, Ok}
 use Rattle.window.specs.declared.push.Packet.{Packet}
 use Rattle.head.specs.Head.{made_of}
 use Rattle.head.specs.declared.state.Head.{Head}
@@ -12,8 +12,7 @@ use Rattle.feedback.specs.Sync.{clock_call_of}
 
 -- a drop request, room and show return no head
 pub data Reached : Head → Type 0 where
-  made : (start : ℤ) (latency : ℕ) (dropping : Bool) (first capacity : ℕ) → (made_of start latency dropping first capacity).refusal ≡ 0
-      → Reached (made_of start latency dropping first capacity).head
+  made : (start : ℤ) (latency : ℕ) (dropping : Bool) (first capacity : ℕ) {h : Head} → made_of start latency dropping first capacity ≡ Ok h → Reached h
   pushed : (h : Head) (ws bs : List ℕ) (now : ℤ) (p : Packet) (payload : List ℕ) → Reached h → Reached (data_call_of h ws bs now p payload).handled.head
   popped : (h : Head) (ws bs out : List ℕ) (now : ℤ) → Reached h → Reached (pop_call_of h ws bs out now).given.head
   reported : (h : Head) (ws list : List ℕ) (now : ℤ) → Reached h → Reached (report_call_of h ws list now).reported.head

@@ -1,17 +1,21 @@
 -- The receiver, bent: four programs that go wrong where a looser statement would not look. Demand 3 refuses each. docs/RULED_OUT.md lists them. Assumes nothing.
 use mathlib.Core.Path.{◌≡◌, refl, ap, sym, ◌∙◌, subst}
-use mathlib.Core.Bool.{Bool, true, false, cond}
+use mathlib.Core.Bool.{true, false}
 use mathlib.Core.List.{List, [], ◌∷◌}
 use mathlib.Core.Logic.{◌⊎◌, inl, inr}
 use Prim.Native.Nat.{ℕ, ◌<◌, ◌≤◌}
 use native.Mathlib.Omega.{arith}
-use borrow.Author.Tests.{eqb-false, le-leb}
-use lib.Dec.{eqb, leb}
+use lib.Dec.{eqb}
 use lib.IntN.{pos, nat_abs}
-use Rattle.numbers.specs.Circular.{distance, after, before, sum}
+use Rattle.std.specs.Prelude.{Result, Ok, Err}
+use Rattle.numbers.specs.Circular.{distance, after, sum}
 use Rattle.numbers.proofs.Flags.{impossible, by_bool}
+use Rattle.head.proofs.Gates.{err-ok}
 use Rattle.head.specs.Parts.{with_latest}
-use Rattle.head.specs.Rules.{then_of}
+use Rattle.head.specs.Paper.{Line}
+use Rattle.head.specs.Rules as rules
+use Rattle.head.specs.declared.refusal.Refusal.{Refusal}
+use Rattle.head.specs.declared.refusal.Refusal.TheVariants.{HeadBad, AreaShort, ClockRange, ClockBack, BadNumber, PayloadLong, BufferFull, PacketTooEarly, PacketTooLate, DiscardedDuplicate, OutShort, ListShort, FasnWorn, DriftRange, BadSetting}
 use Rattle.receiver.specs.Data.{data_call_of}
 use Rattle.receiver.specs.Data as receiving
 use Rattle.receiver.specs.Paper.{data_line}
@@ -23,7 +27,7 @@ use Rattle.step.specs.declared.Call.TheVariants as calls
 use Rattle.step.specs.declared.Answer.{Answer}
 use Rattle.step.specs.declared.Answer.TheVariants as answers
 use Rattle.views.specs.Lists.{run_of}
-use Rattle.ledger.specs.Seen.{appends, refusal_in}
+use Rattle.ledger.specs.Seen.{appends, refusal_in, refused_in}
 use Rattle.ledger.specs.Ledger.{opened, number_of, next_of, ack_of, enter_data, enter}
 use Rattle.ledger.specs.Runs.{Event, noted, book_after, fresh_desk}
 use Rattle.ledger.specs.Claims.{DataAcks, Judges, Later, Refuses, early_refusal, Demand3}
@@ -40,7 +44,7 @@ abbrev unmoved : State → State
 unmoved s = s
 
 -- the answer to a packet bent, all others as they are
-abbrev pub on_data : (DataAnswer → DataAnswer) → Answer → Answer
+abbrev pub on_data : (Result DataAnswer Refusal → Result DataAnswer Refusal) → Answer → Answer
 on_data f (answers.Data a) = answers.Data (f a)
 on_data f (answers.Pop a) = answers.Pop a
 on_data f (answers.Report a) = answers.Report a
@@ -60,14 +64,13 @@ first_event = record { call = first_call; lent = packet }
 abbrev pub ahead : ℕ → ℕ
 ahead n = sum 31 n 1000
 
-abbrev pub ahead_data : DataAnswer → DataAnswer
-ahead_data (datas.Got lrsn recovered) = datas.Got (ahead lrsn) recovered
-ahead_data (datas.Light lrsn recovered) = datas.Light (ahead lrsn) recovered
-ahead_data (datas.Loss a b) = datas.Loss a b
-ahead_data (datas.Refused n) = datas.Refused n
-ahead_data (datas.PacketTooEarly room need) = datas.PacketTooEarly room need
+abbrev pub ahead_data : Result DataAnswer Refusal → Result DataAnswer Refusal
+ahead_data (Ok (datas.Got lrsn recovered)) = Ok (datas.Got (ahead lrsn) recovered)
+ahead_data (Ok (datas.Light lrsn recovered)) = Ok (datas.Light (ahead lrsn) recovered)
+ahead_data (Ok (datas.Loss a b)) = Ok (datas.Loss a b)
+ahead_data (Err e) = Err e
 
-abbrev one : DataAnswer → ℕ
+abbrev one : Result DataAnswer Refusal → ℕ
 one x = ack_of (enter_data (opened 0) 0 (7 ∷ []) x)
 
 pub acknowledges-past-holes : Demand3 (bent_by (on_data ahead_data) unmoved) → ⊥
@@ -80,14 +83,13 @@ acknowledges-past-holes demand =
     let v = acks-so (bent_by (on_data ahead_data) unmoved) demand 0 small small-fresh [] tt (pos 0) 0 0 3 0 packet (omega arith) (ahead_data x) (ap (on_data ahead_data) w.1) in
     go x m u v
   where
-    go : (x : DataAnswer) → appends x ≡ true → DataAcks (one x) x → DataAcks (one (ahead_data x)) (ahead_data x) → ⊥
-    go (datas.Got lrsn true) m u v = impossible (sym m)
-    go (datas.Got lrsn false) m u v = let z = sym (ap ahead u) ∙ v in omega arith
-    go (datas.Light lrsn true) m u v = impossible (sym m)
-    go (datas.Light lrsn false) m u v = let z = sym (ap ahead u) ∙ v in omega arith
-    go (datas.Loss a b) m u v = impossible (sym m)
-    go (datas.Refused n) m u v = impossible (sym m)
-    go (datas.PacketTooEarly room need) m u v = impossible (sym m)
+    go : (x : Result DataAnswer Refusal) → appends x ≡ true → DataAcks (one x) x → DataAcks (one (ahead_data x)) (ahead_data x) → ⊥
+    go (Ok (datas.Got lrsn true)) m u v = impossible (sym m)
+    go (Ok (datas.Got lrsn false)) m u v = let z = sym (ap ahead u) ∙ v in omega arith
+    go (Ok (datas.Light lrsn true)) m u v = impossible (sym m)
+    go (Ok (datas.Light lrsn false)) m u v = let z = sym (ap ahead u) ∙ v in omega arith
+    go (Ok (datas.Loss a b)) m u v = impossible (sym m)
+    go (Err e) m u v = impossible (sym m)
 
 -- 2. after its first call it has the latest reading that there is, and so refuses with 4 from then on
 abbrev pub far_of : State → State
@@ -105,74 +107,102 @@ takes-one-then-none demand =
     (λ t. let z : pos 1152921504606846975 ≡ pos 0 = k ∙ rw t in absurd (omega (arith, ap nat_abs z)))
     (λ t. let z : pos 1152921504606846975 ≡ pos 0 = k ∙ rw t in absurd (omega (arith, ap nat_abs z)))
 
--- 3. a packet that is late, a duplicate or past a full window is refused by no number: 0, which a C caller reads as taken
-abbrev unsaid : Bool → ℕ → DataAnswer
-unsaid later n = cond later (datas.Refused 0) (datas.Refused n)
+-- 3. a packet that is late, a duplicate or past a full window is refused by no number: 0, which a C caller reads as
+-- taken. The refusals themselves all have a number, so it is the line that says 0
+abbrev unsaid : Refusal → ℕ
+unsaid BufferFull = 0
+unsaid PacketTooLate = 0
+unsaid DiscardedDuplicate = 0
+unsaid e = rules.number_of e
 
-abbrev pub unsaid_data : DataAnswer → DataAnswer
-unsaid_data (datas.Got lrsn recovered) = datas.Got lrsn recovered
-unsaid_data (datas.Light lrsn recovered) = datas.Light lrsn recovered
-unsaid_data (datas.Loss a b) = datas.Loss a b
-unsaid_data (datas.Refused n) = unsaid (leb 7 n) n
-unsaid_data (datas.PacketTooEarly room need) = datas.PacketTooEarly room need
+abbrev pub unsaid_data : Answer → Line → Line
+unsaid_data (answers.Data (Err e)) l = record { word = l.word; refusal = unsaid e; values = l.values; exact = l.exact }
+unsaid_data _ l = l
+
+abbrev pub unsaid_step : State → Lent → Call → Ended
+unsaid_step s t c =
+    let r = step_of s t c in
+    record { answer = r.answer; line = unsaid_data r.answer r.line; state = r.state; output = r.output; list = r.list }
 
 -- a packet just before the first number
 abbrev late_call : Call
 late_call = calls.Data (pos 0) 2147483647 0 3 0
 
-late-tests : early_refusal (fresh_desk small-fresh) packet late_call ≡ 0
-unfolding small-fresh then_of
+late-tests : early_refusal (fresh_desk small-fresh) packet late_call ≡ Ok tt
+unfolding small-fresh
 late-tests = refl
 
-pub refuses-by-no-number : Demand3 (bent_by (on_data unsaid_data) unmoved) → ⊥
+pub refuses-by-no-number : Demand3 unsaid_step → ⊥
 unfolding book_after small-fresh sum distance after
 refuses-by-no-number demand =
     let w = answer-is step_of ledger-theorem 0 small small-fresh [] tt (pos 0) 2147483647 0 3 0 packet (omega arith) in
     let j = told step_of ledger-theorem 0 small small-fresh [] tt (pos 0) 2147483647 0 3 0 packet (omega arith) w.0 w.1 in
     let q = refuses step_of ledger-theorem 0 small small-fresh [] tt (pos 0) 2147483647 0 3 0 packet (omega arith) w.0 w.1 in
-    let v = refuses (bent_by (on_data unsaid_data) unmoved) demand 0 small small-fresh [] tt (pos 0) 2147483647 0 3 0 packet (omega arith) (unsaid_data w.0) (ap (on_data unsaid_data) w.1) in
-    go w.0 j q v
+    let r = step_of small packet late_call in
+    let u = ((ledger-theorem 0 small small-fresh [] tt).told (record { call = late_call; lent = packet }) (omega arith)).line in
+    let v = ((demand 0 small small-fresh [] tt).told (record { call = late_call; lent = packet }) (omega arith)).line in
+    go w.0 r.list j q (subst (λ (x : Answer). unsaid_data x (line_of x r.list) ≡ line_of x r.list) w.1 (ap (unsaid_data r.answer) (sym u) ∙ v))
   where
-    numbered : (n : ℕ) → (n ≡ early_refusal (fresh_desk small-fresh) packet late_call) ⊎ ((early_refusal (fresh_desk small-fresh) packet late_call ≡ 0) × Later late_call n) → 0 < n → 7 ≤ n
-    numbered n (inl e) m = absurd (omega (arith, e, late-tests))
-    numbered n (inr e) m = e.1.0
+    -- a refusal of it is a later one
+    later : (e : Refusal) → Refuses (early_refusal (fresh_desk small-fresh) packet late_call) late_call (answers.Data (Err e)) → (7 ≤ rules.number_of e) × (rules.number_of e ≤ 10)
+    later e q = by_tested q.tested
+      where
+        by_tested : (refused_in (answers.Data (Err e)) ≡ early_refusal (fresh_desk small-fresh) packet late_call) ⊎ ((early_refusal (fresh_desk small-fresh) packet late_call ≡ Ok tt) × Later late_call (refusal_in (answers.Data (Err e))))
+            → (7 ≤ rules.number_of e) × (rules.number_of e ≤ 10)
+        by_tested (inl u) = absurd (err-ok (u ∙ late-tests))
+        by_tested (inr u) = u.1
 
-    go : (x : DataAnswer) → Judges (opened 0) 1 (early_refusal (fresh_desk small-fresh) packet late_call) 2147483647 x
+    wrong_number : (e : Refusal) (list : List ℕ) → unsaid e ≡ 0 → 0 < rules.number_of e → unsaid_data (answers.Data (Err e)) (line_of (answers.Data (Err e)) list) ≡ line_of (answers.Data (Err e)) list → ⊥
+    wrong_number e list z n v = let y : unsaid e ≡ rules.number_of e = ap (λ (l : Line). l.refusal) v in omega arith
+
+    go : (x : Result DataAnswer Refusal) (list : List ℕ) → Judges (opened 0) 1 (early_refusal (fresh_desk small-fresh) packet late_call) 2147483647 x
         → Refuses (early_refusal (fresh_desk small-fresh) packet late_call) late_call (answers.Data x)
-        → Refuses (early_refusal (fresh_desk small-fresh) packet late_call) late_call (answers.Data (unsaid_data x)) → ⊥
-    go (datas.Got lrsn true) j q v = let z = (j.for_lost refl).1 in omega arith
-    go (datas.Got lrsn false) j q v = let z = j.in_order refl in omega arith
-    go (datas.Light lrsn true) j q v = let z = (j.for_lost refl).1 in omega arith
-    go (datas.Light lrsn false) j q v = let z = j.in_order refl in omega arith
-    go (datas.Loss a b) j q v = impossible (sym (j.after_gap refl))
-    go (datas.Refused n) j q v =
-        let m = numbered n q.tested (q.numbered refl) in
-        let t : leb 7 n ≡ true = le-leb 7 n m in
-        let z : Refuses (early_refusal (fresh_desk small-fresh) packet late_call) late_call (answers.Data (datas.Refused 0)) = rw t at v in
-        let y = z.numbered refl in
-        omega arith
-    go (datas.PacketTooEarly room need) j q v = impossible (sym (j.early refl).0)
+        → unsaid_data (answers.Data x) (line_of (answers.Data x) list) ≡ line_of (answers.Data x) list → ⊥
+    go (Ok (datas.Got lrsn true)) list j q v = let z = (j.for_lost refl).1 in omega arith
+    go (Ok (datas.Got lrsn false)) list j q v = let z = j.in_order refl in omega arith
+    go (Ok (datas.Light lrsn true)) list j q v = let z = (j.for_lost refl).1 in omega arith
+    go (Ok (datas.Light lrsn false)) list j q v = let z = j.in_order refl in omega arith
+    go (Ok (datas.Loss a b)) list j q v = impossible (sym (j.after_gap refl))
+    go (Err HeadBad) list j q v = let z = later HeadBad q in omega (arith, z.0, z.1)
+    go (Err AreaShort) list j q v = let z = later AreaShort q in omega (arith, z.0, z.1)
+    go (Err ClockRange) list j q v = let z = later ClockRange q in omega (arith, z.0, z.1)
+    go (Err ClockBack) list j q v = let z = later ClockBack q in omega (arith, z.0, z.1)
+    go (Err BadNumber) list j q v = let z = later BadNumber q in omega (arith, z.0, z.1)
+    go (Err PayloadLong) list j q v = let z = later PayloadLong q in omega (arith, z.0, z.1)
+    go (Err BufferFull) list j q v = wrong_number BufferFull list refl (omega arith) v
+    go (Err (PacketTooEarly room need)) list j q v = impossible (sym (j.early refl).0)
+    go (Err PacketTooLate) list j q v = wrong_number PacketTooLate list refl (omega arith) v
+    go (Err DiscardedDuplicate) list j q v = wrong_number DiscardedDuplicate list refl (omega arith) v
+    go (Err OutShort) list j q v = let z = later OutShort q in omega (arith, z.0, z.1)
+    go (Err ListShort) list j q v = let z = later ListShort q in omega (arith, z.0, z.1)
+    go (Err FasnWorn) list j q v = let z = later FasnWorn q in omega (arith, z.0, z.1)
+    go (Err DriftRange) list j q v = let z = later DriftRange q in omega (arith, z.0, z.1)
+    go (Err BadSetting) list j q v = let z = later BadSetting q in omega (arith, z.0, z.1)
 
 -- 4. a packet past a full window is refused as too early
-abbrev too_early : Bool → ℕ → DataAnswer
-too_early full n = cond full (datas.PacketTooEarly 0 0) (datas.Refused n)
+abbrev pub full_as_early : Result DataAnswer Refusal → Result DataAnswer Refusal
+full_as_early (Err BufferFull) = Err (PacketTooEarly 0 0)
+full_as_early x = x
 
-abbrev pub full_as_early : DataAnswer → DataAnswer
-full_as_early (datas.Got lrsn recovered) = datas.Got lrsn recovered
-full_as_early (datas.Light lrsn recovered) = datas.Light lrsn recovered
-full_as_early (datas.Loss a b) = datas.Loss a b
-full_as_early (datas.Refused n) = too_early (eqb n 7) n
-full_as_early (datas.PacketTooEarly room need) = datas.PacketTooEarly room need
-
-never-seven : (x : DataAnswer) → (data_line (full_as_early x)).refusal ≡ 7 → ⊥
-never-seven (datas.Got lrsn recovered) e = omega arith
-never-seven (datas.Light lrsn recovered) e = omega arith
-never-seven (datas.Loss a b) e = omega arith
-never-seven (datas.Refused n) e =
-    by_bool (eqb n 7)
-    (λ t. let z : 8 ≡ 7 = rw t at e in omega arith)
-    (λ t. let z : n ≡ 7 = rw t at e in eqb-false n 7 t z)
-never-seven (datas.PacketTooEarly room need) e = omega arith
+never-seven : (x : Result DataAnswer Refusal) → (data_line (full_as_early x)).refusal ≡ 7 → ⊥
+never-seven (Ok (datas.Got lrsn recovered)) e = omega arith
+never-seven (Ok (datas.Light lrsn recovered)) e = omega arith
+never-seven (Ok (datas.Loss a b)) e = omega arith
+never-seven (Err HeadBad) e = omega arith
+never-seven (Err AreaShort) e = omega arith
+never-seven (Err ClockRange) e = omega arith
+never-seven (Err ClockBack) e = omega arith
+never-seven (Err BadNumber) e = omega arith
+never-seven (Err PayloadLong) e = omega arith
+never-seven (Err BufferFull) e = omega arith
+never-seven (Err (PacketTooEarly room need)) e = omega arith
+never-seven (Err PacketTooLate) e = omega arith
+never-seven (Err DiscardedDuplicate) e = omega arith
+never-seven (Err OutShort) e = omega arith
+never-seven (Err ListShort) e = omega arith
+never-seven (Err FasnWorn) e = omega arith
+never-seven (Err DriftRange) e = omega arith
+never-seven (Err BadSetting) e = omega arith
 
 abbrev wrong : State → Lent → Call → Ended
 wrong = bent_by (on_data full_as_early) unmoved
@@ -181,19 +211,18 @@ wrong = bent_by (on_data full_as_early) unmoved
 abbrev second_call : Call
 second_call = calls.Data (pos 0) 1 0 3 0
 
-second-tests : (a : Answer) → early_refusal (noted (fresh_desk small-fresh) first_call a) packet second_call ≡ 0
-unfolding small-fresh then_of
+second-tests : (a : Answer) → early_refusal (noted (fresh_desk small-fresh) first_call a) packet second_call ≡ Ok tt
+unfolding small-fresh
 second-tests a = by_bool (eqb (refusal_in a) 0) (λ t. rw t) (λ t. rw t)
 
-second-number : (x : DataAnswer) → appends x ≡ true → 1 ≡ number_of (enter_data (opened 0) 0 (7 ∷ []) x) (next_of (enter_data (opened 0) 0 (7 ∷ []) x))
+second-number : (x : Result DataAnswer Refusal) → appends x ≡ true → 1 ≡ number_of (enter_data (opened 0) 0 (7 ∷ []) x) (next_of (enter_data (opened 0) 0 (7 ∷ []) x))
 unfolding sum
-second-number (datas.Got lrsn true) m = impossible (sym m)
-second-number (datas.Got lrsn false) m = refl
-second-number (datas.Light lrsn true) m = impossible (sym m)
-second-number (datas.Light lrsn false) m = refl
-second-number (datas.Loss a b) m = impossible (sym m)
-second-number (datas.Refused n) m = impossible (sym m)
-second-number (datas.PacketTooEarly room need) m = impossible (sym m)
+second-number (Ok (datas.Got lrsn true)) m = impossible (sym m)
+second-number (Ok (datas.Got lrsn false)) m = refl
+second-number (Ok (datas.Light lrsn true)) m = impossible (sym m)
+second-number (Ok (datas.Light lrsn false)) m = refl
+second-number (Ok (datas.Loss a b)) m = impossible (sym m)
+second-number (Err e) m = impossible (sym m)
 
 pub full-is-too-early : Demand3 wrong → ⊥
 unfolding book_after small-fresh sum
@@ -206,7 +235,7 @@ full-is-too-early demand =
     let x = answer-is wrong demand 0 small small-fresh past (omega arith, tt) (pos 0) 1 0 3 0 packet (omega arith) in
     let q = must-be-full wrong demand 0 small small-fresh past (omega arith, tt) (pos 0) 1 0 3 0 packet (omega arith) e (second-tests (wrong small packet first_call).answer) g in
     let y = (data_call_of (step_of small packet first_call).state.head (step_of small packet first_call).state.slots (step_of small packet first_call).state.payloads (pos 0) (receiving.packet 1 0 3 0) (7 ∷ [])).handled.answer in
-    never-seven y (ap (λ (z : DataAnswer). (data_line z).refusal) (same_answer x.1) ∙ q)
+    never-seven y (ap (λ (z : Result DataAnswer Refusal). (data_line z).refusal) (same_answer x.1) ∙ q)
   where
-    same_answer : {x y : DataAnswer} → answers.Data x ≡ answers.Data y → x ≡ y
+    same_answer : {x y : Result DataAnswer Refusal} → answers.Data x ≡ answers.Data y → x ≡ y
     same_answer e = cc

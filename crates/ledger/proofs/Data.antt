@@ -7,6 +7,7 @@ use native.Mathlib.Nat.{mod-eq_of_lt}
 use native.Mathlib.Omega.{arith}
 use lib.IntN.{ℤ, nat_abs}
 use lib.ListN.{length, length-append, length-replicate, set, replicate}
+use Rattle.std.specs.Prelude.{Result}
 use Rattle.numbers.specs.Circular.{distance, sum}
 use Rattle.numbers.proofs.Circle.{stepped, sum-sum, distance-sum}
 use Rattle.numbers.proofs.Places.{place-turns}
@@ -16,8 +17,9 @@ use Rattle.slots.specs.Words as words
 use Rattle.window.specs.Push.{grown}
 use Rattle.window.specs.declared.Window.{Window}
 use Rattle.window.specs.declared.push.Packet.{Packet}
+use Rattle.head.specs.declared.refusal.Refusal.{Refusal}
 use Rattle.head.specs.declared.state.Head.{Head}
-use Rattle.receiver.specs.Data.{got_answer, data_call_of}
+use Rattle.receiver.specs.Data.{data_call_of}
 use Rattle.receiver.specs.declared.data.DataAnswer.{DataAnswer}
 use Rattle.views.specs.View as views
 use Rattle.views.specs.View.{Seen, entries, LrsnRight, packet_seen}
@@ -26,7 +28,7 @@ use Rattle.ledger.specs.Runs.{place_of}
 use Rattle.ledger.proofs.Places.{map-append, map-set, map-replicate, marked-one}
 use Rattle.ledger.proofs.Owned.{held-append, held-packet, held-gaps, held-marked}
 use Rattle.ledger.proofs.Moved.{Stands, Moved, still, window-count, place-number}
-use Rattle.ledger.proofs.Moves.{Admitted, Said, data-moves}
+use Rattle.ledger.proofs.Moves.{Admitted, got_answer, Said, data-moves}
 
 -- the places before the packet that a gap names: from the next expected to the one before the packet
 gap-named : (a n gap : ℕ) → n ≡ sum 31 a gap → 0 < gap → gap < 2 ^ 31 → distance 31 (sum 31 n (2 ^ 31 - 1)) a + 1 ≡ gap
@@ -129,13 +131,13 @@ module _ (S : ℕ → List ℕ → Type 0) (l : Ledger) (h : Head) (ws bs : List
   beyond d = sym (mod-eq_of_lt d.right.number) ∙ sym (stepped 31 p.number (windows.next_of w))
 
   -- the call, by its answer
-  abbrev pub Kept : Window → List Seen → DataAnswer → Type 0
+  abbrev pub Kept : Window → List Seen → Result DataAnswer Refusal → Type 0
   Kept v fs answer = Moved S l (enter_data l p.number payload answer) v fs []
 
   pub data-stands : Said h ws bs now p payload hs a.right Kept (data_call_of h ws bs now p payload)
   data-stands =
       data-moves h ws bs now p payload hs a.right Kept
-      (λ n q x y. still a)
+      (λ e q x. still a)
       (λ d q c. still a)
       (λ d x y c. still a)
       (λ d q b. still a)

@@ -4,10 +4,11 @@ use mathlib.Core.Bool.{true, false}
 use mathlib.Core.List.{List, [], ◌∷◌}
 use Prim.Native.Nat.{ℕ}
 use lib.IntN.{pos}
+use Rattle.std.specs.Prelude.{Ok, Err}
 use Rattle.numbers.specs.Circular.{distance, equal, after, before, saturating, sum}
 use Rattle.receiver.specs.declared.data.DataAnswer.TheVariants as datas
-use Rattle.receiver.specs.declared.message.MessageAnswer.TheVariants as messages
-use Rattle.upkeep.specs.declared.request.DropAnswer.TheVariants as drops
+use Rattle.head.specs.declared.refusal.Refusal.TheVariants.{DiscardedDuplicate}
+use Rattle.window_pop.specs.declared.pop.PopAnswer.TheVariants as messages
 use Rattle.step.specs.declared.Call.{Call}
 use Rattle.step.specs.declared.Call.TheVariants as calls
 use Rattle.step.specs.declared.Answer.TheVariants as answers
@@ -20,14 +21,14 @@ sent number = calls.Data (pos 0) number 0 3 0
 -- the packets of 01's worked example with the answers that 01 gives, each packet with a byte of its own
 abbrev filled : Ledger
 filled =
-    let a = enter (opened 2147483646) (sent 2147483646) (1 ∷ []) (answers.Data (datas.Got 2147483647 false)) in
-    let b = enter a (sent 0) (2 ∷ []) (answers.Data (datas.Loss 2147483647 2147483647)) in
-    let c = enter b (sent 2147483647) (3 ∷ []) (answers.Data (datas.Got 1 true)) in
-    enter c (sent 0) (4 ∷ []) (answers.Data (datas.Refused 10))
+    let a = enter (opened 2147483646) (sent 2147483646) (1 ∷ []) (answers.Data (Ok (datas.Got 2147483647 false))) in
+    let b = enter a (sent 0) (2 ∷ []) (answers.Data (Ok (datas.Loss 2147483647 2147483647))) in
+    let c = enter b (sent 2147483647) (3 ∷ []) (answers.Data (Ok (datas.Got 1 true))) in
+    enter c (sent 0) (4 ∷ []) (answers.Data (Err DiscardedDuplicate))
 
 -- then the pop of its first message
 abbrev worked : Ledger
-worked = enter filled (calls.Pop (pos 4000)) [] (answers.Pop (messages.Message (pos 0) 1 1))
+worked = enter filled (calls.Pop (pos 4000)) [] (answers.Pop (Ok (messages.Message (pos 0) 1 1)))
 
 pub worked-example : worked ≡ record { first = 2147483646; gone = released (1 ∷ []) ∷ []; held = received (3 ∷ []) ∷ received (2 ∷ []) ∷ [] }
 unfolding sum distance marked
@@ -39,7 +40,7 @@ unfolding sum distance marked
 worked-numbers = (refl, refl)
 
 -- a late drop of the range from 2147483647 to before 1
-pub late-example : enter (record { first = 2147483647; gone = []; held = lost ∷ received (5 ∷ []) ∷ lost ∷ [] }) (calls.Pop (pos 0)) [] (answers.Pop (messages.Late 2147483647 1 (pos 0)))
+pub late-example : enter (record { first = 2147483647; gone = []; held = lost ∷ received (5 ∷ []) ∷ lost ∷ [] }) (calls.Pop (pos 0)) [] (answers.Pop (Ok (messages.Late 2147483647 1 (pos 0))))
     ≡ record { first = 2147483647; gone = discarded ∷ discarded ∷ []; held = lost ∷ [] }
 unfolding distance
 late-example = refl
@@ -49,7 +50,7 @@ abbrev over : List Place → Ledger
 over ps = record { first = 2147483647; gone = []; held = ps }
 
 abbrev dropped : ℕ → ℕ → Ledger
-dropped first last = enter (over (lost ∷ received (5 ∷ []) ∷ lost ∷ [])) (calls.Drop first last) [] (answers.Drop (drops.Gone 0))
+dropped first last = enter (over (lost ∷ received (5 ∷ []) ∷ lost ∷ [])) (calls.Drop first last) [] (answers.Drop (Ok 0))
 
 abbrev front : Ledger
 front = over (given_up ∷ received (5 ∷ []) ∷ lost ∷ [])

@@ -5,13 +5,13 @@ use mathlib.Core.List.{List, [], ◌∷◌, ◌++◌, map}
 use Prim.Native.Nat.{ℕ, zero, suc, ◌+◌, ◌<◌}
 use native.Mathlib.Omega.{arith}
 use lib.ListN.{length, get_or, take, drop, replicate, length-append, length-map, length-replicate}
+use Rattle.std.specs.Prelude.{Result, Ok, Err}
 use Rattle.numbers.specs.Circular.{distance, sum}
+use Rattle.head.specs.declared.refusal.Refusal.{Refusal}
 use Rattle.receiver.specs.declared.data.DataAnswer.{DataAnswer}
 use Rattle.receiver.specs.declared.data.DataAnswer.TheVariants as datas
-use Rattle.receiver.specs.declared.message.MessageAnswer.{MessageAnswer}
-use Rattle.receiver.specs.declared.message.MessageAnswer.TheVariants as messages
-use Rattle.upkeep.specs.declared.request.DropAnswer.{DropAnswer}
-use Rattle.upkeep.specs.declared.request.DropAnswer.TheVariants as drops
+use Rattle.window_pop.specs.declared.pop.PopAnswer.{PopAnswer}
+use Rattle.window_pop.specs.declared.pop.PopAnswer.TheVariants as messages
 use Rattle.step.specs.Step.{State, Lent, Ended}
 use Rattle.step.specs.declared.Call.{Call}
 use Rattle.step.specs.declared.Answer.{Answer}
@@ -30,22 +30,21 @@ kept-fate [] gs p h = absurd (omega arith)
 kept-fate (f ∷ fs) gs zero h = refl
 kept-fate (f ∷ fs) gs (suc p) h = kept-fate fs gs p (omega arith)
 
-pop-settled : (l : Ledger) (a : MessageAnswer) → Stays l (enter_pop l a)
-pop-settled l messages.Nothing p h = refl
-pop-settled l (messages.Message time bytes packets) p h = kept-fate l.gone (map (λ x. released (bytes_of x)) (take packets l.held)) p h
-pop-settled l (messages.Late first end delay) p h = kept-fate l.gone (map (λ x. discarded) (take (distance 31 end first) l.held)) p h
-pop-settled l (messages.Refused n) p h = refl
+pop-settled : (l : Ledger) (a : Result PopAnswer Refusal) → Stays l (enter_pop l a)
+pop-settled l (Ok messages.Nothing) p h = refl
+pop-settled l (Ok (messages.Message time bytes packets)) p h = kept-fate l.gone (map (λ x. released (bytes_of x)) (take packets l.held)) p h
+pop-settled l (Ok (messages.Late first end delay)) p h = kept-fate l.gone (map (λ x. discarded) (take (distance 31 end first) l.held)) p h
+pop-settled l (Err e) p h = refl
 
-data-settled : (l : Ledger) (number : ℕ) (bytes : List ℕ) (a : DataAnswer) → Stays l (enter_data l number bytes a)
-data-settled l number bytes (datas.Got lrsn recovered) p h = refl
-data-settled l number bytes (datas.Light lrsn recovered) p h = refl
-data-settled l number bytes (datas.Loss x y) p h = refl
-data-settled l number bytes (datas.Refused n) p h = refl
-data-settled l number bytes (datas.PacketTooEarly room need) p h = refl
+data-settled : (l : Ledger) (number : ℕ) (bytes : List ℕ) (a : Result DataAnswer Refusal) → Stays l (enter_data l number bytes a)
+data-settled l number bytes (Ok (datas.Got lrsn recovered)) p h = refl
+data-settled l number bytes (Ok (datas.Light lrsn recovered)) p h = refl
+data-settled l number bytes (Ok (datas.Loss x y)) p h = refl
+data-settled l number bytes (Err e) p h = refl
 
-drop-settled : (l : Ledger) (first last : ℕ) (a : DropAnswer) → Stays l (enter_drop l first last a)
-drop-settled l first last (drops.Gone n) p h = refl
-drop-settled l first last (drops.Refused n) p h = refl
+drop-settled : (l : Ledger) (first last : ℕ) (a : Result ℕ Refusal) → Stays l (enter_drop l first last a)
+drop-settled l first last (Ok n) p h = refl
+drop-settled l first last (Err e) p h = refl
 
 pub settled : (l : Ledger) (c : Call) (bytes : List ℕ) (a : Answer) → Stays l (enter l c bytes a)
 settled l c bytes (answers.Data a) p h = data-settled l (number_in c) bytes a p h
@@ -74,22 +73,21 @@ in_two (suc n) [] = omega arith
 in_two (suc n) (x ∷ xs) = let r = in_two n xs in omega arith
 
 took-all : (l : Ledger) (number : ℕ) (bytes : List ℕ) (recovered : Bool) (lrsn : ℕ)
-    → next_of (enter_data l number bytes (datas.Got lrsn recovered)) ≡ next_of l + data_places (datas.Got lrsn recovered)
+    → next_of (enter_data l number bytes (Ok (datas.Got lrsn recovered))) ≡ next_of l + data_places (Ok (datas.Got lrsn recovered))
 took-all l number bytes true lrsn = let n = length_marked l.first (front_of l) number bytes l.held in omega arith
 took-all l number bytes false lrsn = let n = length-append l.held (received bytes ∷ []) in omega arith
 
-data-all : (l : Ledger) (number : ℕ) (bytes : List ℕ) (a : DataAnswer) → next_of (enter_data l number bytes a) ≡ next_of l + data_places a
-data-all l number bytes (datas.Got lrsn true) = took-all l number bytes true lrsn
-data-all l number bytes (datas.Got lrsn false) = took-all l number bytes false lrsn
-data-all l number bytes (datas.Light lrsn true) = took-all l number bytes true lrsn
-data-all l number bytes (datas.Light lrsn false) = took-all l number bytes false lrsn
-data-all l number bytes (datas.Loss a b) =
+data-all : (l : Ledger) (number : ℕ) (bytes : List ℕ) (a : Result DataAnswer Refusal) → next_of (enter_data l number bytes a) ≡ next_of l + data_places a
+data-all l number bytes (Ok (datas.Got lrsn true)) = took-all l number bytes true lrsn
+data-all l number bytes (Ok (datas.Got lrsn false)) = took-all l number bytes false lrsn
+data-all l number bytes (Ok (datas.Light lrsn true)) = took-all l number bytes true lrsn
+data-all l number bytes (Ok (datas.Light lrsn false)) = took-all l number bytes false lrsn
+data-all l number bytes (Ok (datas.Loss a b)) =
     let n = length-append (l.held ++ replicate (distance 31 b a + 1) lost) (received bytes ∷ []) in
     let m = length-append l.held (replicate (distance 31 b a + 1) lost) in
     let k = length-replicate (distance 31 b a + 1) lost in
     omega arith
-data-all l number bytes (datas.Refused n) = omega arith
-data-all l number bytes (datas.PacketTooEarly room need) = omega arith
+data-all l number bytes (Err e) = omega arith
 
 leave-all : (l : Ledger) (n : ℕ) (f : Place → Fate) → next_of (leave l n f) ≡ next_of l + 0
 leave-all l n f =
@@ -98,15 +96,15 @@ leave-all l n f =
     let r = in_two n l.held in
     omega arith
 
-pop-all : (l : Ledger) (a : MessageAnswer) → next_of (enter_pop l a) ≡ next_of l + 0
-pop-all l messages.Nothing = omega arith
-pop-all l (messages.Message time bytes packets) = leave-all l packets (λ x. released (bytes_of x))
-pop-all l (messages.Late first end delay) = leave-all l (distance 31 end first) (λ x. discarded)
-pop-all l (messages.Refused n) = omega arith
+pop-all : (l : Ledger) (a : Result PopAnswer Refusal) → next_of (enter_pop l a) ≡ next_of l + 0
+pop-all l (Ok messages.Nothing) = omega arith
+pop-all l (Ok (messages.Message time bytes packets)) = leave-all l packets (λ x. released (bytes_of x))
+pop-all l (Ok (messages.Late first end delay)) = leave-all l (distance 31 end first) (λ x. discarded)
+pop-all l (Err e) = omega arith
 
-drop_all : (l : Ledger) (first last : ℕ) (a : DropAnswer) → next_of (enter_drop l first last a) ≡ next_of l + 0
-drop_all l first last (drops.Gone n) = let m = length-changed gave_up (end_in l first) (end_in l (sum 31 last 1)) 0 l.held in omega arith
-drop_all l first last (drops.Refused n) = omega arith
+drop_all : (l : Ledger) (first last : ℕ) (a : Result ℕ Refusal) → next_of (enter_drop l first last a) ≡ next_of l + 0
+drop_all l first last (Ok n) = let m = length-changed gave_up (end_in l first) (end_in l (sum 31 last 1)) 0 l.held in omega arith
+drop_all l first last (Err e) = omega arith
 
 enter-all : (l : Ledger) (c : Call) (bytes : List ℕ) (a : Answer) → next_of (enter l c bytes a) ≡ next_of l + places_in a
 enter-all l c bytes (answers.Data a) = data-all l (number_in c) bytes a

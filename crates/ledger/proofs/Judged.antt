@@ -9,6 +9,7 @@ use borrow.Author.Tests.{ltb-true}
 use lib.Dec.{ltb}
 use lib.IntN.{ℤ}
 use lib.ListN.{length, get_or, set}
+use Rattle.std.specs.Prelude.{Result, Ok, Err}
 use Rattle.numbers.specs.Circular.{distance, equal, before, after, sum}
 use Rattle.numbers.proofs.Flags.{impossible, and_left}
 use Rattle.numbers.proofs.Circle.{stepped, around, before-not, after-at, sum-sum, distance-sum, distance_self}
@@ -22,10 +23,14 @@ use Rattle.window.specs.Ready.{Good}
 use Rattle.window.specs.Push.{grown}
 use Rattle.window.specs.declared.Window.{Window}
 use Rattle.window.specs.declared.push.Packet.{Packet}
+use Rattle.head.specs.Rules as rules
 use Rattle.head.specs.Rules.{first_refusal, push_rules}
 use Rattle.head.specs.Head.{head_ok}
 use Rattle.head.specs.declared.state.Head.{Head}
-use Rattle.receiver.specs.Data.{got_answer, data_call_of}
+use Rattle.head.specs.declared.refusal.Refusal.{Refusal}
+use Rattle.head.specs.declared.refusal.Refusal.TheVariants as refusals
+use Rattle.head.proofs.Gates.{err-ok}
+use Rattle.receiver.specs.Data.{data_call_of}
 use Rattle.receiver.specs.Paper.{data_line}
 use Rattle.receiver.specs.declared.data.DataAnswer.{DataAnswer}
 use Rattle.receiver.specs.declared.data.DataAnswer.TheVariants as datas
@@ -37,7 +42,7 @@ use Rattle.ledger.specs.Runs.{place_of}
 use Rattle.ledger.specs.Seen.{appends, recovers, is_loss, LossIs, EarlyIs}
 use Rattle.ledger.specs.Claims.{Judges}
 use Rattle.ledger.proofs.Moved.{Stands, window-count, place-number}
-use Rattle.ledger.proofs.Moves.{Admitted, Said, data-moves}
+use Rattle.ledger.proofs.Moves.{Admitted, number-some, got_answer, Said, data-moves}
 
 get_d_map : {A B : Type 0} (f : A → B) (xs : List A) (i : ℕ) (d : A) → get_or (map f xs) i (f d) ≡ f (get_or xs i d)
 get_d_map f [] i d = refl
@@ -145,15 +150,16 @@ module _ (S : ℕ → List ℕ → Type 0) (l : Ledger) (h : Head) (ws bs : List
       sym (mod-eq_of_lt d.right.number) ∙ sym (stepped 31 p.number (windows.next_of w)) ∙ sum-sum 31 w.seqno0 w.held m in
       ap (λ (y : ℕ). distance 31 y w.seqno0) is ∙ distance-sum 31 w.seqno0 {n = w.held + m} (omega (arith, gap-room d x))
 
-  abbrev tests : ℕ
+  abbrev tests : Result Unit Refusal
   tests = first_refusal (push_rules (head_ok h) w.capacity (length ws) (length bs) time h.latest p (length payload))
 
-  abbrev Judged : DataAnswer → Type 0
+  abbrev Judged : Result DataAnswer Refusal → Type 0
   Judged x = Judges l w.capacity tests p.number x
 
   -- what each kind of answer says
-  refused : (n : ℕ) → n ≡ tests → 1 ≤ n → n ≤ 6 → Judged (datas.Refused n)
-  refused n t some most =
+  refused : (e : Refusal) → tests ≡ Err e → rules.number_of e ≤ 6 → Judged (Err e)
+  refused r t most =
+      let some = number-some r in
       record {
         in_order = λ e. impossible (sym e);
         for_lost = λ e. impossible (sym e);
@@ -166,12 +172,12 @@ module _ (S : ℕ → List ℕ → Type 0) (l : Ledger) (h : Head) (ws bs : List
         late = λ e. absurd (omega arith);
         unplaced = λ b c i k e. omega arith;
         duplicate = λ e. absurd (omega arith);
-        taken = λ z i k e q. absurd (omega (arith, t, z));
-        next = λ z e r. absurd (omega (arith, t, z));
-        gap = λ z e r. absurd (omega (arith, t, z));
+        taken = λ z i k e q. absurd (err-ok (sym t ∙ z));
+        next = λ z e r. absurd (err-ok (sym t ∙ z));
+        gap = λ z e r. absurd (err-ok (sym t ∙ z));
       }
 
-  full : Admitted h ws bs time p payload → p.number ≡ windows.next_of w → w.held ≡ w.capacity → Judged (datas.Refused 7)
+  full : Admitted h ws bs time p payload → p.number ≡ windows.next_of w → w.held ≡ w.capacity → Judged (Err refusals.BufferFull)
   full d q c =
       record {
         in_order = λ e. impossible (sym e);
@@ -191,7 +197,7 @@ module _ (S : ℕ → List ℕ → Type 0) (l : Ledger) (h : Head) (ws bs : List
       }
 
   early : Admitted h ws bs time p payload → 0 < distance 31 p.number (windows.next_of w) → distance 31 p.number (windows.next_of w) < 2 ^ 30
-      → room_of w < distance 31 p.number (windows.next_of w) + 1 → Judged (datas.PacketTooEarly (room_of w) (distance 31 p.number (windows.next_of w) + 1))
+      → room_of w < distance 31 p.number (windows.next_of w) + 1 → Judged (Err (refusals.PacketTooEarly (room_of w) (distance 31 p.number (windows.next_of w) + 1)))
   early d some under r =
       let n = ap (distance 31 p.number) next-is in
       record {
@@ -201,7 +207,10 @@ module _ (S : ℕ → List ℕ → Type 0) (l : Ledger) (h : Head) (ws bs : List
         gap_named = tt;
         full = λ e. absurd (omega arith);
         early = λ e. (ap (after 31 p.number) (sym next-is) ∙ after-at 31 p.number (windows.next_of w) some under, omega (arith, window-count ws bs a, n, r));
-        room = (ap (λ (x : ℕ). w.capacity - x) (window-count ws bs a), ap (λ (x : ℕ). x + 1) n);
+        room =
+            λ e.
+            ap (λ (x : ℕ). refusals.PacketTooEarly (w.capacity - x) (distance 31 p.number (windows.next_of w) + 1)) (window-count ws bs a)
+            ∙ ap (λ (x : ℕ). refusals.PacketTooEarly (w.capacity - length l.held) (x + 1)) n;
         took = λ e. absurd (omega arith);
         unplaced = λ b m. not-far d.good under;
         duplicate = λ e. absurd (omega arith);
@@ -211,7 +220,7 @@ module _ (S : ℕ → List ℕ → Type 0) (l : Ledger) (h : Head) (ws bs : List
         gap = λ z e x. absurd (omega (arith, window-count ws bs a, n, r, x, d.good.ranges.holds));
       }
 
-  late : Admitted h ws bs time p payload → before 31 p.number (windows.next_of w) ≡ true → before 31 p.number w.seqno0 ≡ true → Judged (datas.Refused 9)
+  late : Admitted h ws bs time p payload → before 31 p.number (windows.next_of w) ≡ true → before 31 p.number w.seqno0 ≡ true → Judged (Err refusals.PacketTooLate)
   late d q b =
       record {
         in_order = λ e. impossible (sym e);
@@ -233,7 +242,7 @@ module _ (S : ℕ → List ℕ → Type 0) (l : Ledger) (h : Head) (ws bs : List
             impossible (sym b ∙ before-not 31 p.number w.seqno0 (omega (arith, d.good.ranges.most, gap-room d x)));
       }
 
-  twice : Admitted h ws bs time p payload → at < w.held → words.is_lost (entry_in w ws at) ≡ false → Judged (datas.Refused 10)
+  twice : Admitted h ws bs time p payload → at < w.held → words.is_lost (entry_in w ws at) ≡ false → Judged (Err refusals.DiscardedDuplicate)
   twice d i n =
       record {
         in_order = λ e. impossible (sym e);
@@ -258,7 +267,7 @@ module _ (S : ℕ → List ℕ → Type 0) (l : Ledger) (h : Head) (ws bs : List
       }
 
   -- one that is taken
-  took : (x : DataAnswer) → (data_line x).refusal ≡ 0 → Admitted h ws bs time p payload
+  took : (x : Result DataAnswer Refusal) → (data_line x).refusal ≡ 0 → Admitted h ws bs time p payload
       → (appends x ≡ true → p.number ≡ number_of l (next_of l))
       → (recovers x ≡ true → (i : ℕ) × (i < length l.held) × (number_of l (front_of l + i) ≡ p.number) × (get_or l.held i given_up ≡ lost))
       → (is_loss x ≡ true → after 31 p.number (number_of l (next_of l)) ≡ true)
@@ -287,13 +296,13 @@ module _ (S : ℕ → List ℕ → Type 0) (l : Ledger) (h : Head) (ws bs : List
       }
 
   -- an append without gap and a recovery, with a light ACK or without
-  abbrev Named : DataAnswer → Type 0
+  abbrev Named : Result DataAnswer Refusal → Type 0
   Named x = LossIs x (number_of l (next_of l)) (sum 31 p.number (2 ^ 31 - 1))
 
-  abbrev Roomed : DataAnswer → Type 0
+  abbrev Roomed : Result DataAnswer Refusal → Type 0
   Roomed x = EarlyIs x (w.capacity - length l.held) (distance 31 p.number (number_of l (next_of l)) + 1)
 
-  appended : (x : DataAnswer) → (data_line x).refusal ≡ 0 → recovers x ≡ false → is_loss x ≡ false → appends x ≡ true → Named x → Roomed x → (appends x || recovers x || is_loss x) ≡ true
+  appended : (x : Result DataAnswer Refusal) → (data_line x).refusal ≡ 0 → recovers x ≡ false → is_loss x ≡ false → appends x ≡ true → Named x → Roomed x → (appends x || recovers x || is_loss x) ≡ true
       → Admitted h ws bs time p payload → p.number ≡ windows.next_of w → Judged x
   appended x z v g f n rm tk d q =
       took x z d
@@ -306,7 +315,7 @@ module _ (S : ℕ → List ℕ → Type 0) (l : Ledger) (h : Head) (ws bs : List
       (λ e m. absurd (let y = beyond-next e in let x = none-missing (q ∙ next-is) in omega arith))
       rm tk
 
-  filled : (x : DataAnswer) → (data_line x).refusal ≡ 0 → appends x ≡ false → is_loss x ≡ false → recovers x ≡ true → Named x → Roomed x → (appends x || recovers x || is_loss x) ≡ true
+  filled : (x : Result DataAnswer Refusal) → (data_line x).refusal ≡ 0 → appends x ≡ false → is_loss x ≡ false → recovers x ≡ true → Named x → Roomed x → (appends x || recovers x || is_loss x) ≡ true
       → Admitted h ws bs time p payload → at < w.held → words.is_lost (entry_in w ws at) ≡ true → Judged x
   filled x z o g v n rm tk d i m =
       took x z d
@@ -329,7 +338,7 @@ module _ (S : ℕ → List ℕ → Type 0) (l : Ledger) (h : Head) (ws bs : List
       twice
       next
       (λ d some room r.
-      took (datas.Loss (windows.next_of w) (sum 31 p.number (2 ^ 31 - 1))) refl d
+      took (Ok (datas.Loss (windows.next_of w) (sum 31 p.number (2 ^ 31 - 1)))) refl d
       (λ e. impossible (sym e))
       (λ e. impossible (sym e))
       (λ e. ap (after 31 p.number) (sym next-is) ∙ after-at 31 p.number (windows.next_of w) some (omega (arith, d.good.ranges.most)))
@@ -341,10 +350,10 @@ module _ (S : ℕ → List ℕ → Type 0) (l : Ledger) (h : Head) (ws bs : List
       recovered
     where
       next : Admitted h ws bs time p payload → (light : Bool) (lrsn : ℕ) → p.number ≡ windows.next_of w → LrsnRight (grown w p 1) (es ++ (packet_seen p payload ∷ [])) → Judged (got_answer light lrsn false)
-      next d true lrsn q r = appended (datas.Light lrsn false) refl refl refl refl tt tt refl d q
-      next d false lrsn q r = appended (datas.Got lrsn false) refl refl refl refl tt tt refl d q
+      next d true lrsn q r = appended (Ok (datas.Light lrsn false)) refl refl refl refl tt tt refl d q
+      next d false lrsn q r = appended (Ok (datas.Got lrsn false)) refl refl refl refl tt tt refl d q
 
       recovered : Admitted h ws bs time p payload → (light : Bool) (lrsn : ℕ) → at < w.held → words.is_lost (entry_in w ws at) ≡ true
           → LrsnRight (with_lrsn w lrsn) (set es at (packet_seen p payload)) → Judged (got_answer light lrsn true)
-      recovered d true lrsn i n r = filled (datas.Light lrsn true) refl refl refl refl tt tt refl d i n
-      recovered d false lrsn i n r = filled (datas.Got lrsn true) refl refl refl refl tt tt refl d i n
+      recovered d true lrsn i n r = filled (Ok (datas.Light lrsn true)) refl refl refl refl tt tt refl d i n
+      recovered d false lrsn i n r = filled (Ok (datas.Got lrsn true)) refl refl refl refl tt tt refl d i n

@@ -1,6 +1,6 @@
 -- What the station knows stays so: no call moves the capacity or the length of an area, and the latest reading is that of the last call that was not refused.
 -- And the acknowledgement number that an answer tells is the head's. Assumes nothing.
-use mathlib.Core.Path.{◌≡◌, refl, ap, ◌∙◌}
+use mathlib.Core.Path.{◌≡◌, refl, ap, sym, ◌∙◌}
 use mathlib.Core.Bool.{Bool, true, false, cond}
 use mathlib.Core.List.{List, []}
 use Prim.Native.Nat.{ℕ, ◌+◌, ◌-◌, ◌*◌, ◌^◌, ◌<◌}
@@ -9,17 +9,18 @@ use borrow.Author.Tests.{ne_eqb, eqb-false, ltb-true, ltb-false}
 use lib.Dec.{eqb, ltb, lit≤}
 use lib.IntN.{ℤ}
 use lib.ListN.{length}
+use Rattle.std.specs.Prelude.{Option, Some, None, Result, Ok, Err}
 use Rattle.numbers.proofs.Flags.{by_bool, by-test}
 use Rattle.numbers.specs.Circular.{distance}
 use Rattle.acks.specs.History.{ack2_of, full_ack_of, light_ack_of}
 use Rattle.acks.specs.declared.history.History.{History}
-use Rattle.acks.specs.declared.history.AckAnswer.{AckAnswer}
-use Rattle.acks.specs.declared.history.AckAnswer.TheVariants as acks
-use Rattle.acks.specs.declared.history.Ack2Answer.{Ack2Answer}
-use Rattle.acks.specs.declared.history.Ack2Answer.TheVariants as acks2
+use Rattle.acks.specs.declared.history.Acked as given
+use Rattle.acks.specs.declared.history.FasnWorn.{FasnWorn}
+use Rattle.acks.specs.declared.history.Answered.{Answered}
 use Rattle.acks.proofs.HistoryKept.{full-ack-length}
 use Rattle.clock.specs.Sync.{synchronized}
-use Rattle.clock.specs.declared.time.SynchronizedRemoteClock.{SynchronizedRemoteClock}
+use Rattle.clock.specs.declared.base.DriftRange.{DriftRange}
+use Rattle.clock.specs.declared.time.Step.{Step}
 use Rattle.clock.specs.declared.time.Synchronized.{Synchronized}
 use Rattle.clock.specs.declared.time.Synchronized.TheVariants as clocks
 use Rattle.slots.proofs.Laws.{length-write, length-payload, slot_lt}
@@ -28,27 +29,31 @@ use Rattle.window.specs.Window.{slot_in, next_of, room_of}
 use Rattle.window.specs.Push.{PushOutcome, recovered_of, push_of}
 use Rattle.window.specs.declared.Window.{Window}
 use Rattle.window.specs.declared.push.Packet.{Packet}
+use Rattle.window.specs.declared.push.Pushed.{Pushed}
+use Rattle.window.specs.declared.push.PushRefusal.{PushRefusal}
 use Rattle.window.specs.declared.push.PushAnswer.{PushAnswer}
 use Rattle.window.specs.declared.push.PushAnswer.TheVariants as pushes
 use Rattle.window.proofs.Pushes.{length-lost}
 use Rattle.window_pop.specs.Pop.{PopOutcome, discard_front, pop_of}
+use Rattle.window_pop.specs.declared.pop.Popped.{Popped}
+use Rattle.window_pop.specs.declared.pop.OutShort.{OutShort}
 use Rattle.window_pop.specs.declared.pop.PopAnswer.{PopAnswer}
 use Rattle.window_pop.specs.declared.pop.PopAnswer.TheVariants as pops
 use Rattle.window_pop.proofs.PopLaws.{pop-cases, pop-length}
 use Rattle.window_report.specs.Drop.{drop_from, drop_to, drop_of}
 use Rattle.window_report.specs.Report.{ReportOutcome, needed, report_of}
-use Rattle.window_report.specs.declared.report.ReportAnswer.{ReportAnswer}
-use Rattle.window_report.specs.declared.report.ReportAnswer.TheVariants as reports
+use Rattle.window_report.specs.declared.report.ListShort.{ListShort}
 use Rattle.window_report.proofs.ReportLaws.{by-outcome, length-slots, list-keeps, needed-held}
 use Rattle.window_report.proofs.DropLaws.{sweep-long}
-use Rattle.head.specs.Rules.{first_refusal, push_rules, pop_rules, timed_rules, drop_rules, clock_rules}
+use Rattle.head.specs.Rules.{number_of, push_refused, first_refusal, push_rules, pop_rules, timed_rules, drop_rules, clock_rules}
 use Rattle.head.specs.Head.{head_ok}
 use Rattle.head.specs.declared.state.Head.{Head}
 use Rattle.head.specs.Parts.{with_latest}
-use Rattle.feedback.specs.declared.acking.FullAckAnswer.TheVariants as answered
+use Rattle.head.specs.declared.refusal.Refusal.{Refusal}
+use Rattle.head.proofs.Gates.{by-refusal}
 use Rattle.head.proofs.Ready.{push-ready, pop-ready}
 use Rattle.receiver.specs.Data as receiving
-use Rattle.receiver.specs.Data.{DataOutcome, packet, got_answer, acked_of, got_of, taken_of, data_call_of}
+use Rattle.receiver.specs.Data.{DataOutcome, packet, light_or_got, acked_of, got_of, taken_of, data_call_of}
 use Rattle.receiver.specs.Paper.{data_line, message_line}
 use Rattle.receiver.specs.Message as message
 use Rattle.receiver.specs.Message.{MessageOutcome, pop_call_of}
@@ -59,7 +64,7 @@ use Rattle.feedback.specs.Sync.{ClockOutcome, after_sync, sync_of, clock_call_of
 use Rattle.upkeep.specs.Request.{DropOutcome, drop_call_of}
 use Rattle.upkeep.specs.Paper.{drop_line}
 use Rattle.paper.proofs.Reach.{refusal-under}
-use Rattle.kept.proofs.Says.{Says, push-says}
+use Rattle.kept.proofs.Says.{Says, PushSays, push-says}
 use Rattle.step.specs.Step.{State, Lent, line_of, step_of}
 use Rattle.step.specs.declared.Call.{Call}
 use Rattle.step.specs.declared.Call.TheVariants as calls
@@ -68,7 +73,7 @@ use Rattle.views.specs.View.{entries, LrsnRight}
 use Rattle.ledger.specs.Seen.{NotClear, reading_in, refusal_in}
 use Rattle.ledger.specs.Runs.{Desk, noted, Known}
 use Rattle.ledger.specs.Claims.{Reports, DataAcks, FullAcks, Acks}
-use Rattle.ledger.proofs.Moves.{by-refusal, push-cases, data-moves}
+use Rattle.ledger.proofs.Moves.{number-some, push-cases, data-moves}
 
 -- the settings that a head has beside its capacity
 abbrev Settings : Head → Head → Type 0
@@ -87,8 +92,8 @@ pub record Same (s s₁ : State) (c : Call) (a : Answer) : Type 0 where
 abbrev by_number : ℕ → ℤ → ℤ → ℤ
 by_number n now latest = cond (eqb n 0) now latest
 
-refused-latest : (n : ℕ) (now latest : ℤ) → (n ≡ 0 → ⊥) → latest ≡ by_number n now latest
-refused-latest n now latest h = rw (ne_eqb n 0 h)
+refused-latest : (e : Refusal) (now latest : ℤ) → latest ≡ by_number (number_of e) now latest
+refused-latest e now latest = let z : number_of e ≡ 0 → ⊥ = λ q. omega (arith, q, number-some e) in rw (ne_eqb (number_of e) 0 z)
 
 module _ (h : Head) (ws bs : List ℕ) where
   abbrev w : Window
@@ -96,13 +101,13 @@ module _ (h : Head) (ws bs : List ℕ) where
 
   -- a data packet
   module _ (now : ℤ) (p : Packet) (payload : List ℕ) where
-    abbrev tests : ℕ
+    abbrev tests : Result Unit Refusal
     tests = first_refusal (push_rules (head_ok h) w.capacity (length ws) (length bs) now h.latest p (length payload))
 
     pub data-capacity : p.stamp < 2 ^ 32 → LrsnRight w (entries w ws bs) → (data_call_of h ws bs now p payload).handled.head.window.capacity ≡ w.capacity
     data-capacity hs r =
         data-moves h ws bs now p payload hs r (λ v fs x. v.capacity ≡ w.capacity)
-        (λ n t a b. refl) (λ d q c. refl) (λ d a b c. refl) (λ d q b. refl) (λ d i n. refl) (λ d light lrsn q z. refl) (λ d a b z. refl) (λ d light lrsn i n z. refl)
+        (λ e t a. refl) (λ d q c. refl) (λ d a b c. refl) (λ d q b. refl) (λ d i n. refl) (λ d light lrsn q z. refl) (λ d a b z. refl) (λ d light lrsn i n z. refl)
 
     abbrev Long : DataOutcome → Type 0
     Long o = (length o.slots ≡ length ws) × (length o.payloads ≡ length bs)
@@ -111,8 +116,8 @@ module _ (h : Head) (ws bs : List ℕ) where
     unfolding data_call_of taken_of recovered_of
     data-long =
         by-refusal Long tests _ _
-        (λ z.
-        let r = push-ready h ws bs now p payload z in
+        (λ x z.
+        let r = push-ready h ws bs now p payload (sym z) in
         let bytes : (i : ℕ) → length (with_payload bs (slot_in w i) payload) ≡ length bs =
         λ i. length-payload bs (slot_in w i) payload r.right.bytes (omega (arith, slot_lt w.capacity w.start i r.good.ranges.some, r.payloads)) in
         push-cases w ws bs now p payload (λ (o : PushOutcome). (length o.slots ≡ length ws) × (length o.payloads ≡ length bs))
@@ -123,140 +128,152 @@ module _ (h : Head) (ws bs : List ℕ) where
         (λ q b. (refl, refl))
         (λ i n. (length-write _ _ _, bytes (distance 31 p.number w.seqno0)))
         (λ i n. (refl, refl)))
-        (λ z. (refl, refl))
+        (λ e z. (refl, refl))
 
-    abbrev lit : Bool → Window → ℕ → ℕ → Bool
-    lit recovered v lrsn size = (light_ack_of (receiving.placed_of (cond recovered h (receiving.rated_of h now p.number size)) v now).history lrsn).light
+    -- the head that a light ACK is asked of
+    abbrev come : Bool → Window → ℕ → Head
+    come recovered v size = receiving.placed_of (cond recovered h (receiving.rated_of h now p.number size)) v now
 
-    got-latest : (light : Bool) (lrsn : ℕ) (recovered : Bool) → now ≡ by_number (data_line (got_answer light lrsn recovered)).refusal now h.latest
-    got-latest true lrsn recovered = refl
-    got-latest false lrsn recovered = refl
+    got-latest : (g : Head) (lrsn : ℕ) (recovered : Bool) (y : Option History) → g.latest ≡ now
+        → (light_or_got g lrsn recovered y).head.latest ≡ by_number (data_line (light_or_got g lrsn recovered y).answer).refusal now h.latest
+    got-latest g lrsn recovered (Some y) e = e
+    got-latest g lrsn recovered None e = e
 
-    after-latest : (v : Window) (a : PushAnswer) (size : ℕ)
-        → (receiving.after_push h v a now p.number size).head.latest ≡ by_number (data_line (receiving.after_push h v a now p.number size).answer).refusal now h.latest
+    taken-latest : (v : Window) (a : PushAnswer) (size : ℕ)
+        → (receiving.after_taken h v a now p.number size).head.latest ≡ by_number (data_line (receiving.after_taken h v a now p.number size).answer).refusal now h.latest
     unfolding got_of acked_of
-    after-latest v (pushes.Got lrsn recovered) size = got-latest (lit recovered v lrsn size) lrsn recovered
-    after-latest v (pushes.Loss first last) size = refl
-    after-latest v pushes.BufferFull size = refl
-    after-latest v (pushes.PacketTooEarly room need) size = refl
-    after-latest v pushes.PacketTooLate size = refl
-    after-latest v pushes.DiscardedDuplicate size = refl
+    taken-latest v (pushes.Got lrsn recovered) size = let g = come recovered v size in got-latest g lrsn recovered (light_ack_of g.history lrsn) refl
+    taken-latest v (pushes.Loss first last) size = refl
 
-    after-settings : (v : Window) (a : PushAnswer) (size : ℕ) → Settings h (receiving.after_push h v a now p.number size).head
-    unfolding got_of acked_of receiving.rated_of
-    after-settings v (pushes.Got lrsn true) size = (refl, refl)
-    after-settings v (pushes.Got lrsn false) size = (refl, refl)
-    after-settings v (pushes.Loss first last) size = (refl, refl)
-    after-settings v pushes.BufferFull size = (refl, refl)
-    after-settings v (pushes.PacketTooEarly room need) size = (refl, refl)
-    after-settings v pushes.PacketTooLate size = (refl, refl)
-    after-settings v pushes.DiscardedDuplicate size = (refl, refl)
+    after-latest : (r : Result Pushed PushRefusal) (size : ℕ)
+        → (receiving.after_push h r now p.number size).head.latest ≡ by_number (data_line (receiving.after_push h r now p.number size).answer).refusal now h.latest
+    after-latest (Ok r) size = taken-latest r.window r.answer size
+    after-latest (Err e) size = refused-latest (push_refused e) now h.latest
+
+    got-settings : (g : Head) (lrsn : ℕ) (recovered : Bool) (y : Option History) → Settings h g → Settings h (light_or_got g lrsn recovered y).head
+    got-settings g lrsn recovered (Some y) e = e
+    got-settings g lrsn recovered None e = e
+
+    come-settings : (recovered : Bool) (v : Window) (size : ℕ) → Settings h (come recovered v size)
+    unfolding receiving.rated_of
+    come-settings true v size = (refl, refl)
+    come-settings false v size = (refl, refl)
+
+    taken-settings : (v : Window) (a : PushAnswer) (size : ℕ) → Settings h (receiving.after_taken h v a now p.number size).head
+    unfolding got_of acked_of
+    taken-settings v (pushes.Got lrsn recovered) size =
+        let g = come recovered v size in got-settings g lrsn recovered (light_ack_of g.history lrsn) (come-settings recovered v size)
+    taken-settings v (pushes.Loss first last) size = (refl, refl)
+
+    after-settings : (r : Result Pushed PushRefusal) (size : ℕ) → Settings h (receiving.after_push h r now p.number size).head
+    after-settings (Ok r) size = taken-settings r.window r.answer size
+    after-settings (Err e) size = (refl, refl)
 
     pub data-settings : Settings h (data_call_of h ws bs now p payload).handled.head
     unfolding data_call_of taken_of
     data-settings =
         by-refusal (λ (o : DataOutcome). Settings h o.handled.head) tests _ _
-        (λ z. let o = push_of w ws bs now p payload in after-settings o.pushed.window o.pushed.answer (length payload))
-        (λ z. (refl, refl))
+        (λ x z. after-settings (push_of w ws bs now p payload).pushed (length payload))
+        (λ e z. (refl, refl))
 
     pub data-latest : (data_call_of h ws bs now p payload).handled.head.latest ≡ by_number (data_line (data_call_of h ws bs now p payload).handled.answer).refusal now h.latest
     unfolding data_call_of taken_of
     data-latest =
         by-refusal (λ (o : DataOutcome). o.handled.head.latest ≡ by_number (data_line o.handled.answer).refusal now h.latest) tests _ _
-        (λ z. let o = push_of w ws bs now p payload in after-latest o.pushed.window o.pushed.answer (length payload))
-        (λ z. refused-latest tests now h.latest z)
+        (λ x z. after-latest (push_of w ws bs now p payload).pushed (length payload))
+        (λ e z. refused-latest e now h.latest)
 
     -- its acknowledgement number
-    got-acks : (v : ℕ) (light : Bool) (lrsn : ℕ) (recovered : Bool) → lrsn ≡ v → DataAcks v (got_answer light lrsn recovered)
-    got-acks v true lrsn recovered e = e
-    got-acks v false lrsn recovered e = e
+    got-acks : (g : Head) (lrsn : ℕ) (recovered : Bool) (y : Option History) → lrsn ≡ g.window.lrsn
+        → DataAcks (light_or_got g lrsn recovered y).head.window.lrsn (light_or_got g lrsn recovered y).answer
+    got-acks g lrsn recovered (Some y) e = e
+    got-acks g lrsn recovered None e = e
 
-    after-acks : (v : Window) (a : PushAnswer) (size : ℕ) → Says v.lrsn a
-        → DataAcks (receiving.after_push h v a now p.number size).head.window.lrsn (receiving.after_push h v a now p.number size).answer
+    taken-acks : (v : Window) (a : PushAnswer) (size : ℕ) → Says v.lrsn a
+        → DataAcks (receiving.after_taken h v a now p.number size).head.window.lrsn (receiving.after_taken h v a now p.number size).answer
     unfolding got_of acked_of
-    after-acks v (pushes.Got lrsn recovered) size e = got-acks v.lrsn (lit recovered v lrsn size) lrsn recovered e
-    after-acks v (pushes.Loss first last) size e = tt
-    after-acks v pushes.BufferFull size e = tt
-    after-acks v (pushes.PacketTooEarly room need) size e = tt
-    after-acks v pushes.PacketTooLate size e = tt
-    after-acks v pushes.DiscardedDuplicate size e = tt
+    taken-acks v (pushes.Got lrsn recovered) size e = let g = come recovered v size in got-acks g lrsn recovered (light_ack_of g.history lrsn) e
+    taken-acks v (pushes.Loss first last) size e = tt
+
+    after-acks : (r : Result Pushed PushRefusal) (size : ℕ) → PushSays r
+        → DataAcks (receiving.after_push h r now p.number size).head.window.lrsn (receiving.after_push h r now p.number size).answer
+    after-acks (Ok r) size e = taken-acks r.window r.answer size e
+    after-acks (Err f) size e = tt
 
     pub data-acks : DataAcks (data_call_of h ws bs now p payload).handled.head.window.lrsn (data_call_of h ws bs now p payload).handled.answer
     unfolding data_call_of taken_of
     data-acks =
         by-refusal (λ (o : DataOutcome). DataAcks o.handled.head.window.lrsn o.handled.answer) tests _ _
-        (λ z.
-        let o = push_of w ws bs now p payload in
-        after-acks o.pushed.window o.pushed.answer (length payload) (push-says w ws bs now p payload))
-        (λ z. tt)
+        (λ x z.
+        after-acks (push_of w ws bs now p payload).pushed (length payload) (push-says w ws bs now p payload))
+        (λ e z. tt)
 
   -- a pop
   module _ (out : List ℕ) (now : ℤ) where
-    abbrev pop_tests : ℕ
+    abbrev pop_tests : Result Unit Refusal
     pop_tests = first_refusal (pop_rules (head_ok h) w.capacity (length ws) (length bs) now h.latest)
 
     pub pop-capacity : (pop_call_of h ws bs out now).given.head.window.capacity ≡ w.capacity
     unfolding pop_call_of message.taken_of discard_front
     pop-capacity =
         by-refusal (λ (o : MessageOutcome). o.given.head.window.capacity ≡ w.capacity) pop_tests _ _
-        (λ z.
+        (λ x z.
         pop-cases h.clock h.latency h.dropping w ws now bs out
-        (λ (x : PopOutcome). (message.head_after h x.popped.window x.popped.clock x.popped.answer now).window.capacity ≡ w.capacity)
-        refl refl (λ some held fits. refl) (λ n stamp some held. refl))
-        (λ z. refl)
+        (λ (x : PopOutcome). (message.head_after h x.popped now).window.capacity ≡ w.capacity)
+        refl (λ m e long. refl) (λ m e fits. refl) (λ n stamp some held. refl))
+        (λ e z. refl)
 
-    answer-settings : (v : Window) (k : SynchronizedRemoteClock) (a : PopAnswer) → Settings h (message.head_after h v k a now)
-    answer-settings v k pops.Nothing = (refl, refl)
-    answer-settings v k (pops.Message time bytes packets) = (refl, refl)
-    answer-settings v k (pops.Late first end delay) = (refl, refl)
-    answer-settings v k pops.OutShort = (refl, refl)
+    answer-settings : (r : Result Popped OutShort) → Settings h (message.head_after h r now)
+    answer-settings (Ok r) = (refl, refl)
+    answer-settings (Err e) = (refl, refl)
 
     pub pop-settings : Settings h (pop_call_of h ws bs out now).given.head
     unfolding pop_call_of message.taken_of
     pop-settings =
         by-refusal (λ (o : MessageOutcome). Settings h o.given.head) pop_tests _ _
-        (λ z. let o = pop_of h.clock h.latency h.dropping w ws now bs out in answer-settings o.popped.window o.popped.clock o.popped.answer)
-        (λ z. (refl, refl))
+        (λ x z. answer-settings (pop_of h.clock h.latency h.dropping w ws now bs out).popped)
+        (λ e z. (refl, refl))
 
     pub pop-long : length (pop_call_of h ws bs out now).output ≡ length out
     unfolding pop_call_of message.taken_of
     pop-long =
         by-refusal (λ (o : MessageOutcome). length o.output ≡ length out) pop_tests _ _
-        (λ z. let r = pop-ready h now ws bs z in pop-length h.clock h.latency h.dropping w ws now bs out r.good.ranges.starts r.payloads)
-        (λ z. refl)
+        (λ x z. let r = pop-ready h now ws bs (sym z) in pop-length h.clock h.latency h.dropping w ws now bs out r.good.ranges.starts r.payloads)
+        (λ e z. refl)
 
-    answer-latest : (v : Window) (k : SynchronizedRemoteClock) (a : PopAnswer) → (message.head_after h v k a now).latest ≡ by_number (message_line (message.answer_of a)).refusal now h.latest
-    answer-latest v k pops.Nothing = refl
-    answer-latest v k (pops.Message time bytes packets) = refl
-    answer-latest v k (pops.Late first end delay) = refl
-    answer-latest v k pops.OutShort = refl
+    said-latest : (a : PopAnswer) → now ≡ by_number (message_line (Ok a)).refusal now h.latest
+    said-latest pops.Nothing = refl
+    said-latest (pops.Message time bytes packets) = refl
+    said-latest (pops.Late first end delay) = refl
+
+    answer-latest : (r : Result Popped OutShort) → (message.head_after h r now).latest ≡ by_number (message_line (message.answer_of r)).refusal now h.latest
+    answer-latest (Ok r) = said-latest r.answer
+    answer-latest (Err e) = refl
 
     pub pop-latest : (pop_call_of h ws bs out now).given.head.latest ≡ by_number (message_line (pop_call_of h ws bs out now).given.answer).refusal now h.latest
     unfolding pop_call_of message.taken_of
     pop-latest =
         by-refusal (λ (o : MessageOutcome). o.given.head.latest ≡ by_number (message_line o.given.answer).refusal now h.latest) pop_tests _ _
-        (λ z. let o = pop_of h.clock h.latency h.dropping w ws now bs out in answer-latest o.popped.window o.popped.clock o.popped.answer)
-        (λ z. refused-latest pop_tests now h.latest z)
+        (λ x z. answer-latest (pop_of h.clock h.latency h.dropping w ws now bs out).popped)
+        (λ e z. refused-latest e now h.latest)
 
   -- a loss report
   module _ (list : List ℕ) (now : ℤ) where
-    abbrev report_tests : ℕ
+    abbrev report_tests : Result Unit Refusal
     report_tests = first_refusal (timed_rules (head_ok h) (length ws) (3 * w.capacity) now h.latest)
 
-    report-window : (a : ReportAnswer) → (head_after h a now).window.capacity ≡ w.capacity
-    report-window reports.Nothing = refl
-    report-window (reports.Report words) = refl
-    report-window reports.ListShort = refl
+    report-window : (a : Result (Option ℕ) ListShort) → (head_after h a now).window.capacity ≡ w.capacity
+    report-window (Ok words) = refl
+    report-window (Err e) = refl
 
-    report-settings : (a : ReportAnswer) → Settings h (head_after h a now)
-    report-settings reports.Nothing = (refl, refl)
-    report-settings (reports.Report words) = (refl, refl)
-    report-settings reports.ListShort = (refl, refl)
+    report-settings : (a : Result (Option ℕ) ListShort) → Settings h (head_after h a now)
+    report-settings (Ok words) = (refl, refl)
+    report-settings (Err e) = (refl, refl)
 
-    report-read : (a : ReportAnswer) → (head_after h a now).latest ≡ by_number (loss_line (answer_of a) []).refusal now h.latest
-    report-read reports.Nothing = refl
-    report-read (reports.Report words) = refl
-    report-read reports.ListShort = refl
+    report-read : (a : Result (Option ℕ) ListShort) → (head_after h a now).latest ≡ by_number (loss_line (answer_of a) []).refusal now h.latest
+    report-read (Ok None) = refl
+    report-read (Ok (Some words)) = refl
+    report-read (Err e) = refl
 
     abbrev Reported : LossOutcome → Type 0
     Reported o =
@@ -269,21 +286,21 @@ module _ (h : Head) (ws bs : List ℕ) where
     unfolding report_call_of reported_of
     report-same =
         by-refusal Reported report_tests _ _
-        (λ z.
+        (λ x z.
         let o = report_of w ws now h.rtt.mean list in (
           report-window o.answer,
           report-settings o.answer,
           by-outcome w ws now h.rtt.mean list (λ (x : ReportOutcome). length x.slots ≡ length ws) refl refl (length-slots w ws now h.rtt.mean w.held),
           report-read o.answer,
         ))
-        (λ z. (refl, (refl, refl), refl, refused-latest report_tests now h.latest z))
+        (λ e z. (refl, (refl, refl), refl, refused-latest e now h.latest))
 
     pub list-long : length (report_call_of h ws list now).list ≡ length list
     unfolding report_call_of reported_of
     list-long =
         by-refusal (λ (o : LossOutcome). length o.list ≡ length list) report_tests _ _
-        (λ z. list-keeps w ws now h.rtt.mean list)
-        (λ z. refl)
+        (λ x z. list-keeps w ws now h.rtt.mean list)
+        (λ e z. refl)
 
     -- its words, and refusal 12
     abbrev Told : ReportOutcome → Type 0
@@ -304,20 +321,20 @@ module _ (h : Head) (ws bs : List ℕ) where
     unfolding report_call_of reported_of
     report-says =
         by-refusal (λ (o : LossOutcome). Reports w.held o.reported.answer o.list) report_tests _ _
-        (λ z. report-told (list-keeps w ws now h.rtt.mean list))
-        (λ z e. absurd (omega (arith, e, refusal-under 4 0 (timed_rules (head_ok h) (length ws) (3 * w.capacity) now h.latest) (omega arith) (lit≤ tt, (lit≤ tt, (lit≤ tt, (lit≤ tt, tt)))))))
+        (λ x z. report-told (list-keeps w ws now h.rtt.mean list))
+        (λ e z q. absurd (omega (arith, q, refusal-under 4 (timed_rules (head_ok h) (length ws) (3 * w.capacity) now h.latest) (lit≤ tt, (lit≤ tt, (lit≤ tt, (lit≤ tt, tt)))) z)))
 
   -- a drop request
   pub drop-long : (first last : ℕ) → length (drop_call_of h ws first last).slots ≡ length ws
   unfolding drop_call_of drop_of
   drop-long first last =
       by-refusal (λ (o : DropOutcome). length o.slots ≡ length ws) (first_refusal (drop_rules (head_ok h) w.capacity (length ws) first last)) _ _
-      (λ z. sweep-long w.capacity w.start ws (drop_from w first) (drop_to w last - drop_from w first))
-      (λ z. refl)
+      (λ x z. sweep-long w.capacity w.start ws (drop_from w first) (drop_to w last - drop_from w first))
+      (λ e z. refl)
 
 -- ACKs and the clock
 module _ (h : Head) (b : List ℕ) (now : ℤ) where
-  abbrev ack_tests : ℕ
+  abbrev ack_tests : Result Unit Refusal
   ack_tests = first_refusal (timed_rules (head_ok h) (length b) 2048 now h.latest)
 
   abbrev Acked : FullAckOutcome → Type 0
@@ -332,23 +349,23 @@ module _ (h : Head) (b : List ℕ) (now : ℤ) where
   unfolding full_ack_call_of due_ack roomy_ack
   full-ack-same =
       by-refusal Acked ack_tests _ _
-      (λ z.
-      by-test Acked (eqb (room_of h.window) 0) (full_ack_ended (record { head = with_latest h now; answer = answered.Nothing }) b) (roomy_ack h b now)
+      (λ x z.
+      by-test Acked (eqb (room_of h.window) 0) (full_ack_ended (record { head = with_latest h now; answer = Ok None }) b) (roomy_ack h b now)
       (λ t. (refl, (refl, refl), refl, refl, tt))
       (λ t.
       let k = full_ack_of h.history b now h.rtt.mean h.latency h.window.lrsn in
-      go k.acked.history k.acked.answer k.area (full-ack-length h.history b now h.rtt.mean h.latency h.window.lrsn)))
-      (λ z. (refl, (refl, refl), refl, refused-latest ack_tests now h.latest z, tt))
+      go k.acked k.area (full-ack-length h.history b now h.rtt.mean h.latency h.window.lrsn)))
+      (λ e z. (refl, (refl, refl), refl, refused-latest e now h.latest, tt))
     where
-      go : (y : History) (x : AckAnswer) (area : List ℕ) → length area ≡ length b
-          → ((after_ack h y x now).head.window.capacity ≡ h.window.capacity)
-          × Settings h (after_ack h y x now).head
+      go : (x : Result (Option given.Acked) FasnWorn) (area : List ℕ) → length area ≡ length b
+          → ((after_ack h x now).head.window.capacity ≡ h.window.capacity)
+          × Settings h (after_ack h x now).head
           × (length area ≡ length b)
-          × ((after_ack h y x now).head.latest ≡ by_number (full_ack_line (after_ack h y x now).answer).refusal now h.latest)
-          × FullAcks (after_ack h y x now).head.window.lrsn (room_of (after_ack h y x now).head.window) (after_ack h y x now).answer
-      go y acks.Nothing area e = (refl, (refl, refl), e, refl, tt)
-      go y acks.Worn area e = (refl, (refl, refl), e, refl, tt)
-      go y (acks.Ack n) area e = (refl, (refl, refl), e, refl, (refl, refl))
+          × ((after_ack h x now).head.latest ≡ by_number (full_ack_line (after_ack h x now).answer).refusal now h.latest)
+          × FullAcks (after_ack h x now).head.window.lrsn (room_of (after_ack h x now).head.window) (after_ack h x now).answer
+      go (Ok None) area e = (refl, (refl, refl), e, refl, tt)
+      go (Ok (Some k)) area e = (refl, (refl, refl), e, refl, (refl, refl))
+      go (Err f) area e = (refl, (refl, refl), e, refl, tt)
 
   abbrev Acked2 : Ack2Outcome → Type 0
   Acked2 o =
@@ -360,15 +377,15 @@ module _ (h : Head) (b : List ℕ) (now : ℤ) where
   unfolding ack2_call_of held_ack2
   ack2-same number =
       by-refusal Acked2 ack_tests _ _
-      (λ z. let k = ack2_of h.history b now number in go k.history k.answer)
-      (λ z. (refl, (refl, refl), refused-latest ack_tests now h.latest z))
+      (λ x z. go (ack2_of h.history b now number))
+      (λ e z. (refl, (refl, refl), refused-latest e now h.latest))
     where
-      go : (y : History) (x : Ack2Answer)
-          → ((after_ack2 h y x now).head.window.capacity ≡ h.window.capacity)
-          × Settings h (after_ack2 h y x now).head
-          × ((after_ack2 h y x now).head.latest ≡ by_number (rtt_line (after_ack2 h y x now).answer).refusal now h.latest)
-      go y acks2.NotHeld = (refl, (refl, refl), refl)
-      go y (acks2.Held r) = (refl, (refl, refl), refl)
+      go : (x : Option Answered)
+          → ((after_ack2 h x now).head.window.capacity ≡ h.window.capacity)
+          × Settings h (after_ack2 h x now).head
+          × ((after_ack2 h x now).head.latest ≡ by_number (rtt_line (after_ack2 h x now).answer).refusal now h.latest)
+      go None = (refl, (refl, refl), refl)
+      go (Some k) = (refl, (refl, refl), refl)
 
 module _ (h : Head) (now : ℤ) (stamp : ℕ) where
   abbrev Clocked : ClockOutcome → Type 0
@@ -381,17 +398,20 @@ module _ (h : Head) (now : ℤ) (stamp : ℕ) where
   unfolding clock_call_of sync_of
   clock-same =
       by-refusal Clocked (first_refusal (clock_rules (head_ok h) now h.latest)) _ _
-      (λ z. let k = synchronized h.clock now stamp in go k.clock k.answer)
-      (λ z. (refl, (refl, refl), refused-latest (first_refusal (clock_rules (head_ok h) now h.latest)) now h.latest z))
+      (λ x z. go (synchronized h.clock now stamp))
+      (λ e z. (refl, (refl, refl), refused-latest e now h.latest))
     where
-      go : (k : SynchronizedRemoteClock) (x : Synchronized)
-          → ((after_sync h k x now).head.window.capacity ≡ h.window.capacity)
-          × Settings h (after_sync h k x now).head
-          × ((after_sync h k x now).head.latest ≡ by_number (clock_line (after_sync h k x now).answer).refusal now h.latest)
-      go k clocks.Nothing = (refl, (refl, refl), refl)
-      go k (clocks.Adjusted mean deviation) = (refl, (refl, refl), refl)
-      go k (clocks.Unsteady deviation v) = (refl, (refl, refl), refl)
-      go k clocks.DriftRange = (refl, (refl, refl), refl)
+      said : (a : Synchronized) → now ≡ by_number (clock_line (Ok a)).refusal now h.latest
+      said clocks.Nothing = refl
+      said (clocks.Adjusted mean deviation) = refl
+      said (clocks.Unsteady deviation v) = refl
+
+      go : (x : Result Step DriftRange)
+          → ((after_sync h x now).head.window.capacity ≡ h.window.capacity)
+          × Settings h (after_sync h x now).head
+          × ((after_sync h x now).head.latest ≡ by_number (clock_line (after_sync h x now).answer).refusal now h.latest)
+      go (Ok k) = (refl, (refl, refl), said k.answer)
+      go (Err e) = (refl, (refl, refl), refl)
 
 -- any call
 either : (n : ℕ) (z : ℤ) → z ≡ by_number n z z

@@ -5,29 +5,27 @@ use Prim.Native.Nat.{ℕ, ◌+◌, ◌*◌}
 use lib.Dec.{eqb}
 use lib.IntN.{ℤ}
 use lib.ListN.{length}
+use Rattle.std.specs.Prelude.{Option, Some, None, Result, Ok, Err}
 use Rattle.numbers.specs.Circular.{sum}
 use Rattle.numbers.proofs.Flags.{by-test}
 use Rattle.numbers.proofs.Signs.{reading-size}
 use Rattle.clock.specs.Sync.{synchronized}
-use Rattle.clock.specs.declared.time.SynchronizedRemoteClock.{SynchronizedRemoteClock}
-use Rattle.clock.specs.declared.time.Synchronized.{Synchronized}
-use Rattle.clock.specs.declared.time.Synchronized.TheVariants as clocks
+use Rattle.clock.specs.declared.base.DriftRange.{DriftRange}
+use Rattle.clock.specs.declared.time.Step.{Step}
 use Rattle.acks.specs.History.{ack2_of, full_ack_of}
-use Rattle.acks.specs.declared.history.History.{History}
-use Rattle.acks.specs.declared.history.AckAnswer.{AckAnswer}
-use Rattle.acks.specs.declared.history.AckAnswer.TheVariants as acks
-use Rattle.acks.specs.declared.history.Ack2Answer.{Ack2Answer}
-use Rattle.acks.specs.declared.history.Ack2Answer.TheVariants as acks2
+use Rattle.acks.specs.declared.history.Acked.{Acked}
+use Rattle.acks.specs.declared.history.FasnWorn.{FasnWorn}
+use Rattle.acks.specs.declared.history.Answered.{Answered}
 use Rattle.window.specs.Window.{room_of}
 use Rattle.window.specs.declared.Window.{Window}
 use Rattle.window_report.specs.Report.{report_of}
 use Rattle.window_report.specs.Drop as dropping
 use Rattle.window_report.specs.Drop.{drop_from, drop_to, drop_of}
-use Rattle.window_report.specs.declared.report.ReportAnswer.{ReportAnswer}
-use Rattle.window_report.specs.declared.report.ReportAnswer.TheVariants as reports
+use Rattle.window_report.specs.declared.report.ListShort.{ListShort}
 use Rattle.head.specs.Rules.{first_refusal, timed_rules, drop_rules, clock_rules}
 use Rattle.head.specs.Head.{head_ok}
 use Rattle.head.specs.declared.state.Head.{Head}
+use Rattle.head.proofs.Gates.{by-refusal}
 use Rattle.head.proofs.Ready.{good, timed-ready, drop-ready}
 use Rattle.feedback.specs.Acking.{FullAckOutcome, Ack2Outcome, after_ack, after_ack2, roomy_ack, due_ack, full_ack_call_of, held_ack2, ack2_call_of}
 use Rattle.feedback.specs.Loss.{LossOutcome, head_after, reported_of, report_call_of}
@@ -42,7 +40,6 @@ use Rattle.ledger.specs.Claims.{Counts}
 use Rattle.ledger.proofs.Places.{given-places, given-long, reported-places}
 use Rattle.ledger.proofs.Owned.{held-given}
 use Rattle.ledger.proofs.Moved.{Stands, Moved, still, window-count}
-use Rattle.ledger.proofs.Moves.{by-refusal}
 use Rattle.ledger.proofs.Dropped.{counts}
 
 module _ (S : ℕ → List ℕ → Type 0) (l : Ledger) (h : Head) (ws bs : List ℕ) (a : Stands S l h.window (entries h.window ws bs)) where
@@ -56,22 +53,21 @@ module _ (S : ℕ → List ℕ → Type 0) (l : Ledger) (h : Head) (ws bs : List
   abbrev pub Reported : LossOutcome → Type 0
   Reported o = Moved S l l o.reported.head.window (entries o.reported.head.window o.slots bs) []
 
-  report-places : (time : ℤ) (mean : ℕ) (x : ReportAnswer) → map place_of (views.after_report time mean es x) ≡ map place_of es
-  report-places time mean reports.Nothing = refl
-  report-places time mean (reports.Report words) = reported-places time mean es
-  report-places time mean reports.ListShort = refl
+  report-places : (time : ℤ) (mean : ℕ) (x : Result (Option ℕ) ListShort) → map place_of (views.after_report time mean es x) ≡ map place_of es
+  report-places time mean (Ok None) = refl
+  report-places time mean (Ok (Some words)) = reported-places time mean es
+  report-places time mean (Err e) = refl
 
-  report-window : (now : ℤ) (x : ReportAnswer) → (head_after h x now).window ≡ w
-  report-window now reports.Nothing = refl
-  report-window now (reports.Report words) = refl
-  report-window now reports.ListShort = refl
+  report-window : (now : ℤ) (x : Result (Option ℕ) ListShort) → (head_after h x now).window ≡ w
+  report-window now (Ok words) = refl
+  report-window now (Err e) = refl
 
   pub report-stands : (list : List ℕ) (now : ℤ) → Reported (report_call_of h ws list now)
   unfolding report_call_of reported_of
   report-stands list now =
       by-refusal Reported (first_refusal (timed_rules (head_ok h) (length ws) (3 * w.capacity) now h.latest)) _ _
-      (λ z.
-      let t = timed-ready h now (length ws) (3 * w.capacity) z in
+      (λ x z.
+      let t = timed-ready h now (length ws) (3 * w.capacity) (sym z) in
       let g = good w ws t.0.head.window t.1 in
       let u = (reading-size now t.0.reading).1 in
       let o = report_of w ws now h.rtt.mean list in
@@ -84,7 +80,7 @@ module _ (S : ℕ → List ℕ → Type 0) (l : Ledger) (h : Head) (ws bs : List
         own_gone = a.own_gone;
         own_held = a.own_held;
       })))
-      (λ z. still a)
+      (λ e z. still a)
 
   -- a drop request gives up lost places
   abbrev pub Requested : ℕ → ℕ → DropOutcome → Type 0
@@ -98,8 +94,8 @@ module _ (S : ℕ → List ℕ → Type 0) (l : Ledger) (h : Head) (ws bs : List
   unfolding drop_call_of
   drop-stands first last =
       by-refusal (Requested first last) (first_refusal (drop_rules (head_ok h) w.capacity (length ws) first last)) _ _
-      (λ z.
-      let g = drop-ready h ws first last refl z in
+      (λ x z.
+      let g = drop-ready h ws first last (sym z) in
       let given = given_in (end_in l first) (end_in l (sum 31 last 1)) 0 l.held in
       let held : map place_of (entries w (drop_of w ws first last).slots bs) ≡ given =
       ap (map place_of) (drop-seen w ws bs g first last)
@@ -119,19 +115,19 @@ module _ (S : ℕ → List ℕ → Type 0) (l : Ledger) (h : Head) (ws bs : List
             };
         handed = sym (append-nil (released_bytes l.gone));
       })
-      (λ z. still a)
+      (λ e z. still a)
 
   pub drop-counted : (first last : ℕ) → Counts l first last (drop_call_of h ws first last).answer
   unfolding drop_call_of
   drop-counted first last =
       by-refusal (λ (o : DropOutcome). Counts l first last o.answer) (first_refusal (drop_rules (head_ok h) w.capacity (length ws) first last)) _ _
-      (λ z.
-      let g = drop-ready h ws first last refl z in
+      (λ x z.
+      let g = drop-ready h ws first last (sym z) in
       let n = (drop_of w ws first last).count in
       subst (λ (x : List Place). lost_count x ≡ lost_count (given_in (end_in l first) (end_in l (sum 31 last 1)) 0 x) + n) a.held
       (subst (λ (x : ℕ). lost_count (map place_of es) ≡ lost_count (given_in x (end_in l (sum 31 last 1)) 0 (map place_of es)) + n) (end_is first)
       (subst (λ (x : ℕ). lost_count (map place_of es) ≡ lost_count (given_in (drop_from w first) x 0 (map place_of es)) + n) (end_is (sum 31 last 1)) (counts w ws bs g first last))))
-      (λ z. tt)
+      (λ e z. tt)
 
   -- ACKs and the clock leave the window
   abbrev Alike : Window → Type 0
@@ -144,43 +140,41 @@ module _ (S : ℕ → List ℕ → Type 0) (l : Ledger) (h : Head) (ws bs : List
   unfolding full_ack_call_of due_ack roomy_ack
   full-ack-stands b now =
       by-refusal (λ (o : FullAckOutcome). Alike o.acked.head.window) (first_refusal (timed_rules (head_ok h) (length b) 2048 now h.latest)) _ _
-      (λ z.
+      (λ x z.
       by-test (λ (o : FullAckOutcome). Alike o.acked.head.window) (eqb (room_of w) 0) _ _
       (λ t. still a)
       (λ t.
       let k = full_ack_of h.history b now h.rtt.mean h.latency w.lrsn in
-      alike (after_ack h k.acked.history k.acked.answer now).head.window (go k.acked.history k.acked.answer)))
-      (λ z. still a)
+      alike (after_ack h k.acked now).head.window (go k.acked)))
+      (λ e z. still a)
     where
-      go : (y : History) (x : AckAnswer) → (after_ack h y x now).head.window ≡ w
-      go y acks.Nothing = refl
-      go y acks.Worn = refl
-      go y (acks.Ack n) = refl
+      go : (x : Result (Option Acked) FasnWorn) → (after_ack h x now).head.window ≡ w
+      go (Ok None) = refl
+      go (Ok (Some k)) = refl
+      go (Err e) = refl
 
   pub ack2-stands : (b : List ℕ) (now : ℤ) (number : ℕ) → Alike (ack2_call_of h b now number).acked2.head.window
   unfolding ack2_call_of held_ack2
   ack2-stands b now number =
       by-refusal (λ (o : Ack2Outcome). Alike o.acked2.head.window) (first_refusal (timed_rules (head_ok h) (length b) 2048 now h.latest)) _ _
-      (λ z.
+      (λ x z.
       let k = ack2_of h.history b now number in
-      alike (after_ack2 h k.history k.answer now).head.window (go k.history k.answer))
-      (λ z. still a)
+      alike (after_ack2 h k now).head.window (go k))
+      (λ e z. still a)
     where
-      go : (y : History) (x : Ack2Answer) → (after_ack2 h y x now).head.window ≡ w
-      go y acks2.NotHeld = refl
-      go y (acks2.Held r) = refl
+      go : (x : Option Answered) → (after_ack2 h x now).head.window ≡ w
+      go None = refl
+      go (Some k) = refl
 
   pub clock-stands : (now : ℤ) (stamp : ℕ) → Alike (clock_call_of h now stamp).clocked.head.window
   unfolding clock_call_of sync_of
   clock-stands now stamp =
       by-refusal (λ (o : ClockOutcome). Alike o.clocked.head.window) (first_refusal (clock_rules (head_ok h) now h.latest)) _ _
-      (λ z.
+      (λ x z.
       let k = synchronized h.clock now stamp in
-      alike (after_sync h k.clock k.answer now).head.window (go k.clock k.answer))
-      (λ z. still a)
+      alike (after_sync h k now).head.window (go k))
+      (λ e z. still a)
     where
-      go : (k : SynchronizedRemoteClock) (x : Synchronized) → (after_sync h k x now).head.window ≡ w
-      go k clocks.Nothing = refl
-      go k (clocks.Adjusted mean deviation) = refl
-      go k (clocks.Unsteady deviation v) = refl
-      go k clocks.DriftRange = refl
+      go : (x : Result Step DriftRange) → (after_sync h x now).head.window ≡ w
+      go (Ok k) = refl
+      go (Err e) = refl

@@ -9,20 +9,21 @@ use borrow.Author.Tests.{ltb-true}
 use lib.Dec.{ltb}
 use lib.IntN.{ℤ, pos}
 use lib.ListN.{length, length-append, length-map, length-drop, replicate, get_or, take}
+use Rattle.std.specs.Prelude.{Result, Ok, Err}
 use Rattle.numbers.specs.Circular.{distance, before, after, sum}
 use Rattle.numbers.proofs.Circle.{distance_self, before-not}
 use Rattle.numbers.proofs.Flags.{impossible, and_left, by_bool, by-order}
 use Rattle.numbers.proofs.Places.{place-one, place-distance}
 use Rattle.window.proofs.Ranges.{in_window}
-use Rattle.head.specs.Rules.{then_of}
-use Rattle.head.specs.Head.{made_of}
+use Rattle.head.specs.Head.{fresh_head, made_of}
+use Rattle.head.specs.declared.refusal.Refusal.{Refusal}
+use Rattle.head.proofs.Gates.{err-ok}
 use Rattle.head.proofs.Ready.{in_parts}
 use Rattle.receiver.specs.Paper.{data_line}
 use Rattle.receiver.specs.declared.data.DataAnswer.{DataAnswer}
 use Rattle.receiver.specs.declared.data.DataAnswer.TheVariants as datas
-use Rattle.receiver.specs.declared.message.MessageAnswer.{MessageAnswer}
-use Rattle.receiver.specs.declared.message.MessageAnswer.TheVariants as messages
-use Rattle.upkeep.specs.declared.request.DropAnswer.TheVariants as drops
+use Rattle.window_pop.specs.declared.pop.PopAnswer.{PopAnswer}
+use Rattle.window_pop.specs.declared.pop.PopAnswer.TheVariants as messages
 use Rattle.step.specs.Step.{State, Lent, Ended}
 use Rattle.step.specs.declared.Call.{Call}
 use Rattle.step.specs.declared.Call.TheVariants as calls
@@ -31,7 +32,7 @@ use Rattle.step.specs.declared.Answer.TheVariants as answers
 use Rattle.views.specs.Lists.{run_of}
 use Rattle.views.specs.View.{Seen, entries}
 use Rattle.views.proofs.Lists.{entries-length}
-use Rattle.ledger.specs.Seen.{NotClear, appends, recovers, is_loss, kind_in, refusal_in, kind_of}
+use Rattle.ledger.specs.Seen.{NotClear, appends, recovers, is_loss, kind_in, refusal_in, refusal_of, refused_in, kind_of}
 use Rattle.ledger.specs.Ledger.{Place, received, Ledger, number_of, front_of, next_of, ack_of, lost_count, enter_data, enter, lost, Fate, released, discarded, is_received, received_run, released_bytes}
 use Rattle.ledger.specs.Runs.{Event, Book, book_after, Fresh, fresh_desk, fresh, NoneClear, place_of, handed_out, Sent}
 use Rattle.ledger.specs.Runs as runs
@@ -41,7 +42,7 @@ abbrev sight : State → List Seen
 sight s = entries s.head.window s.slots s.payloads
 
 -- an answer of the kind of a data packet is one
-data-only : (a : Answer) → kind_in a ≡ 1 → (x : DataAnswer) × (a ≡ answers.Data x)
+data-only : (a : Answer) → kind_in a ≡ 1 → (x : Result DataAnswer Refusal) × (a ≡ answers.Data x)
 data-only (answers.Data x) e = (x, refl)
 data-only (answers.Pop x) e = absurd (omega arith)
 data-only (answers.Report x) e = absurd (omega arith)
@@ -51,15 +52,21 @@ data-only (answers.Drop x) e = absurd (omega arith)
 data-only (answers.Clock x) e = absurd (omega arith)
 data-only (answers.Clear x) e = absurd (omega arith)
 
+-- one that is no refusal has the number 0
+unrefused : (x : Result DataAnswer Refusal) → refusal_of x ≡ Ok tt → (data_line x).refusal ≡ 0
+unrefused (Ok (datas.Got lrsn recovered)) e = refl
+unrefused (Ok (datas.Light lrsn recovered)) e = refl
+unrefused (Ok (datas.Loss a b)) e = refl
+unrefused (Err f) e = absurd (err-ok e)
+
 -- one more place is held after a packet that came in order
-one_more : (l : Ledger) (number : ℕ) (bytes : List ℕ) (x : DataAnswer) → appends x ≡ true → length (enter_data l number bytes x).held ≡ length l.held + 1
-one_more l number bytes (datas.Got lrsn true) e = impossible (sym e)
-one_more l number bytes (datas.Got lrsn false) e = length-append l.held (received bytes ∷ [])
-one_more l number bytes (datas.Light lrsn true) e = impossible (sym e)
-one_more l number bytes (datas.Light lrsn false) e = length-append l.held (received bytes ∷ [])
-one_more l number bytes (datas.Loss a b) e = impossible (sym e)
-one_more l number bytes (datas.Refused n) e = impossible (sym e)
-one_more l number bytes (datas.PacketTooEarly room need) e = impossible (sym e)
+one_more : (l : Ledger) (number : ℕ) (bytes : List ℕ) (x : Result DataAnswer Refusal) → appends x ≡ true → length (enter_data l number bytes x).held ≡ length l.held + 1
+one_more l number bytes (Ok (datas.Got lrsn true)) e = impossible (sym e)
+one_more l number bytes (Ok (datas.Got lrsn false)) e = length-append l.held (received bytes ∷ [])
+one_more l number bytes (Ok (datas.Light lrsn true)) e = impossible (sym e)
+one_more l number bytes (Ok (datas.Light lrsn false)) e = length-append l.held (received bytes ∷ [])
+one_more l number bytes (Ok (datas.Loss a b)) e = impossible (sym e)
+one_more l number bytes (Err f) e = impossible (sym e)
 
 -- of the received places in front: each is received, and there are no more than are held
 run-received : (xs : List Place) (i : ℕ) → i < received_run xs → is_received (get_or xs i lost) ≡ true
@@ -129,24 +136,24 @@ module _ (step : State → Lent → Call → Ended) (demand : Demand3 step) (fir
     abbrev c : Call
     c = calls.Data time number message location stamp
 
-    abbrev earlier : ℕ
+    abbrev earlier : Result Unit Refusal
     earlier = early_refusal b.desk t c
 
-    pub told : (x : DataAnswer) → (r t c).answer ≡ answers.Data x → Judges l b.desk.capacity earlier number x
+    pub told : (x : Result DataAnswer Refusal) → (r t c).answer ≡ answers.Data x → Judges l b.desk.capacity earlier number x
     told x q = subst (λ (a : Answer). Says l b.desk t c a (r t c).output (r t c).list) q ((demand first s f past p).told (event c t) k).says
 
-    pub refuses : (x : DataAnswer) → (r t c).answer ≡ answers.Data x → Refuses earlier c (answers.Data x)
+    pub refuses : (x : Result DataAnswer Refusal) → (r t c).answer ≡ answers.Data x → Refuses earlier c (answers.Data x)
     refuses x q = subst (λ (a : Answer). Refuses earlier c a) q ((demand first s f past p).told (event c t) k).refuses
 
-    pub acks-so : (x : DataAnswer) → (r t c).answer ≡ answers.Data x → DataAcks (ack_of (enter_data l number t.payload x)) x
+    pub acks-so : (x : Result DataAnswer Refusal) → (r t c).answer ≡ answers.Data x → DataAcks (ack_of (enter_data l number t.payload x)) x
     acks-so x q = subst (λ (a : Answer). Acks (ack_of (enter l c t.payload a)) (b.desk.capacity - length (enter l c t.payload a).held) a) q ((demand first s f past p).told (event c t) k).acks
 
-    pub answer-is : (x : DataAnswer) × ((r t c).answer ≡ answers.Data x)
+    pub answer-is : (x : Result DataAnswer Refusal) × ((r t c).answer ≡ answers.Data x)
     answer-is = data-only (r t c).answer ((demand first s f past p).told (event c t) k).kind
 
     -- a fresh packet, of the number next expected, that no test of 1 to 6 refuses and that has room, is taken: so a program that refuses all is ruled out, and
     -- one that compares numbers as plain numbers
-    pub must-append : number ≡ number_of l (next_of l) → earlier ≡ 0 → length l.held < b.desk.capacity → appends answer-is.0 ≡ true
+    pub must-append : number ≡ number_of l (next_of l) → earlier ≡ Ok tt → length l.held < b.desk.capacity → appends answer-is.0 ≡ true
     must-append e z m = (told answer-is.0 answer-is.1).next z e m
 
     pub grown : appends answer-is.0 ≡ true → length (enter l c t.payload (r t c).answer).held ≡ length l.held + 1
@@ -155,14 +162,14 @@ module _ (step : State → Lent → Call → Ended) (demand : Demand3 step) (fir
         ∙ one_more l number t.payload answer-is.0 m
 
     -- it is held: so a program that does nothing is ruled out whatever it answers, and one that works on the first call only and then echoes
-    pub must-hold : number ≡ number_of l (next_of l) → earlier ≡ 0 → length l.held < b.desk.capacity → length (sight (r t c).state) ≡ length (sight b.state) + 1
+    pub must-hold : number ≡ number_of l (next_of l) → earlier ≡ Ok tt → length l.held < b.desk.capacity → length (sight (r t c).state) ≡ length (sight b.state) + 1
     must-hold e z m =
         sym (length-map (sight (r t c).state) place_of)
         ∙ ap length (held_then c t k)
         ∙ grown (must-append e z m)
         ∙ ap (λ (x : ℕ). x + 1) (sym held-now)
 
-    pub idle : number ≡ number_of l (next_of l) → earlier ≡ 0 → length l.held < b.desk.capacity → (r t c).state ≡ b.state → ⊥
+    pub idle : number ≡ number_of l (next_of l) → earlier ≡ Ok tt → length l.held < b.desk.capacity → (r t c).state ≡ b.state → ⊥
     idle e z m q = let x = must-hold e z m in let y = ap (λ (a : State). length (sight a)) q in omega arith
 
     -- the next expected number is that of no held place
@@ -173,7 +180,7 @@ module _ (step : State → Lent → Call → Ended) (demand : Demand3 step) (fir
         omega arith
 
     -- and it is no duplicate
-    pub no-duplicate : number ≡ number_of l (next_of l) → (x : DataAnswer) → (r t c).answer ≡ answers.Data x → (data_line x).refusal ≡ 10 → ⊥
+    pub no-duplicate : number ≡ number_of l (next_of l) → (x : Result DataAnswer Refusal) → (r t c).answer ≡ answers.Data x → (data_line x).refusal ≡ 10 → ⊥
     no-duplicate e x q d = let u = (told x q).duplicate d in no_place e u.0 u.1 u.2
 
     -- nor is it after itself
@@ -194,8 +201,8 @@ module _ (step : State → Lent → Call → Ended) (demand : Demand3 step) (fir
         impossible (sym q ∙ before-not 31 number (number_of l (front_of l)) (omega (arith, d, m)))
 
     -- where there is no room it is refused 7, and by no other number
-    module _ (e : number ≡ number_of l (next_of l)) (z : earlier ≡ 0) (m : length l.held ≡ b.desk.capacity) where
-      abbrev x : DataAnswer
+    module _ (e : number ≡ number_of l (next_of l)) (z : earlier ≡ Ok tt) (m : length l.held ≡ b.desk.capacity) where
+      abbrev x : Result DataAnswer Refusal
       x = answer-is.0
 
       abbrev y : ℕ
@@ -230,12 +237,12 @@ module _ (step : State → Lent → Call → Ended) (demand : Demand3 step) (fir
       pub must-be-full : (data_line answer-is.0).refusal ≡ 7
       must-be-full = go (refuses x answer-is.1).tested
         where
-          go : (refusal_in (answers.Data x) ≡ earlier) ⊎ ((earlier ≡ 0) × Later c (refusal_in (answers.Data x))) → y ≡ 7
-          go (inl u) = absurd (taken (says_so.took (u ∙ z)))
+          go : (refused_in (answers.Data x) ≡ earlier) ⊎ ((earlier ≡ Ok tt) × Later c (refusal_in (answers.Data x))) → y ≡ 7
+          go (inl u) = absurd (taken (says_so.took (unrefused x (u ∙ z))))
           go (inr u) = by-number u.1.0 u.1.1
 
   -- counts are not made up: a message's packets, a late drop's range and a drop request's count are what the receiver no longer holds
-  pub message-count : (time : ℤ) (t : Lent) (at : ℤ) (bytes packets : ℕ) → (r t (calls.Pop time)).answer ≡ answers.Pop (messages.Message at bytes packets)
+  pub message-count : (time : ℤ) (t : Lent) (at : ℤ) (bytes packets : ℕ) → (r t (calls.Pop time)).answer ≡ answers.Pop (Ok (messages.Message at bytes packets))
       → length (sight (r t (calls.Pop time)).state) ≡ length (sight b.state) - packets
   message-count time t at bytes packets q =
       sym (length-map (sight (r t (calls.Pop time)).state) place_of)
@@ -243,7 +250,7 @@ module _ (step : State → Lent → Call → Ended) (demand : Demand3 step) (fir
       ∙ length-drop packets l.held
       ∙ ap (λ (x : ℕ). x - packets) (sym held-now)
 
-  pub late-count : (time : ℤ) (t : Lent) (from end : ℕ) (delay : ℤ) → (r t (calls.Pop time)).answer ≡ answers.Pop (messages.Late from end delay)
+  pub late-count : (time : ℤ) (t : Lent) (from end : ℕ) (delay : ℤ) → (r t (calls.Pop time)).answer ≡ answers.Pop (Ok (messages.Late from end delay))
       → length (sight (r t (calls.Pop time)).state) ≡ length (sight b.state) - distance 31 end from
   late-count time t from end delay q =
       sym (length-map (sight (r t (calls.Pop time)).state) place_of)
@@ -251,7 +258,7 @@ module _ (step : State → Lent → Call → Ended) (demand : Demand3 step) (fir
       ∙ length-drop (distance 31 end from) l.held
       ∙ ap (λ (x : ℕ). x - distance 31 end from) (sym held-now)
 
-  pub drop-count : (from last : ℕ) (t : Lent) (n : ℕ) → (r t (calls.Drop from last)).answer ≡ answers.Drop (drops.Gone n)
+  pub drop-count : (from last : ℕ) (t : Lent) (n : ℕ) → (r t (calls.Drop from last)).answer ≡ answers.Drop (Ok n)
       → lost_count (map place_of (sight b.state)) ≡ lost_count (map place_of (sight (r t (calls.Drop from last)).state)) + n
   drop-count from last t n q =
       let c = calls.Drop from last in
@@ -260,25 +267,25 @@ module _ (step : State → Lent → Call → Ended) (demand : Demand3 step) (fir
       ap lost_count (demand first s f past p).holds.agrees.entries ∙ u ∙ ap (λ (x : List Place). lost_count x + n) (sym v)
 
   -- what a pop answers
-  pop-told : (time : ℤ) (t : Lent) (a : MessageAnswer) → (r t (calls.Pop time)).answer ≡ answers.Pop a → Tells l b.desk a (r t (calls.Pop time)).output
+  pop-told : (time : ℤ) (t : Lent) (a : Result PopAnswer Refusal) → (r t (calls.Pop time)).answer ≡ answers.Pop a → Tells l b.desk a (r t (calls.Pop time)).output
   pop-told time t a q =
       let c = calls.Pop time in
       subst (λ (x : Answer). Says l b.desk t c x (r t c).output (r t c).list) q ((demand first s f past p).told (event c t) tt).says
 
   -- a message is the bytes of the places in front, none of which is a hole, and those places leave: so a program that hands out other bytes is ruled out, one
   -- that releases over a place that is lost, and one that leaves the front where it was and releases it again
-  pub own-bytes : (time : ℤ) (t : Lent) (at : ℤ) (bytes packets : ℕ) → (r t (calls.Pop time)).answer ≡ answers.Pop (messages.Message at bytes packets)
+  pub own-bytes : (time : ℤ) (t : Lent) (at : ℤ) (bytes packets : ℕ) → (r t (calls.Pop time)).answer ≡ answers.Pop (Ok (messages.Message at bytes packets))
       → take bytes (r t (calls.Pop time)).output ≡ front_bytes l packets
-  own-bytes time t at bytes packets q = (pop-told time t (messages.Message at bytes packets) q).2
+  own-bytes time t at bytes packets q = (pop-told time t (Ok (messages.Message at bytes packets)) q).2
 
-  pub no-hole : (time : ℤ) (t : Lent) (at : ℤ) (bytes packets : ℕ) → (r t (calls.Pop time)).answer ≡ answers.Pop (messages.Message at bytes packets)
+  pub no-hole : (time : ℤ) (t : Lent) (at : ℤ) (bytes packets : ℕ) → (r t (calls.Pop time)).answer ≡ answers.Pop (Ok (messages.Message at bytes packets))
       → (i : ℕ) → i < packets → is_received (get_or l.held i lost) ≡ true
-  no-hole time t at bytes packets q i h = run-received l.held i (omega (arith, h, (pop-told time t (messages.Message at bytes packets) q).1))
+  no-hole time t at bytes packets q i h = run-received l.held i (omega (arith, h, (pop-told time t (Ok (messages.Message at bytes packets)) q).1))
 
-  pub released-once : (time : ℤ) (t : Lent) (at : ℤ) (bytes packets : ℕ) → (r t (calls.Pop time)).answer ≡ answers.Pop (messages.Message at bytes packets)
+  pub released-once : (time : ℤ) (t : Lent) (at : ℤ) (bytes packets : ℕ) → (r t (calls.Pop time)).answer ≡ answers.Pop (Ok (messages.Message at bytes packets))
       → (r t (calls.Pop time)).state ≡ b.state → ⊥
   released-once time t at bytes packets q e =
-      let u = pop-told time t (messages.Message at bytes packets) q in
+      let u = pop-told time t (Ok (messages.Message at bytes packets)) q in
       let n = message-count time t at bytes packets q in
       let m = ap (λ (x : State). length (sight x)) e in
       omega (arith, u.0, u.1, run-within l.held, held-now)
@@ -291,17 +298,17 @@ module _ (step : State → Lent → Call → Ended) (demand : Demand3 step) (fir
 
 -- a receiver of one slot, fresh, and a packet that no test of 1 to 6 refuses: so these theorems speak of something
 abbrev pub small : State
-small = record { head = (made_of (pos 0) 0 false 0 1).head; slots = replicate 3 0; payloads = replicate 1456 0; history = [] }
+small = record { head = fresh_head (pos 0) 0 false 0 1; slots = replicate 3 0; payloads = replicate 1456 0; history = [] }
 
 unfoldable pub small-fresh : Fresh 0 small
-unfolding made_of then_of
-small-fresh = record { start = pos 0; latency = 0; dropping = false; capacity = 1; made = refl; head = refl }
+unfolding made_of
+small-fresh = record { start = pos 0; latency = 0; dropping = false; capacity = 1; made = refl }
 
 abbrev pub packet : Lent
 packet = record { payload = 7 ∷ []; output = []; list = [] }
 
-pub small-tests : early_refusal (fresh_desk small-fresh) packet (calls.Data (pos 0) 0 0 3 0) ≡ 0
-unfolding small-fresh then_of
+pub small-tests : early_refusal (fresh_desk small-fresh) packet (calls.Data (pos 0) 0 0 3 0) ≡ Ok tt
+unfolding small-fresh
 small-tests = refl
 
 -- doing nothing, whatever it answers
@@ -312,7 +319,7 @@ doing-nothing step demand still =
 
 -- refusing all, by whatever numbers: no packet is ever taken
 pub refusing-all : (step : State → Lent → Call → Ended) → Demand3 step
-    → ((s : State) (t : Lent) (time : ℤ) (number message location stamp : ℕ) (a : DataAnswer) → (step s t (calls.Data time number message location stamp)).answer ≡ answers.Data a
+    → ((s : State) (t : Lent) (time : ℤ) (number message location stamp : ℕ) (a : Result DataAnswer Refusal) → (step s t (calls.Data time number message location stamp)).answer ≡ answers.Data a
     → (appends a || recovers a || is_loss a) ≡ false) → ⊥
 unfolding small-fresh book_after sum
 refusing-all step demand none =
@@ -322,7 +329,7 @@ refusing-all step demand none =
 
 -- got every time: every packet is said to be taken in order, or for a lost place; the one just before the first number is neither
 pub got-every-time : (step : State → Lent → Call → Ended) → Demand3 step
-    → ((s : State) (t : Lent) (time : ℤ) (number message location stamp : ℕ) (a : DataAnswer) → (step s t (calls.Data time number message location stamp)).answer ≡ answers.Data a
+    → ((s : State) (t : Lent) (time : ℤ) (number message location stamp : ℕ) (a : Result DataAnswer Refusal) → (step s t (calls.Data time number message location stamp)).answer ≡ answers.Data a
     → (appends a || recovers a) ≡ true) → ⊥
 unfolding small-fresh book_after sum
 got-every-time step demand all =

@@ -5,17 +5,18 @@ use mathlib.Core.List.{List, [], ◌∷◌, ◌++◌, map}
 use Prim.Native.Nat.{ℕ, ◌+◌, ◌-◌, ◌^◌, ◌<◌}
 use native.Mathlib.Omega.{arith}
 use borrow.Author.Tests.{leb-false}
-use lib.Dec.{lit<}
 use lib.IntN.{ℤ}
 use lib.ListN.{length, length-map}
+use Rattle.std.specs.Prelude.{Option, Result, Ok, IfOk}
+use Rattle.std.proofs.lemmas.Result.{IfOk-at_ok}
 use Rattle.numbers.specs.Circular.{sum}
 use Rattle.numbers.proofs.Circle.{sum-zero}
 use Rattle.numbers.proofs.Places.{place-one}
 use Rattle.head.specs.Rules.{first_refusal, make_rules, show_rules, head_rules}
 use Rattle.head.specs.Head.{head_ok, fresh_head, made_of}
 use Rattle.head.specs.declared.state.Head.{Head}
-use Rattle.head.specs.declared.state.Made.{Made}
-use Rattle.head.proofs.Gates.{clear}
+use Rattle.head.specs.declared.refusal.Refusal.{Refusal}
+use Rattle.head.proofs.Gates.{clear, by-refusal}
 use Rattle.head.proofs.Ready.{in_parts}
 use Rattle.window.specs.Window.{room_of}
 use Rattle.window.proofs.Ranges.{in_window}
@@ -26,7 +27,6 @@ use Rattle.window.specs.declared.show.Part.{Part}
 use Rattle.feedback.specs.Loss.{report_call_of}
 use Rattle.upkeep.specs.Request.{ClearOutcome, cleared_of, clear_call_of}
 use Rattle.upkeep.specs.Show.{refusal_of, place_call_of, shown_call_of}
-use Rattle.upkeep.specs.declared.show.ShowAnswer.{ShowAnswer}
 use Rattle.kept.proofs.DataKept.{made_kept, data-kept, loss-kept, cleared-kept}
 use Rattle.kept.proofs.TimedKept.{ack2-kept, full-ack-kept, clock-kept, message-kept}
 use Rattle.step.specs.Step.{State, Lent, Ended, step_of}
@@ -44,7 +44,6 @@ use Rattle.ledger.specs.Runs.{Event, Desk, Known, Book, opening, answered, turne
 use Rattle.ledger.specs.Claims.{Holds, Judges, Reports, early_refusal, Acks, Says, Told, Demand3, Stretch, show_refusal, Shows, DemandShown}
 use Rattle.ledger.proofs.Owned.{nothing, empty}
 use Rattle.ledger.proofs.Moved.{Stands, Moved, held-count, window-count, lrsn-said}
-use Rattle.ledger.proofs.Moves.{by-refusal}
 use Rattle.ledger.proofs.Data.{data-stands}
 use Rattle.ledger.proofs.Knows.{step_same, known-after, step-acks, step_line, step-lent, report-says}
 use Rattle.ledger.proofs.Refusals.{refusal_now, known-refusal, station-refuses}
@@ -98,7 +97,7 @@ step-says : (S : ℕ → List ℕ → Type 0) (l : Ledger) (d : Desk) (s : State
 step-says S l d s t (calls.Data time number message location stamp) p a k o =
     let x = (data_call_of s.head s.slots s.payloads time (packet number message location stamp) t.payload).handled.answer in
     let c = calls.Data time number message location stamp in
-    subst (λ (n : ℕ). Judges l d.capacity n number x) (known-refusal t c k o)
+    subst (λ (n : Result Unit Refusal). Judges l d.capacity n number x) (known-refusal t c k o)
     (subst (λ (n : ℕ). Judges l n (refusal_now s t c) number x) k.capacity
     (data-judged S l s.head s.slots s.payloads time (packet number message location stamp) t.payload p a))
 step-says S l d s t (calls.Pop time) p a k o = pop-tells S l s.head s.slots s.payloads t.output time a d k.dropping
@@ -132,15 +131,18 @@ step_kept s t calls.Clear p e = absurd p
 
 -- a fresh receiver
 module _ (start : ℤ) (latency : ℕ) (dropping : Bool) (first capacity : ℕ) where
-  made-fresh : (made_of start latency dropping first capacity).refusal ≡ 0
-      → ((made_of start latency dropping first capacity).head ≡ fresh_head start latency dropping first capacity) × (first < 2 ^ 31)
+  abbrev MadeFresh : Head → Type 0
+  MadeFresh h = (h ≡ fresh_head start latency dropping first capacity) × (first < 2 ^ 31)
+
+  made-so : IfOk (made_of start latency dropping first capacity) MadeFresh
   unfolding made_of
-  made-fresh =
-      by-refusal (λ (m : Made). m.refusal ≡ 0 → (m.head ≡ fresh_head start latency dropping first capacity) × (first < 2 ^ 31)) (first_refusal (make_rules start latency first capacity)) _ _
-      (λ e r.
-      let c = clear (make_rules start latency first capacity) (lit< tt, (lit< tt, (lit< tt, (lit< tt, (lit< tt, tt))))) e in
-      (refl, leb-false (2 ^ 31) first c.1.1.0))
-      (λ e r. absurd (e r))
+  made-so =
+      by-refusal (λ (m : Result Head Refusal). IfOk m MadeFresh) (first_refusal (make_rules start latency first capacity)) _ _
+      (λ x e. let c = clear (make_rules start latency first capacity) (sym e) in (refl, leb-false (2 ^ 31) first c.1.1.0))
+      (λ f e. tt)
+
+  made-fresh : {h : Head} → made_of start latency dropping first capacity ≡ Ok h → MadeFresh h
+  made-fresh e = IfOk-at_ok MadeFresh e made-so
 
 none_seen : (capacity start : ℕ) (ws bs : List ℕ) {n : ℕ} → n ≡ 0 → entries_from capacity start ws bs 0 n ≡ []
 unfolding entries_from
@@ -163,20 +165,20 @@ fresh-stands S first s f =
     }
 
 fresh_kept : (first : ℕ) (s : State) → Fresh first s → head_ok s.head ≡ true
-fresh_kept first s f = ap head_ok f.head ∙ made_kept f.start f.latency f.dropping first f.capacity f.made
+fresh_kept first s f = made_kept f.start f.latency f.dropping first f.capacity f.made
 
 fresh-empty : (first : ℕ) (s : State) → Fresh first s → Empty first s
 unfolding fresh_head
 fresh-empty first s f =
     let m = made-fresh f.start f.latency f.dropping first f.capacity f.made in
-    let e : s.head ≡ fresh_head f.start f.latency f.dropping first f.capacity = f.head ∙ m.0 in
+    let e : s.head ≡ fresh_head f.start f.latency f.dropping first f.capacity = m.0 in
     record { kept = fresh_kept first s f; none = ap (λ (h : Head). h.window.held) e; begins = ap (λ (h : Head). h.window.seqno0) e; acked = ap (λ (h : Head). h.window.lrsn) e }
 
 fresh-known : (first : ℕ) (s : State) (f : Fresh first s) → Known (fresh_desk f) s
 unfolding fresh_head
 fresh-known first s f =
     let m = made-fresh f.start f.latency f.dropping first f.capacity f.made in
-    let e : s.head ≡ fresh_head f.start f.latency f.dropping first f.capacity = f.head ∙ m.0 in
+    let e : s.head ≡ fresh_head f.start f.latency f.dropping first f.capacity = m.0 in
     record {
       capacity = ap (λ (h : Head). h.window.capacity) e;
       latency = ap (λ (h : Head). h.latency) e;
@@ -188,10 +190,10 @@ fresh-known first s f =
     }
 
 -- what show shows, and what its second question answers
-abbrev pub place_now : State → ℕ → Part
+abbrev pub place_now : State → ℕ → Option Part
 place_now s number = place_call_of s.head s.slots (length s.payloads) number
 
-abbrev pub question_now : State → ℕ → ShowAnswer
+abbrev pub question_now : State → ℕ → Result Bool Refusal
 question_now s number = (shown_call_of s.head s.slots (length s.payloads) number).answer
 
 -- any calls, the newest first
@@ -310,7 +312,7 @@ module _ (first : ℕ) (d : Desk) (s : State) (f : Empty first s) (g : Known d s
       ∙ ap (λ (x : ℕ). first_refusal (show_rules true x (length s₁.slots) (length s₁.payloads) number)) k.capacity
       ∙ ap (λ (x : ℕ). first_refusal (show_rules true (at past).desk.capacity x (length s₁.payloads) number)) k.slots
       ∙ ap (λ (x : ℕ). first_refusal (show_rules true (at past).desk.capacity (at past).desk.slots x number)) k.payloads in
-      subst (λ (n : ℕ). Shows (at past).ledger n number s₁.payloads (place_now s₁ number) (question_now s₁ number)) e
+      subst (λ (n : Result Unit Refusal). Shows (at past).ledger n number s₁.payloads (place_now s₁ number) (question_now s₁ number)) e
       (shows (Sent past) (at past).ledger s₁.head s₁.slots s₁.payloads (run-stands past p) o number)
 
 -- demand 3, of the receiver: in a stretch, and from a fresh one on
@@ -327,7 +329,7 @@ show-theorem first s f past p number = run-shows first (fresh_desk f) s (fresh-e
 -- the fault that lost three passes: a fresh packet, of the number next expected after any number of wraps, is never refused as a duplicate
 pub fresh-never-duplicate : (first : ℕ) (s : State) (f : Fresh first s) (past : List Event) → NoneClear past → (time : ℤ) (number message location stamp : ℕ) (t : Lent) → stamp < 2 ^ 32
     → number ≡ number_of (book_after step_of (fresh f) past).ledger (next_of (book_after step_of (fresh f) past).ledger)
-    → (a : DataAnswer) → (step_of (book_after step_of (fresh f) past).state t (calls.Data time number message location stamp)).answer ≡ answers.Data a
+    → (a : Result DataAnswer Refusal) → (step_of (book_after step_of (fresh f) past).state t (calls.Data time number message location stamp)).answer ≡ answers.Data a
     → (data_line a).refusal ≡ 10 → ⊥
 fresh-never-duplicate first s f past p time number message location stamp t k e a x q =
     let b = book_after step_of (fresh f) past in
@@ -379,17 +381,17 @@ clear-empty first d s t f k =
     let n = first_refusal (head_rules (head_ok s.head)) in (
       record {
         kept = cleared-kept s.head f.kept;
-        none = by-refusal (λ (o : ClearOutcome). o.cleared.head.window.held ≡ 0) n _ _ (λ z. refl) (λ z. f.none);
-        begins = by-refusal (λ (o : ClearOutcome). o.cleared.head.window.seqno0 ≡ first) n _ _ (λ z. f.begins) (λ z. f.begins);
-        acked = by-refusal (λ (o : ClearOutcome). o.cleared.head.window.lrsn ≡ first) n _ _ (λ z. f.acked) (λ z. f.acked);
+        none = by-refusal (λ (o : ClearOutcome). o.cleared.head.window.held ≡ 0) n _ _ (λ x z. refl) (λ e z. f.none);
+        begins = by-refusal (λ (o : ClearOutcome). o.cleared.head.window.seqno0 ≡ first) n _ _ (λ x z. f.begins) (λ e z. f.begins);
+        acked = by-refusal (λ (o : ClearOutcome). o.cleared.head.window.lrsn ≡ first) n _ _ (λ x z. f.acked) (λ e z. f.acked);
       },
       record {
-        capacity = by-refusal (λ (o : ClearOutcome). o.cleared.head.window.capacity ≡ d.capacity) n _ _ (λ z. k.capacity) (λ z. k.capacity);
-        latency = by-refusal (λ (o : ClearOutcome). o.cleared.head.latency ≡ d.latency) n _ _ (λ z. k.latency) (λ z. k.latency);
-        dropping = by-refusal (λ (o : ClearOutcome). o.cleared.head.dropping ≡ d.dropping) n _ _ (λ z. k.dropping) (λ z. k.dropping);
+        capacity = by-refusal (λ (o : ClearOutcome). o.cleared.head.window.capacity ≡ d.capacity) n _ _ (λ x z. k.capacity) (λ e z. k.capacity);
+        latency = by-refusal (λ (o : ClearOutcome). o.cleared.head.latency ≡ d.latency) n _ _ (λ x z. k.latency) (λ e z. k.latency);
+        dropping = by-refusal (λ (o : ClearOutcome). o.cleared.head.dropping ≡ d.dropping) n _ _ (λ x z. k.dropping) (λ e z. k.dropping);
         slots = k.slots;
         payloads = k.payloads;
         history = k.history;
-        latest = by-refusal (λ (o : ClearOutcome). o.cleared.head.latest ≡ d.latest) n _ _ (λ z. k.latest) (λ z. k.latest);
+        latest = by-refusal (λ (o : ClearOutcome). o.cleared.head.latest ≡ d.latest) n _ _ (λ x z. k.latest) (λ e z. k.latest);
       },
     )

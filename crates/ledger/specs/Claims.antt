@@ -1,31 +1,28 @@
 -- What is claimed: demand 3, "for a fresh receiver and any calls past any number of wraps, nothing is released twice, out of order, with other bytes, or
 -- dropped unseen". The ledger is in Ledger, a run in Runs. Above each claim is its phrase of the demand; docs/WHERE.md has the users' own words, phrase by phrase.
-use Rattle.std.specs.Prelude.{◌≡◌, Bool, true, false, ◌||◌, cond, List, [], map, ◌⊎◌, ℕ, ◌+◌, ◌-◌, ◌*◌, ◌^◌, ◌<◌, ◌≤◌, eqb, ℤ, length, take, drop, get_or}
+use Rattle.std.specs.Prelude.{◌≡◌, Bool, true, false, ◌||◌, List, [], map, ◌⊎◌, ℕ, ◌+◌, ◌-◌, ◌*◌, ◌^◌, ◌<◌, ◌≤◌, ℤ, length, take, drop, get_or, Option, Some, None, Result, Ok, Err, is_some}
+use Rattle.std.specs.Borrow.{Bor}
 use Rattle.numbers.specs.Circular.{distance, before, after, sum}
+use Rattle.window.specs.Show.{ShownAt}
 use Rattle.window.specs.declared.show.Part.{Part}
 use Rattle.head.specs.Head.{head_ok}
 use Rattle.head.specs.Paper as paper
+use Rattle.head.specs.Rules as rules
 use Rattle.head.specs.Rules.{first_refusal, push_rules, pop_rules, timed_rules, drop_rules, show_rules, clock_rules, head_rules}
+use Rattle.head.specs.declared.refusal.Refusal.{Refusal}
 use Rattle.receiver.specs.Data.{packet}
 use Rattle.receiver.specs.Paper.{data_line}
 use Rattle.receiver.specs.declared.data.DataAnswer.{DataAnswer}
 use Rattle.receiver.specs.declared.data.DataAnswer.TheVariants as datas
-use Rattle.feedback.specs.declared.acking.FullAckAnswer.{FullAckAnswer}
-use Rattle.feedback.specs.declared.acking.FullAckAnswer.TheVariants as acks
-use Rattle.feedback.specs.declared.loss.LossAnswer.{LossAnswer}
-use Rattle.feedback.specs.declared.loss.LossAnswer.TheVariants as losses
-use Rattle.receiver.specs.declared.message.MessageAnswer.{MessageAnswer}
-use Rattle.receiver.specs.declared.message.MessageAnswer.TheVariants as messages
-use Rattle.upkeep.specs.declared.request.DropAnswer.{DropAnswer}
-use Rattle.upkeep.specs.declared.request.DropAnswer.TheVariants as drops
-use Rattle.upkeep.specs.declared.show.ShowAnswer.{ShowAnswer}
-use Rattle.upkeep.specs.declared.show.ShowAnswer.TheVariants as shows
+use Rattle.feedback.specs.declared.acking.FullAck.{FullAck}
+use Rattle.window_pop.specs.declared.pop.PopAnswer.{PopAnswer}
+use Rattle.window_pop.specs.declared.pop.PopAnswer.TheVariants as messages
 use Rattle.step.specs.Step.{State, Lent, Ended, line_of}
 use Rattle.step.specs.declared.Call.{Call}
 use Rattle.step.specs.declared.Call.TheVariants as calls
 use Rattle.step.specs.declared.Answer.{Answer}
 use Rattle.step.specs.declared.Answer.TheVariants as answers
-use Rattle.ledger.specs.Seen.{NotClear, number_in, last_in, appends, recovers, is_loss, LossIs, EarlyIs, kind_of, kind_in, refusal_in}
+use Rattle.ledger.specs.Seen.{NotClear, number_in, last_in, appends, recovers, is_loss, LossIs, EarlyIs, kind_of, kind_in, refusal_in, refused_in}
 use Rattle.ledger.specs.Ledger.{lost, received, given_up, released, discarded, Ledger, number_of, front_of, next_of, ack_of, bytes_of, received_run, lost_count, released_bytes, enter_drop}
 use Rattle.ledger.specs.Runs.{Event, Desk, Book, opening, Known, Fresh, fresh, Empty, NoneClear, answered, turned, book_after, handed_out, Sent, Agrees}
 
@@ -44,19 +41,20 @@ pub record Holds (l : Ledger) (d : Desk) (s : State) (past : List Event) (out : 
   -- no run is ever refused 1
   pub in_range : head_ok s.head ≡ true
 
--- the answer to a packet, by its number and by the earlier refusal, the first of 1 to 6 (0 for none), whose tests look at no place; the capacity is the station's
-pub record Judges (l : Ledger) (capacity earlier number : ℕ) (a : DataAnswer) : Type 0 where
+-- the answer to a packet, by its number and by the earlier refusal, the first of 1 to 6 (Ok for none), whose tests look
+-- at no place; the capacity is the station's
+pub record Judges (l : Ledger) (capacity : ℕ) (earlier : Result Unit Refusal) (number : ℕ) (a : Result DataAnswer Refusal) : Type 0 where
   -- taken in order: its number is the next; for a lost place: a held place of its number is lost; after a gap: the gap is what lies between
   pub in_order : appends a ≡ true → number ≡ number_of l (next_of l)
   pub for_lost : recovers a ≡ true → (i : ℕ) × (i < length l.held) × (number_of l (front_of l + i) ≡ number) × (get_or l.held i given_up ≡ lost)
   pub after_gap : is_loss a ≡ true → after 31 number (number_of l (next_of l)) ≡ true
   pub gap_named : LossIs a (number_of l (next_of l)) (sum 31 number (2 ^ 31 - 1))
   -- and a packet of each of these kinds is taken: one of the number next expected, after any number of wraps, if there is room ..
-  pub next : earlier ≡ 0 → number ≡ number_of l (next_of l) → length l.held < capacity → appends a ≡ true
+  pub next : earlier ≡ Ok tt → number ≡ number_of l (next_of l) → length l.held < capacity → appends a ≡ true
   -- .. one whose held place is lost ..
-  pub taken : earlier ≡ 0 → (i : ℕ) → i < length l.held → number_of l (front_of l + i) ≡ number → get_or l.held i given_up ≡ lost → recovers a ≡ true
+  pub taken : earlier ≡ Ok tt → (i : ℕ) → i < length l.held → number_of l (front_of l + i) ≡ number → get_or l.held i given_up ≡ lost → recovers a ≡ true
   -- .. and one after a gap, if there is room for both
-  pub gap : earlier ≡ 0 → after 31 number (number_of l (next_of l)) ≡ true → length l.held + distance 31 number (number_of l (next_of l)) + 1 ≤ capacity → is_loss a ≡ true
+  pub gap : earlier ≡ Ok tt → after 31 number (number_of l (next_of l)) ≡ true → length l.held + distance 31 number (number_of l (next_of l)) + 1 ≤ capacity → is_loss a ≡ true
   -- one that is not refused is taken
   pub took : (data_line a).refusal ≡ 0 → (appends a || recovers a || is_loss a) ≡ true
   -- 7 and 8: there is no room for it at the next expected number, or after it; 8 has both numbers, the room and the need
@@ -75,33 +73,33 @@ front_bytes l n = released_bytes (map (λ x. released (bytes_of x)) (take n l.he
 
 -- a pop: a message's places are all received, its output is their bytes, in order, and their count is right; a late drop names the places that it discards, and
 -- there is none where the station turned dropping off; 11 comes only if the received places in front have more bytes than the output that was lent
-abbrev pub Tells : Ledger → Desk → MessageAnswer → (output : List ℕ) → Type 0
-Tells l d messages.Nothing out = Unit
-Tells l d (messages.Message time bytes packets) out =
+abbrev pub Tells : Ledger → Desk → Result PopAnswer Refusal → (output : List ℕ) → Type 0
+Tells l d (Ok messages.Nothing) out = Unit
+Tells l d (Ok (messages.Message time bytes packets)) out =
     (0 < packets) × (packets ≤ received_run l.held) × (take bytes out ≡ front_bytes l packets) × (bytes ≡ length (front_bytes l packets))
-Tells l d (messages.Late first end delay) out =
+Tells l d (Ok (messages.Late first end delay)) out =
     (d.dropping ≡ true)
     × (0 < distance 31 end first)
     × (distance 31 end first ≤ length l.held)
     × (first ≡ number_of l (front_of l))
     × (end ≡ number_of l (front_of l + distance 31 end first))
-Tells l d (messages.Refused n) out = n ≡ 11 → (packets : ℕ) × (0 < packets) × (packets ≤ received_run l.held) × (length out < length (front_bytes l packets))
+Tells l d (Err e) out = rules.number_of e ≡ 11 → (packets : ℕ) × (0 < packets) × (packets ≤ received_run l.held) × (length out < length (front_bytes l packets))
 
 -- a drop request counts the places that it gives up
-abbrev pub Counts : Ledger → ℕ → ℕ → DropAnswer → Type 0
-Counts l first last (drops.Gone n) = lost_count l.held ≡ lost_count (enter_drop l first last (drops.Gone n)).held + n
-Counts l first last (drops.Refused n) = Unit
+abbrev pub Counts : Ledger → ℕ → ℕ → Result ℕ Refusal → Type 0
+Counts l first last (Ok n) = lost_count l.held ≡ lost_count (enter_drop l first last (Ok n)).held + n
+Counts l first last (Err e) = Unit
 
 -- a loss report has words, as many as the list has room for at most; 12 comes only if the list that was lent has less than a word for each held place
-abbrev pub Reports : (held : ℕ) → LossAnswer → (list : List ℕ) → Type 0
-Reports held losses.Nothing list = Unit
-Reports held (losses.Report words) list = (0 < words) × (words ≤ length list)
-Reports held (losses.Refused n) list = n ≡ 12 → length list < held
+abbrev pub Reports : (held : ℕ) → Result (Option ℕ) Refusal → (list : List ℕ) → Type 0
+Reports held (Ok None) list = Unit
+Reports held (Ok (Some words)) list = (0 < words) × (words ≤ length list)
+Reports held (Err e) list = rules.number_of e ≡ 12 → length list < held
 
--- the first of the refusals 1 to 6 whose test holds for a call, else 0: ok says that the head is in range; the other arguments are capacity, the lengths of
--- the areas, and the latest reading
+-- the first of the refusals 1 to 6 whose test holds for a call, Ok if none does: ok says that the head is in range; the
+-- other arguments are capacity, the lengths of the areas, and the latest reading
 module _ (ok : Bool) (capacity slots payloads history : ℕ) (latest : ℤ) (t : Lent) where
-  abbrev pub early_by : Call → ℕ
+  abbrev pub early_by : Call → Result Unit Refusal
   early_by (calls.Data time number message location stamp) =
       first_refusal (push_rules ok capacity slots payloads time latest (packet number message location stamp) (length t.payload))
   early_by (calls.Pop time) = first_refusal (pop_rules ok capacity slots payloads time latest)
@@ -113,7 +111,7 @@ module _ (ok : Bool) (capacity slots payloads history : ℕ) (latest : ℤ) (t :
   early_by calls.Clear = first_refusal (head_rules ok)
 
 -- by what the station knows; a receiver that it made is never refused 1
-abbrev pub early_refusal : Desk → Lent → Call → ℕ
+abbrev pub early_refusal : Desk → Lent → Call → Result Unit Refusal
 early_refusal d t c = early_by true d.capacity d.slots d.payloads d.history d.latest t c
 
 -- the later refusals of each call
@@ -128,8 +126,8 @@ Later (calls.Clock time stamp) n = n ≡ 14
 Later calls.Clear n = ⊥
 
 -- a call is refused by 1 to 6 just if a test holds, else by none or by a later number of its own; and a refusal never has the number 0
-pub record Refuses (earlier : ℕ) (c : Call) (a : Answer) : Type 0 where
-  pub tested : (refusal_in a ≡ earlier) ⊎ ((earlier ≡ 0) × Later c (refusal_in a))
+pub record Refuses (earlier : Result Unit Refusal) (c : Call) (a : Answer) : Type 0 where
+  pub tested : (refused_in a ≡ earlier) ⊎ ((earlier ≡ Ok tt) × Later c (refusal_in a))
   pub numbered : (line_of a []).word ≡ paper.refused → 0 < refusal_in a
 
 -- what an answer says is so, with the output and the list as they are after it
@@ -144,17 +142,16 @@ Says l d t c (answers.Clock a) out list = Unit
 Says l d t c (answers.Clear a) out list = Unit
 
 -- the acknowledgement number that an answer tells is the ledger's, after the call, and so is the room that a full ACK tells
-abbrev pub DataAcks : (lrsn : ℕ) → DataAnswer → Type 0
-DataAcks n (datas.Got lrsn recovered) = lrsn ≡ n
-DataAcks n (datas.Light lrsn recovered) = lrsn ≡ n
-DataAcks n (datas.Loss a b) = Unit
-DataAcks n (datas.Refused k) = Unit
-DataAcks n (datas.PacketTooEarly room need) = Unit
+abbrev pub DataAcks : (lrsn : ℕ) → Result DataAnswer Refusal → Type 0
+DataAcks n (Ok (datas.Got lrsn recovered)) = lrsn ≡ n
+DataAcks n (Ok (datas.Light lrsn recovered)) = lrsn ≡ n
+DataAcks n (Ok (datas.Loss a b)) = Unit
+DataAcks n (Err e) = Unit
 
-abbrev pub FullAcks : (lrsn room : ℕ) → FullAckAnswer → Type 0
-FullAcks n m acks.Nothing = Unit
-FullAcks n m (acks.Ack number lrsn mean variance places packets bytes link) = (lrsn ≡ n) × (places ≡ m)
-FullAcks n m (acks.Refused k) = Unit
+abbrev pub FullAcks : (lrsn room : ℕ) → Result (Option FullAck) Refusal → Type 0
+FullAcks n m (Ok None) = Unit
+FullAcks n m (Ok (Some a)) = (a.lrsn ≡ n) × (a.room ≡ m)
+FullAcks n m (Err e) = Unit
 
 abbrev pub Acks : (lrsn room : ℕ) → Answer → Type 0
 Acks n m (answers.Data a) = DataAcks n a
@@ -190,24 +187,26 @@ Stretch step =
     (first : ℕ) (d : Desk) (s : State) → Empty first s → Known d s → (past : List Event) → NoneClear past → Demanded step (opening first d s) past
 
 -- show, asked for a number: the tests are by what the station knows
-abbrev pub show_refusal : Desk → (number : ℕ) → ℕ
+abbrev pub show_refusal : Desk → (number : ℕ) → Result Unit Refusal
 show_refusal d number = first_refusal (show_rules true d.capacity d.slots d.payloads number)
 
 -- its second question, by the refusal and by whether a part was shown
-abbrev pub questioned : (refusal : ℕ) → (shown : Bool) → ShowAnswer
-questioned n shown = cond (eqb n 0) (cond shown shows.Received shows.Other) (shows.Refused n)
+abbrev pub questioned : Result Unit Refusal → (shown : Bool) → Result Bool Refusal
+questioned (Ok _) shown = Ok shown
+questioned (Err e) shown = Err e
 
--- what show shows is the ledger's bytes of a held received place, and they are shown exactly then
-pub record Shows (l : Ledger) (refusal number : ℕ) (payloads : List ℕ) (p : Part) (a : ShowAnswer) : Type 0 where
-  pub found : p.received ≡ true → (i : ℕ) × (i < length l.held) × (number_of l (front_of l + i) ≡ number) × (get_or l.held i lost ≡ received (take p.len (drop p.at payloads)))
-  pub inside : p.received ≡ true → p.at + p.len ≤ length payloads
-  pub shown : refusal ≡ 0 → (i : ℕ) (bytes : List ℕ) → i < length l.held → number_of l (front_of l + i) ≡ number → get_or l.held i lost ≡ received bytes
-      → (p.received ≡ true) × (take p.len (drop p.at payloads) ≡ bytes) × (p.len ≡ length bytes)
-  pub empty : p.received ≡ false → p.len ≡ 0
-  pub answer : a ≡ questioned refusal p.received
+-- what show shows is the ledger's bytes of a held received place, and they are shown exactly then; where there is no
+-- part, what is shown is empty
+pub record Shows (l : Ledger) (refusal : Result Unit Refusal) (number : ℕ) (payloads : List ℕ) (p : Option Part) (a : Result Bool Refusal) : Type 0 where
+  pub found : (q : Part) → p ≡ Some q → (i : ℕ) × (i < length l.held) × (number_of l (front_of l + i) ≡ number) × (get_or l.held i lost ≡ received (take q.len (drop q.at payloads)))
+  pub inside : (q : Part) → p ≡ Some q → q.at + q.len ≤ length payloads
+  pub shown : refusal ≡ Ok tt → (i : ℕ) (bytes : List ℕ) → i < length l.held → number_of l (front_of l + i) ≡ number → get_or l.held i lost ≡ received bytes
+      → (q : Part) × (p ≡ Some q) × (take q.len (drop q.at payloads) ≡ bytes) × (q.len ≡ length bytes)
+  pub empty : p ≡ None → (s r : Bor (List ℕ)) → ShownAt p s r → length r.now ≡ 0
+  pub answer : a ≡ questioned refusal (is_some p)
 
 -- after any calls, of what shows and what answers the second question
-abbrev pub DemandShown : (step : State → Lent → Call → Ended) → (place : State → ℕ → Part) → (question : State → ℕ → ShowAnswer) → Type 0
+abbrev pub DemandShown : (step : State → Lent → Call → Ended) → (place : State → ℕ → Option Part) → (question : State → ℕ → Result Bool Refusal) → Type 0
 DemandShown step place question =
     (first : ℕ) (s : State) (f : Fresh first s) (past : List Event) → NoneClear past → (number : ℕ)
     → let b = book_after step (fresh f) past in

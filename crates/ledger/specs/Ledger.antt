@@ -1,15 +1,14 @@
 -- The ledger of a receiver: what a station would write down that hands in packets and requests and reads the answers. It never looks at head or areas.
 -- A place is a position in the stream, counted 0, 1, 2 and never restarting; place p has the number (first + p) mod 2^31, however often that has wrapped.
-use Rattle.std.specs.Prelude.{Bool, true, false, cond, List, [], ◌∷◌, ◌++◌, map, ℕ, suc, ◌+◌, eqb, length, take, drop, replicate}
+use Rattle.std.specs.Prelude.{Bool, true, false, cond, List, [], ◌∷◌, ◌++◌, map, ℕ, suc, ◌+◌, eqb, length, take, drop, replicate, Result, Ok, Err}
 use Rattle.numbers.specs.Circular.{distance, sum}
 use Rattle.window_report.specs.Drop.{end_from}
 use Rattle.views.specs.Lists.{run_of, changed_in}
+use Rattle.head.specs.declared.refusal.Refusal.{Refusal}
 use Rattle.receiver.specs.declared.data.DataAnswer.{DataAnswer}
 use Rattle.receiver.specs.declared.data.DataAnswer.TheVariants as datas
-use Rattle.receiver.specs.declared.message.MessageAnswer.{MessageAnswer}
-use Rattle.receiver.specs.declared.message.MessageAnswer.TheVariants as messages
-use Rattle.upkeep.specs.declared.request.DropAnswer.{DropAnswer}
-use Rattle.upkeep.specs.declared.request.DropAnswer.TheVariants as drops
+use Rattle.window_pop.specs.declared.pop.PopAnswer.{PopAnswer}
+use Rattle.window_pop.specs.declared.pop.PopAnswer.TheVariants as messages
 use Rattle.step.specs.declared.Call.{Call}
 use Rattle.step.specs.declared.Answer.{Answer}
 use Rattle.step.specs.declared.Answer.TheVariants as answers
@@ -59,12 +58,11 @@ took_in l number bytes recovered =
     holding l (cond recovered (marked l.first (front_of l) number bytes l.held) (l.held ++ (received bytes ∷ [])))
 
 -- a packet, by its answer: `loss` adds the lost places that it names and then the packet
-abbrev pub enter_data : Ledger → ℕ → List ℕ → DataAnswer → Ledger
-enter_data l number bytes (datas.Got lrsn recovered) = took_in l number bytes recovered
-enter_data l number bytes (datas.Light lrsn recovered) = took_in l number bytes recovered
-enter_data l number bytes (datas.Loss a b) = holding l (l.held ++ replicate (distance 31 b a + 1) lost ++ (received bytes ∷ []))
-enter_data l number bytes (datas.Refused n) = l
-enter_data l number bytes (datas.PacketTooEarly room need) = l
+abbrev pub enter_data : Ledger → ℕ → List ℕ → Result DataAnswer Refusal → Ledger
+enter_data l number bytes (Ok (datas.Got lrsn recovered)) = took_in l number bytes recovered
+enter_data l number bytes (Ok (datas.Light lrsn recovered)) = took_in l number bytes recovered
+enter_data l number bytes (Ok (datas.Loss a b)) = holding l (l.held ++ replicate (distance 31 b a + 1) lost ++ (received bytes ∷ []))
+enter_data l number bytes (Err e) = l
 
 -- the first n places leave
 abbrev pub leave : Ledger → ℕ → (Place → Fate) → Ledger
@@ -76,11 +74,11 @@ bytes_of (received bytes) = bytes
 bytes_of given_up = []
 
 -- a pop, by its answer: a message releases as many places as it has packets, `late` discards its range
-abbrev pub enter_pop : Ledger → MessageAnswer → Ledger
-enter_pop l messages.Nothing = l
-enter_pop l (messages.Message time bytes packets) = leave l packets (λ x. released (bytes_of x))
-enter_pop l (messages.Late first end delay) = leave l (distance 31 end first) (λ x. discarded)
-enter_pop l (messages.Refused n) = l
+abbrev pub enter_pop : Ledger → Result PopAnswer Refusal → Ledger
+enter_pop l (Ok messages.Nothing) = l
+enter_pop l (Ok (messages.Message time bytes packets)) = leave l packets (λ x. released (bytes_of x))
+enter_pop l (Ok (messages.Late first end delay)) = leave l (distance 31 end first) (λ x. discarded)
+enter_pop l (Err e) = l
 
 -- a drop request gives up the lost places of its range: 01, both ends are saturating differences from the front's number, at most as many as are held
 abbrev pub gave_up : Place → Place
@@ -94,9 +92,9 @@ given_in from to i xs = changed_in gave_up from to i xs
 abbrev pub end_in : Ledger → ℕ → ℕ
 end_in l number = end_from (number_of l (front_of l)) (length l.held) number
 
-abbrev pub enter_drop : Ledger → ℕ → ℕ → DropAnswer → Ledger
-enter_drop l first last (drops.Gone n) = holding l (given_in (end_in l first) (end_in l (sum 31 last 1)) 0 l.held)
-enter_drop l first last (drops.Refused n) = l
+abbrev pub enter_drop : Ledger → ℕ → ℕ → Result ℕ Refusal → Ledger
+enter_drop l first last (Ok n) = holding l (given_in (end_in l first) (end_in l (sum 31 last 1)) 0 l.held)
+enter_drop l first last (Err e) = l
 
 -- a call with the bytes handed in for it and its answer; reports, ACKs and the clock move no place
 abbrev pub enter : Ledger → Call → List ℕ → Answer → Ledger

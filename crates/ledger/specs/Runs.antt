@@ -1,5 +1,5 @@
 -- Runs: any calls but clear on a fresh receiver, each given what the last left, with the ledger kept beside. `step` is what makes a call: the receiver's, or a wrong one.
-use Rattle.std.specs.Prelude.{◌≡◌, Bool, true, cond, List, [], ◌∷◌, ◌++◌, map, ℕ, ◌+◌, eqb, ℤ, length}
+use Rattle.std.specs.Prelude.{◌≡◌, Bool, true, cond, List, [], ◌∷◌, ◌++◌, map, ℕ, ◌+◌, eqb, ℤ, length, Ok}
 use Rattle.head.specs.Head.{head_ok, made_of}
 use Rattle.step.specs.Step.{State, Lent, Ended}
 use Rattle.step.specs.declared.Call.{Call}
@@ -54,8 +54,7 @@ pub record Fresh (first : ℕ) (s : State) : Type 0 where
   pub latency : ℕ
   pub dropping : Bool
   pub capacity : ℕ
-  pub made : (made_of start latency dropping first capacity).refusal ≡ 0
-  pub head : s.head ≡ (made_of start latency dropping first capacity).head
+  pub made : made_of start latency dropping first capacity ≡ Ok s.head
 
 -- what the station knows when it has made it
 abbrev pub fresh_desk : {first : ℕ} {s : State} → Fresh first s → Desk

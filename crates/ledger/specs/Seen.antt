@@ -1,10 +1,13 @@
 -- What the ledger sees of a call and of its answer: plain cases, one a constructor.
-use Rattle.std.specs.Prelude.{◌≡◌, Bool, true, false, List, [], ℕ, ◌+◌, ◌^◌, ◌<◌, ℤ, take}
+use Rattle.std.specs.Prelude.{◌≡◌, Bool, true, false, List, [], ℕ, ◌+◌, ◌^◌, ◌<◌, ℤ, take, Result, Ok, Err}
 use Rattle.numbers.specs.Circular.{distance}
+use Rattle.head.specs.Rules.{number_of}
+use Rattle.head.specs.declared.refusal.Refusal.{Refusal}
+use Rattle.head.specs.declared.refusal.Refusal.TheVariants.{PacketTooEarly}
 use Rattle.receiver.specs.declared.data.DataAnswer.{DataAnswer}
 use Rattle.receiver.specs.declared.data.DataAnswer.TheVariants as datas
-use Rattle.receiver.specs.declared.message.MessageAnswer.{MessageAnswer}
-use Rattle.receiver.specs.declared.message.MessageAnswer.TheVariants as messages
+use Rattle.window_pop.specs.declared.pop.PopAnswer.{PopAnswer}
+use Rattle.window_pop.specs.declared.pop.PopAnswer.TheVariants as messages
 use Rattle.step.specs.Step.{line_of}
 use Rattle.step.specs.declared.Call.{Call}
 use Rattle.step.specs.declared.Call.TheVariants as calls
@@ -44,11 +47,11 @@ NotClear (calls.Clock time stamp) = Unit
 NotClear calls.Clear = ⊥
 
 -- the bytes that an answer handed out
-abbrev pub pop_bytes : MessageAnswer → List ℕ → List ℕ
-pop_bytes messages.Nothing out = []
-pop_bytes (messages.Message time bytes packets) out = take bytes out
-pop_bytes (messages.Late first end delay) out = []
-pop_bytes (messages.Refused n) out = []
+abbrev pub pop_bytes : Result PopAnswer Refusal → List ℕ → List ℕ
+pop_bytes (Ok messages.Nothing) out = []
+pop_bytes (Ok (messages.Message time bytes packets)) out = take bytes out
+pop_bytes (Ok (messages.Late first end delay)) out = []
+pop_bytes (Err e) out = []
 
 abbrev pub out_bytes : Answer → List ℕ → List ℕ
 out_bytes (answers.Data a) out = []
@@ -61,14 +64,13 @@ out_bytes (answers.Clock a) out = []
 out_bytes (answers.Clear a) out = []
 
 -- how many places an answer entered
-abbrev pub data_places : DataAnswer → ℕ
-data_places (datas.Got lrsn true) = 0
-data_places (datas.Got lrsn false) = 1
-data_places (datas.Light lrsn true) = 0
-data_places (datas.Light lrsn false) = 1
-data_places (datas.Loss a b) = distance 31 b a + 2
-data_places (datas.Refused n) = 0
-data_places (datas.PacketTooEarly room need) = 0
+abbrev pub data_places : Result DataAnswer Refusal → ℕ
+data_places (Ok (datas.Got lrsn true)) = 0
+data_places (Ok (datas.Got lrsn false)) = 1
+data_places (Ok (datas.Light lrsn true)) = 0
+data_places (Ok (datas.Light lrsn false)) = 1
+data_places (Ok (datas.Loss a b)) = distance 31 b a + 2
+data_places (Err e) = 0
 
 abbrev pub places_in : Answer → ℕ
 places_in (answers.Data a) = data_places a
@@ -81,37 +83,33 @@ places_in (answers.Clock a) = 0
 places_in (answers.Clear a) = 0
 
 -- whether a packet came for a place that was lost
-abbrev pub recovers : DataAnswer → Bool
-recovers (datas.Got lrsn recovered) = recovered
-recovers (datas.Light lrsn recovered) = recovered
-recovers (datas.Loss a b) = false
-recovers (datas.Refused n) = false
-recovers (datas.PacketTooEarly room need) = false
+abbrev pub recovers : Result DataAnswer Refusal → Bool
+recovers (Ok (datas.Got lrsn recovered)) = recovered
+recovers (Ok (datas.Light lrsn recovered)) = recovered
+recovers (Ok (datas.Loss a b)) = false
+recovers (Err e) = false
 
 -- whether it came in order
-abbrev pub appends : DataAnswer → Bool
-appends (datas.Got lrsn true) = false
-appends (datas.Got lrsn false) = true
-appends (datas.Light lrsn true) = false
-appends (datas.Light lrsn false) = true
-appends (datas.Loss a b) = false
-appends (datas.Refused n) = false
-appends (datas.PacketTooEarly room need) = false
+abbrev pub appends : Result DataAnswer Refusal → Bool
+appends (Ok (datas.Got lrsn true)) = false
+appends (Ok (datas.Got lrsn false)) = true
+appends (Ok (datas.Light lrsn true)) = false
+appends (Ok (datas.Light lrsn false)) = true
+appends (Ok (datas.Loss a b)) = false
+appends (Err e) = false
 
 -- whether it came after a gap, and that the gap named is from a to b
-abbrev pub is_loss : DataAnswer → Bool
-is_loss (datas.Got lrsn recovered) = false
-is_loss (datas.Light lrsn recovered) = false
-is_loss (datas.Loss a b) = true
-is_loss (datas.Refused n) = false
-is_loss (datas.PacketTooEarly room need) = false
+abbrev pub is_loss : Result DataAnswer Refusal → Bool
+is_loss (Ok (datas.Got lrsn recovered)) = false
+is_loss (Ok (datas.Light lrsn recovered)) = false
+is_loss (Ok (datas.Loss a b)) = true
+is_loss (Err e) = false
 
-abbrev pub LossIs : DataAnswer → ℕ → ℕ → Type 0
-LossIs (datas.Got lrsn recovered) first last = Unit
-LossIs (datas.Light lrsn recovered) first last = Unit
-LossIs (datas.Loss a b) first last = (a ≡ first) × (b ≡ last)
-LossIs (datas.Refused n) first last = Unit
-LossIs (datas.PacketTooEarly room need) first last = Unit
+abbrev pub LossIs : Result DataAnswer Refusal → ℕ → ℕ → Type 0
+LossIs (Ok (datas.Got lrsn recovered)) first last = Unit
+LossIs (Ok (datas.Light lrsn recovered)) first last = Unit
+LossIs (Ok (datas.Loss a b)) first last = (a ≡ first) × (b ≡ last)
+LossIs (Err e) first last = Unit
 
 -- an answer is of its call's kind
 abbrev pub kind_of : Call → ℕ
@@ -148,10 +146,24 @@ reading_in calls.Clear z = z
 abbrev pub refusal_in : Answer → ℕ
 refusal_in a = (line_of a []).refusal
 
+-- the refusal itself, Ok if the answer is none
+abbrev pub refusal_of : {A : Type 0} → Result A Refusal → Result Unit Refusal
+refusal_of (Ok a) = Ok tt
+refusal_of (Err e) = Err e
+
+abbrev pub refused_in : Answer → Result Unit Refusal
+refused_in (answers.Data a) = refusal_of a
+refused_in (answers.Pop a) = refusal_of a
+refused_in (answers.Report a) = refusal_of a
+refused_in (answers.FullAck a) = refusal_of a
+refused_in (answers.Ack2 a) = refusal_of a
+refused_in (answers.Drop a) = refusal_of a
+refused_in (answers.Clock a) = refusal_of a
+refused_in (answers.Clear a) = refusal_of a
+
 -- 8 never comes without its two numbers, and they are these
-abbrev pub EarlyIs : DataAnswer → ℕ → ℕ → Type 0
-EarlyIs (datas.Got lrsn recovered) room need = Unit
-EarlyIs (datas.Light lrsn recovered) room need = Unit
-EarlyIs (datas.Loss a b) room need = Unit
-EarlyIs (datas.Refused n) room need = n ≡ 8 → ⊥
-EarlyIs (datas.PacketTooEarly r n) room need = (r ≡ room) × (n ≡ need)
+abbrev pub EarlyIs : Result DataAnswer Refusal → ℕ → ℕ → Type 0
+EarlyIs (Ok (datas.Got lrsn recovered)) room need = Unit
+EarlyIs (Ok (datas.Light lrsn recovered)) room need = Unit
+EarlyIs (Ok (datas.Loss a b)) room need = Unit
+EarlyIs (Err e) room need = number_of e ≡ 8 → e ≡ PacketTooEarly room need

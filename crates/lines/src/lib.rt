@@ -1,189 +1,189 @@
-// The lines of the trace: 01, "Trace, mark DLT", "After the record's number (from 1) a line has ..". A function for each call's answer writes
-// the whole line at the cursor and answers the cursor behind it; `nth` is the record's number. Each needs room: only the trace calls them.
+// The lines of the trace: 01, "Trace, mark DLT", "After the record's number (from 1) a line has ..". A function for
+// each call's answer writes the whole line at the cursor and answers the cursor behind it; `nth` is the record's
+// number. Each needs room: only the trace calls them.
 #![tactic(auto)]
 
-ghost use Rattle.std.specs.Prelude.{◌≡◌, [], ◌+◌, ◌*◌, ◌≤◌, min, length};
-ghost use Rattle.head.specs.Paper.{refused_by};
+ghost use Rattle.std.specs.Prelude.{◌≡◌, ◌+◌, ◌*◌, ◌≤◌, length};
+ghost use Rattle.head.specs.Paper.{refused_line};
 ghost use Rattle.receiver.specs.Paper.{data_line, message_line};
 ghost use Rattle.feedback.specs.Paper.{loss_line, full_ack_line, rtt_line, clock_line};
 ghost use Rattle.upkeep.specs.Paper.{drop_line, clear_line};
 ghost use Rattle.shapes.specs.Ready.{Wrote};
 ghost use Rattle.lines.specs.Lines.{line_bytes, end_bytes, bad_bytes};
 
-use feedback::acking::{FullAckAnswer, RttAnswer};
-use feedback::loss::LossAnswer;
+use acks::rtt::Rtt;
+use feedback::acking::FullAck;
 use feedback::sync::ClockAnswer;
+use head::refusal::Refusal;
 use receiver::data::DataAnswer;
 use receiver::message::MessageAnswer;
-use shapes::part::flag;
+use shapes::part::Value;
 use shapes::{line, part, tail};
-use upkeep::request::{ClearAnswer, DropAnswer};
 
-// A refusal without values; 0 is none, and has no number.
-fn refused(out: &mut [u8], at: usize, nth: u64, n: u32) -> usize
+// A refusal's number, and its values if it has some.
+fn refused(out: &mut [u8], at: usize, nth: u64, refusal: Refusal) -> usize
     requires { at + 256 ≤ length out.old }
-    ensures { Wrote out.old at (line_bytes nth (refused_by n [])) 256 result out.new }
+    ensures { Wrote out.old at (line_bytes nth (refused_line refusal)) 256 result out.new }
 {
-    if n == 0 {
-        return line::bare(out, at, nth, b"refused");
+    let number = Value::from(refusal.number());
+    match refusal {
+        Refusal::PacketTooEarly { room, need } => {
+            let list = [number, Value::from(room), Value::from(need)];
+            line::values(out, at, nth, b"refused", &list)
+        }
+        _ => line::values(out, at, nth, b"refused", &[number]),
     }
-    line::one(out, at, nth, b"refused", n as u64)
 }
 
-pub fn data_line(out: &mut [u8], at: usize, nth: u64, answer: DataAnswer) -> usize
+pub fn data_line(out: &mut [u8], at: usize, nth: u64, answer: Result<DataAnswer, Refusal>) -> usize
     requires { at + 256 ≤ length out.old }
     ensures { Wrote out.old at (line_bytes nth (data_line answer)) 256 result out.new }
 {
     match answer {
-        DataAnswer::Got { lrsn, recovered } => {
-            line::two(out, at, nth, b"got", lrsn as u64, flag(recovered))
+        Ok(DataAnswer::Got { lrsn, recovered }) => {
+            let list = [Value::from(lrsn), Value::from(recovered)];
+            line::values(out, at, nth, b"got", &list)
         }
-        DataAnswer::Light { lrsn, recovered } => {
-            line::two(out, at, nth, b"light", lrsn as u64, flag(recovered))
+        Ok(DataAnswer::Light { lrsn, recovered }) => {
+            let list = [Value::from(lrsn), Value::from(recovered)];
+            line::values(out, at, nth, b"light", &list)
         }
-        DataAnswer::Loss { first, last } => {
-            line::two(out, at, nth, b"loss", first as u64, last as u64)
+        Ok(DataAnswer::Loss { first, last }) => {
+            let list = [Value::from(first), Value::from(last)];
+            line::values(out, at, nth, b"loss", &list)
         }
-        DataAnswer::Refused(n) => refused(out, at, nth, n),
-        DataAnswer::PacketTooEarly { room, need } => {
-            line::three(out, at, nth, b"refused", 8, room as u64, need as u64)
-        }
+        Err(refusal) => refused(out, at, nth, refusal),
     }
 }
 
-fn wider(z: i32) -> i64
-    ensures { result ≡ z }
-{
-    z as i64
-}
-
-pub fn message_line(out: &mut [u8], at: usize, nth: u64, answer: MessageAnswer) -> usize
+pub fn message_line(
+    out: &mut [u8],
+    at: usize,
+    nth: u64,
+    answer: Result<MessageAnswer, Refusal>,
+) -> usize
     requires { at + 256 ≤ length out.old }
     ensures { Wrote out.old at (line_bytes nth (message_line answer)) 256 result out.new }
 {
     match answer {
-        MessageAnswer::Nothing => line::bare(out, at, nth, b"none"),
-        MessageAnswer::Message {
-            time,
-            bytes,
-            packets,
-        } => line::whole_two(out, at, nth, b"message", time, bytes as u64, packets as u64),
-        MessageAnswer::Late { first, end, delay } => {
-            line::two_whole(
-                out,
-                at,
-                nth,
-                b"late",
-                first as u64,
-                end as u64,
-                wider(delay),
-            )
+        Ok(MessageAnswer::Nothing) => line::values(out, at, nth, b"none", &[]),
+        Ok(
+            MessageAnswer::Message {
+                time,
+                bytes,
+                packets,
+            },
+        ) => {
+            let list = [Value::from(time), Value::from(bytes), Value::from(packets)];
+            line::values(out, at, nth, b"message", &list)
         }
-        MessageAnswer::Refused(n) => refused(out, at, nth, n),
+        Ok(MessageAnswer::Late { first, end, delay }) => {
+            let list = [Value::from(first), Value::from(end), Value::from(delay)];
+            line::values(out, at, nth, b"late", &list)
+        }
+        Err(refusal) => refused(out, at, nth, refusal),
     }
 }
 
-fn smaller(a: usize, b: usize) -> usize
-    ensures { result ≡ min a b }
-{
-    if a < b { a } else { b }
-}
-
 // The words of a report are the first of the lent list.
-pub fn loss_line(out: &mut [u8], at: usize, nth: u64, answer: LossAnswer, list: &[u32]) -> usize
+pub fn loss_line(
+    out: &mut [u8],
+    at: usize,
+    nth: u64,
+    answer: Result<Option<usize>, Refusal>,
+    list: &[u32],
+) -> usize
     requires { at + (256 + 21 * length list.now) ≤ length out.old }
     ensures { Wrote out.old at (line_bytes nth (loss_line answer list.now)) (256 + 21 * length list.now) result out.new }
 {
     match answer {
-        LossAnswer::Nothing => line::bare(out, at, nth, b"none"),
-        LossAnswer::Report { words } => {
-            let n = smaller(words, list.len());
-            line::report(out, at, nth, list, n)
-        }
-        LossAnswer::Refused(n) => refused(out, at, nth, n),
+        Ok(None) => line::values(out, at, nth, b"none", &[]),
+        Ok(Some(words)) => line::report(out, at, nth, list, words.min(list.len())),
+        Err(refusal) => refused(out, at, nth, refusal),
     }
 }
 
-pub fn full_ack_line(out: &mut [u8], at: usize, nth: u64, answer: FullAckAnswer) -> usize
+pub fn full_ack_line(
+    out: &mut [u8],
+    at: usize,
+    nth: u64,
+    answer: Result<Option<FullAck>, Refusal>,
+) -> usize
     requires { at + 256 ≤ length out.old }
     ensures { Wrote out.old at (line_bytes nth (full_ack_line answer)) 256 result out.new }
 {
     match answer {
-        FullAckAnswer::Nothing => line::bare(out, at, nth, b"none"),
-        FullAckAnswer::Ack {
-            number,
-            lrsn,
-            mean,
-            variance,
-            room,
-            packet_receive_rate,
-            estimated_link_capacity,
-            data_receive_rate,
-        } => line::ack(
-            out,
-            at,
-            nth,
-            b"ack",
-            number as u64,
-            lrsn as u64,
-            mean as u64,
-            variance as u64,
-            room as u64,
-            packet_receive_rate,
-            estimated_link_capacity,
-            data_receive_rate,
-        ),
-        FullAckAnswer::Refused(n) => refused(out, at, nth, n),
+        Ok(None) => line::values(out, at, nth, b"none", &[]),
+        Ok(Some(ack)) => {
+            let list = [
+                Value::from(ack.number),
+                Value::from(ack.lrsn),
+                Value::from(ack.mean),
+                Value::from(ack.variance),
+                Value::from(ack.room),
+                Value::from(ack.packet_receive_rate),
+                Value::from(ack.estimated_link_capacity),
+                Value::from(ack.data_receive_rate),
+            ];
+            line::values(out, at, nth, b"ack", &list)
+        }
+        Err(refusal) => refused(out, at, nth, refusal),
     }
 }
 
-pub fn ack2_line(out: &mut [u8], at: usize, nth: u64, answer: RttAnswer) -> usize
+pub fn ack2_line(out: &mut [u8], at: usize, nth: u64, answer: Result<Option<Rtt>, Refusal>) -> usize
     requires { at + 256 ≤ length out.old }
     ensures { Wrote out.old at (line_bytes nth (rtt_line answer)) 256 result out.new }
 {
     match answer {
-        RttAnswer::Nothing => line::bare(out, at, nth, b"none"),
-        RttAnswer::Rtt { mean, variance } => {
-            line::two(out, at, nth, b"rtt", mean as u64, variance as u64)
+        Ok(None) => line::values(out, at, nth, b"none", &[]),
+        Ok(Some(rtt)) => {
+            let list = [Value::from(rtt.mean), Value::from(rtt.variance)];
+            line::values(out, at, nth, b"rtt", &list)
         }
-        RttAnswer::Refused(n) => refused(out, at, nth, n),
+        Err(refusal) => refused(out, at, nth, refusal),
     }
 }
 
-pub fn drop_line(out: &mut [u8], at: usize, nth: u64, answer: DropAnswer) -> usize
+pub fn drop_line(out: &mut [u8], at: usize, nth: u64, answer: Result<usize, Refusal>) -> usize
     requires { at + 256 ≤ length out.old }
     ensures { Wrote out.old at (line_bytes nth (drop_line answer)) 256 result out.new }
 {
     match answer {
-        DropAnswer::Gone(count) => line::one(out, at, nth, b"gone", count as u64),
-        DropAnswer::Refused(n) => refused(out, at, nth, n),
+        Ok(count) => line::values(out, at, nth, b"gone", &[Value::from(count)]),
+        Err(refusal) => refused(out, at, nth, refusal),
     }
 }
 
-pub fn clock_line(out: &mut [u8], at: usize, nth: u64, answer: ClockAnswer) -> usize
+pub fn clock_line(
+    out: &mut [u8],
+    at: usize,
+    nth: u64,
+    answer: Result<ClockAnswer, Refusal>,
+) -> usize
     requires { at + 256 ≤ length out.old }
     ensures { Wrote out.old at (line_bytes nth (clock_line answer)) 256 result out.new }
 {
     match answer {
-        ClockAnswer::Nothing => line::bare(out, at, nth, b"none"),
-        ClockAnswer::Adjusted { mean, deviation } => {
-            line::whole_one(out, at, nth, b"adjusted", wider(mean), deviation as u64)
+        Ok(ClockAnswer::Nothing) => line::values(out, at, nth, b"none", &[]),
+        Ok(ClockAnswer::Adjusted { mean, deviation }) => {
+            let list = [Value::from(mean), Value::from(deviation)];
+            line::values(out, at, nth, b"adjusted", &list)
         }
-        ClockAnswer::Unsteady {
-            deviation,
-            variance: _,
-        } => line::one(out, at, nth, b"unsteady", deviation as u64),
-        ClockAnswer::Refused(n) => refused(out, at, nth, n),
+        Ok(ClockAnswer::Unsteady { deviation, .. }) => {
+            line::values(out, at, nth, b"unsteady", &[Value::from(deviation)])
+        }
+        Err(refusal) => refused(out, at, nth, refusal),
     }
 }
 
-pub fn clear_line(out: &mut [u8], at: usize, nth: u64, answer: ClearAnswer) -> usize
+pub fn clear_line(out: &mut [u8], at: usize, nth: u64, answer: Result<(), Refusal>) -> usize
     requires { at + 256 ≤ length out.old }
     ensures { Wrote out.old at (line_bytes nth (clear_line answer)) 256 result out.new }
 {
     match answer {
-        ClearAnswer::Cleared => line::bare(out, at, nth, b"clear"),
-        ClearAnswer::Refused(n) => refused(out, at, nth, n),
+        Ok(_) => line::values(out, at, nth, b"clear", &[]),
+        Err(refusal) => refused(out, at, nth, refusal),
     }
 }
 
@@ -200,7 +200,13 @@ pub fn end_line(
     ensures { Wrote out.old at (end_bytes records lrsn seqno0 held) 256 result out.new }
 {
     let p = part::start(out, at, b"end");
-    tail::tail4(out, p, records, lrsn as u64, seqno0 as u64, held as u64)
+    let list = [
+        Value::from(records),
+        Value::from(lrsn),
+        Value::from(seqno0),
+        Value::from(held),
+    ];
+    tail::values(out, p, &list)
 }
 
 // The line of a file that is no trace, or of a record that is none: its offset.
@@ -209,5 +215,5 @@ pub fn bad_line(out: &mut [u8], at: usize, offset: u64) -> usize
     ensures { Wrote out.old at (bad_bytes offset) 256 result out.new }
 {
     let p = part::start(out, at, b"bad");
-    tail::tail1(out, p, offset)
+    tail::values(out, p, &[Value::from(offset)])
 }

@@ -5,8 +5,8 @@ use native.Mathlib.Nat.{mod-mod, add-mod-mod, mod-add-mod, add-mul-mod_self_righ
 use borrow.Author.Tests.{lt-leb}
 use Rattle.numbers.proofs.Flags.{and_left, and_right, by-order, and-false}
 use Rattle.numbers.specs.Order.{OneOf, first, second, third, order}
-use Rattle.numbers.specs.declared.seq.Order.{Order}
-use Rattle.numbers.specs.declared.seq.Order.TheVariants.{Before, Equal, After}
+use Rattle.std.specs.declared.cmp.Ordering.{Ordering}
+use Rattle.std.specs.declared.cmp.Ordering.TheVariants.{Less, Equal, Greater}
 use Rattle.numbers.specs.Circular.{distance, equal, after, before, saturating, sum}
 
 -- b, then n, then what b lacks of a whole turn: n is left
@@ -211,26 +211,26 @@ within w n s h b f =
     absurd (omega arith))
 
 -- an order tells its test
-abbrev Told : Order → Bool → Bool → Type 0
+abbrev Told : Ordering → Bool → Bool → Type 0
 Told Equal x y = x ≡ true
-Told After x y = (x ≡ false) × (y ≡ true)
-Told Before x y = not (x || y) ≡ true
+Told Greater x y = (x ≡ false) × (y ≡ true)
+Told Less x y = not (x || y) ≡ true
 
-order-tells : (x y : Bool) (o : Order) → cond x Equal (cond y After Before) ≡ o → Told o x y
-order-tells true y o e = subst (λ (o : Order). Told o true y) e refl
-order-tells false true o e = subst (λ (o : Order). Told o false true) e (refl, refl)
-order-tells false false o e = subst (λ (o : Order). Told o false false) e refl
+order-tells : (x y : Bool) (o : Ordering) → cond x Equal (cond y Greater Less) ≡ o → Told o x y
+order-tells true y o e = subst (λ (o : Ordering). Told o true y) e refl
+order-tells false true o e = subst (λ (o : Ordering). Told o false true) e (refl, refl)
+order-tells false false o e = subst (λ (o : Ordering). Told o false false) e refl
 
-pub order-before : (w a b : ℕ) → order w a b ≡ Before → before w a b ≡ true
+pub order-before : (w a b : ℕ) → order w a b ≡ Less → before w a b ≡ true
 unfolding order before
-order-before w a b e = order-tells (equal w a b) (after w a b) Before e
+order-before w a b e = order-tells (equal w a b) (after w a b) Less e
 
 pub order-equal : (w a b : ℕ) → order w a b ≡ Equal → distance w a b ≡ 0
 unfolding order equal
 order-equal w a b e = eqb-true (distance w a b) 0 (order-tells (equal w a b) (after w a b) Equal e)
 
-pub order-after : (w a b : ℕ) → order w a b ≡ After → (0 < distance w a b) × (distance w a b < 2 ^ (w - 1))
+pub order-after : (w a b : ℕ) → order w a b ≡ Greater → (0 < distance w a b) × (distance w a b < 2 ^ (w - 1))
 unfolding order after
 order-after w a b e =
-    let t = (order-tells (equal w a b) (after w a b) After e).1 in
+    let t = (order-tells (equal w a b) (after w a b) Greater e).1 in
     (ltb-true 0 (distance w a b) (and_left _ _ t), ltb-true (distance w a b) (2 ^ (w - 1)) (and_right (ltb 0 (distance w a b)) _ t))

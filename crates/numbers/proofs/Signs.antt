@@ -1,7 +1,9 @@
 -- Signed differences, remainders of signed numbers, and clamping. Assumes nothing.
-use Rattle.std.proofs.Common.{◌≡◌, ℕ, ◌+◌, ◌-◌, ◌^◌, ◌<◌, ◌≤◌, true, false, ℤ, pos, negsuc, ◌-ℤ◌, nat_abs, sym, refl, ◌∙◌, mod-eq_of_lt, arith, w32, w64, SFits, ltb-true, le-ltb, lt-ltb, le-leb}
+use Rattle.std.proofs.Common.{◌≡◌, ℕ, suc, min, ◌+◌, ◌-◌, ◌^◌, ◌<◌, ◌≤◌, true, false, ℤ, pos, negsuc, ◌-ℤ◌, nat_abs, sym, refl, ◌∙◌, mod-eq_of_lt, arith, w32, w64, SFits, ltb-true, le-ltb, lt-ltb, le-leb}
 use lib.Signed.{mag, lt_z}
-use mir.Facts.{sfits_widen}
+use mir.Facts.{sfits_widen, to_z_pos}
+use mir.Val.{to_z}
+use Rattle.std.specs.Int.{saturate_signed}
 use Rattle.numbers.specs.Instants.{least, most, clamp, interval_of, since_time, is_reading}
 use Rattle.numbers.specs.Circular.{distance, signed, difference, wrap}
 use Rattle.numbers.proofs.Halves.{above, below, apart, same, size, above--, below--, lt-false, halves_lt, halves-not-lt}
@@ -19,6 +21,13 @@ signed_high w d h = rw (le-ltb d (2 ^ (w - 1)) h)
 
 turn-less : (w n d : ℕ) → n + d + 1 ≡ 2 ^ w → pos d -ℤ pos (2 ^ w) ≡ negsuc n
 turn-less w n d e = same (rw above-- (omega arith)) (rw below-- (omega arith))
+
+-- as the machine reads 32 bits with a sign
+pub machine-signed : (d : ℕ) → d < 2 ^ 32 → to_z w32 d ≡ signed 32 d
+machine-signed d h =
+    by-order d (2 ^ 31)
+    (λ k. to_z_pos w32 k ∙ sym (signed_low 32 d k))
+    (λ k. rw (le-ltb d (2 ^ 31) k) (sym (signed_high 32 d k ∙ turn-less 32 (2 ^ 32 - suc d) d (omega arith))))
 
 -- it lies in -2^(w-1)..2^(w-1)-1
 pub signed_range : (w d : ℕ) → 0 < w → d < 2 ^ w → mag (signed w d) < 2 ^ (w - 1)
@@ -73,6 +82,17 @@ clamp-high z h =
 pub clamp-in : (z : ℤ) → above z < 2 ^ 31 → below z ≤ 2 ^ 31 → clamp z ≡ z
 unfolding clamp
 clamp-in z h k = rw (halves-not-lt z least (omega (arith, apart z)), halves-not-lt most z (omega (arith, apart z)))
+
+-- what is cut to 64 bits before is the same cut to 32
+pub clamp-saturated : (z : ℤ) → clamp (saturate_signed w64 z) ≡ clamp z
+clamp-saturated (pos n) =
+    by-order n 9223372036854775807
+    (λ h. let e : min n 9223372036854775807 ≡ n = omega arith in rw e)
+    (λ h. clamp-high (pos (min n 9223372036854775807)) (omega arith) ∙ sym (clamp-high (pos n) (omega arith)))
+clamp-saturated (negsuc n) =
+    by-order n 9223372036854775807
+    (λ h. let e : min n 9223372036854775807 ≡ n = omega arith in rw e)
+    (λ h. clamp-low (negsuc (min n 9223372036854775807)) (omega arith) ∙ sym (clamp-low (negsuc n) (omega arith)))
 
 -- a reading's size
 pub reading-size : (z : ℤ) → is_reading z ≡ true → (below z ≡ 0) × (nat_abs z < 2 ^ 60)

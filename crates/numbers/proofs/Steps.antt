@@ -1,43 +1,27 @@
 -- What the code of this crate does at each return, as laws over plain numbers; the proof files hand them to `search`. Assumes nothing.
-use Rattle.std.proofs.Common.{◌≡◌, ℕ, ◌+◌, ◌-◌, ◌%◌, ◌^◌, ◌<◌, ◌≤◌, true, false, ◌&&◌, T, ltb, leb, ℤ, pos, negsuc, ◌-ℤ◌, nat_abs, sym, refl, ap, ◌∙◌, mod-lt, add_comm, arith, pow_pos, w32, w64, Fits, SFits, rules}
-use native.Mathlib.Nat.{add-mod-mod}
-use lib.Dec.{leb-zero}
-use lib.Signed.{mag, lt_z, le_z, non_neg}
-use lib.Pow.{mod-mod-pow}
-use Rattle.numbers.specs.Circular.{distance, after, before, saturating, sum, wrap}
+use Rattle.std.proofs.Common.{◌≡◌, ℕ, ◌+◌, ◌-◌, ◌%◌, ◌^◌, ◌<◌, ◌≤◌, true, false, ◌&&◌, T, ltb, leb, ℤ, pos, negsuc, ◌-ℤ◌, nat_abs, sym, refl, ap, ◌∙◌, mod-lt, mod-eq_of_lt, arith, pow_pos, w32, w64, Fits, SFits, rules}
+use lib.Signed.{lt_z, non_neg}
+use mir.Val.{to_z}
+use Rattle.std.specs.Int.{int_rem_euclid, saturate_signed}
+use Rattle.numbers.specs.Circular.{distance, after, before, saturating, wrap, signed, difference}
 use Rattle.numbers.specs.Order.{order}
-use Rattle.numbers.specs.Instants.{interval_of, since_time}
-use Rattle.numbers.specs.declared.seq.Order.TheVariants.{Before, Equal, After}
-use Rattle.numbers.proofs.Flags.{impossible}
+use Rattle.numbers.specs.Instants.{clamp, interval_of, since_time}
+use Rattle.std.specs.declared.cmp.Ordering.TheVariants.{Less, Equal, Greater}
 use Rattle.numbers.proofs.Halves.{same, not_negative, above--, below--}
-use Rattle.numbers.proofs.Signs.{clamp-in, interval-above}
-use Rattle.numbers.proofs.Circle.{distance_is, equal-at, equal-not, after-at, after-not, before-test, saturating-near, saturating-far}
-
--- a remainder at j + w bits, taken at w bits
-pub narrow-distance : (j w a b s : ℕ) → (s + b) % 2 ^ (j + w) ≡ a → s % 2 ^ w ≡ distance w a b
-narrow-distance j w a b s e =
-    sym
-    (distance_is w a b (s % 2 ^ w) (mod-lt s (pow_pos w))
-    (add-mod-mod b s (2 ^ w)
-    ∙ ap (λ (x : ℕ). x % 2 ^ w) (add_comm b s)
-    ∙ sym (mod-mod-pow (s + b) j w)
-    ∙ ap (λ (x : ℕ). x % 2 ^ w) e))
-
-pub narrow-sum : (j w a n : ℕ) → (a + n) % 2 ^ (j + w) % 2 ^ w ≡ sum w a n
-unfolding sum
-narrow-sum j w a n = mod-mod-pow (a + n) j w
+use Rattle.numbers.proofs.Signs.{machine-signed, clamp-saturated, clamp-in, interval-above}
+use Rattle.numbers.proofs.Circle.{equal-at, equal-not, after-at, after-not, before-test, saturating-near, saturating-far}
 
 pub is-equal : (w a b : ℕ) {d : ℕ} → d ≡ distance w a b → d ≡ 0 → Equal ≡ order w a b
 unfolding order
 is-equal w a b e z = rw (equal-at w a b (sym e ∙ z))
 
-pub is-after : (w a b : ℕ) {d : ℕ} → d ≡ distance w a b → (d ≡ 0 → ⊥) → d < 2 ^ (w - 1) → After ≡ order w a b
+pub is-after : (w a b : ℕ) {d : ℕ} → d ≡ distance w a b → (d ≡ 0 → ⊥) → d < 2 ^ (w - 1) → Greater ≡ order w a b
 unfolding order
 is-after w a b e nz h =
     let p : 0 < distance w a b = omega (arith, nz) in
     rw (equal-not w a b p, after-at w a b p (omega arith))
 
-pub is-before : (w a b : ℕ) {d : ℕ} → d ≡ distance w a b → (d ≡ 0 → ⊥) → 2 ^ (w - 1) ≤ d → Before ≡ order w a b
+pub is-before : (w a b : ℕ) {d : ℕ} → d ≡ distance w a b → (d ≡ 0 → ⊥) → 2 ^ (w - 1) ≤ d → Less ≡ order w a b
 unfolding order
 is-before w a b e nz h = rw (equal-not w a b (omega (arith, nz)), after-not w a b (omega arith))
 
@@ -54,37 +38,21 @@ near w a b e h = e ∙ sym (saturating-near w a b (omega arith))
 pub far : (w a b : ℕ) {d : ℕ} → d ≡ distance w a b → 2 ^ (w - 1) ≤ d → 0 ≡ saturating w a b
 far w a b e h = sym (saturating-far w a b (omega arith))
 
--- a signed number's magnitude, size and remainder, by its sign; z₁ is z as the machine reads it back
-pub mag-above : (z : ℤ) → le_z (pos 0) z ≡ true → mag z ≡ nat_abs z
-mag-above (pos n) e = refl
-mag-above (negsuc n) e = impossible (sym e)
+-- what a signed call answers, r, as the machine reads it back, r₁; so z₁ is z
+pub difference-signed : (a b : ℕ) {d : ℕ} {r r₁ : ℤ} → d ≡ distance 32 a b → d < 2 ^ 32 → r ≡ to_z w32 d → r₁ ≡ r → r₁ ≡ difference 32 a b
+unfolding difference
+difference-signed a b {d} e h p q = q ∙ p ∙ machine-signed d h ∙ ap (signed 32) e
 
-pub mag-below : (z : ℤ) → le_z (pos 0) z ≡ false → mag z + 1 ≡ nat_abs z
-mag-below (pos n) e = impossible (sym (leb-zero n) ∙ e)
-mag-below (negsuc n) e = omega arith
-
-pub mag-fits : {z z₁ : ℤ} {m : ℕ} → m ≡ mag z₁ → z₁ ≡ z → SFits w64 z → Fits w64 (m + 1)
-mag-fits a p f = rw (a, p) (record { fits = omega (arith, f.sfits) })
-
-pub size_above : (z : ℤ) {z₁ z₂ : ℤ} {m : ℕ} → m ≡ mag z₁ → z₁ ≡ z → le_z (pos 0) z₂ ≡ true → z₂ ≡ z → m ≡ nat_abs z
-size_above z a p e q = rw (a, p) (mag-above z (rw q at e))
-
-pub size_below : (z : ℤ) {z₁ z₂ : ℤ} {m : ℕ} → m ≡ mag z₁ → z₁ ≡ z → le_z (pos 0) z₂ ≡ false → z₂ ≡ z → m + 1 ≡ nat_abs z
-size_below z a p e q = rw (a, p) (mag-below z (rw q at e))
-
-pub wrap-above : (w : ℕ) (z : ℤ) {z₁ z₂ : ℤ} {m t : ℕ}
-    → t ≡ 2 ^ w → m ≡ mag z₁ → z₁ ≡ z → le_z (pos 0) z₂ ≡ true → z₂ ≡ z
-    → m % t ≡ wrap w z
+pub wrap-euclid : (z : ℤ) {z₁ r r₁ : ℤ} → r ≡ int_rem_euclid z₁ (pos 4294967296) → z₁ ≡ z → r₁ ≡ r → nat_abs r₁ ≡ wrap 32 z
 unfolding wrap
-wrap-above w (pos n) o a p e q = rw (o, a, p)
-wrap-above w (negsuc n) o a p e q = impossible (sym (rw q at e))
+wrap-euclid (pos n) e p q = rw (q, e, p)
+wrap-euclid (negsuc n) e p q = rw (q, e, p)
 
-pub wrap-below : (w : ℕ) (z : ℤ) {z₁ z₂ : ℤ} {m t u : ℕ}
-    → t ≡ 2 ^ w → u ≡ 2 ^ w - 1 → m ≡ mag z₁ → z₁ ≡ z → le_z (pos 0) z₂ ≡ false → z₂ ≡ z
-    → u - m % t ≡ wrap w z
-unfolding wrap
-wrap-below w (pos n) o v a p e q = impossible (sym (leb-zero n) ∙ rw q at e)
-wrap-below w (negsuc n) o v a p e q = rw (o, v, a, p)
+pub interval-saturated : (begin end : ℤ) {b e s s₁ r r₁ : ℤ}
+    → s ≡ saturate_signed w64 (e -ℤ b) → e ≡ end → b ≡ begin → r ≡ clamp s₁ → s₁ ≡ s → r₁ ≡ r
+    → r₁ ≡ interval_of begin end
+unfolding interval_of
+interval-saturated begin end f p q g i j = rw (j, g, i, f, p, q) (clamp-saturated (end -ℤ begin))
 
 -- since
 interval-self : (z : ℤ) → nat_abs (interval_of z z) ≡ 0
@@ -108,6 +76,6 @@ module _ (now t : ℤ) {n u n₁ u₁ r r₁ : ℤ} (e : lt_z n u ≡ false) (p 
   pub since-fits : Fits w32 (nat_abs r₁)
   since-fits = rw (g, f, p₁, q₁) (record { fits = omega (arith, (interval-above t now (rw (p, q) at e)).1) })
 
-pub ruleset steps = (narrow-distance, narrow-sum, is-equal, is-after, is-before, after-flag, before-flag, near, far, mag-fits, size_above, size_below, wrap-above, wrap-below, rules)
+pub ruleset steps = (is-equal, is-after, is-before, after-flag, before-flag, near, far, difference-signed, wrap-euclid, interval-saturated, rules)
 
 pub ruleset sinces = (since-later, since-on, since-sign, since-fits, rules)

@@ -3,33 +3,27 @@ ghost use Rattle.std.specs.Prelude.{◌≡◌};
 ghost use Rattle.numbers.specs.Circular.{distance, after, before, saturating, sum, successor};
 ghost use Rattle.numbers.specs.Order.{order};
 
-// How a stands to b.
-#[derive(Drop)]
-pub enum Order {
-    Before,
-    Equal,
-    After,
-}
+use std::cmp::Ordering;
 
 // D = (a - b) mod 2^31: the remainder mod 2^32 has it in its low 31 bits.
 pub fn distance(a: u32, b: u32) -> u32
     ensures { result ≡ distance 31 a b }
 {
-    std::num::wrapping_sub_u32(a, b) % 0x8000_0000
+    crate::stamp::distance(a, b) % 0x8000_0000
 }
 
-// Never by comparing a with b: that fails after the wrap.
-pub fn compare(a: u32, b: u32) -> Order
+// How a stands to b: before it, equal or after it. Never by comparing a with b: that fails after the wrap.
+pub fn compare(a: u32, b: u32) -> Ordering
     ensures { result ≡ order 31 a b }
 {
     let ahead = distance(a, b);
     if ahead == 0 {
-        return Order::Equal;
+        return Ordering::Equal;
     }
     if ahead < 0x4000_0000 {
-        return Order::After;
+        return Ordering::Greater;
     }
-    Order::Before
+    Ordering::Less
 }
 
 pub fn is_after(a: u32, b: u32) -> bool
@@ -58,7 +52,7 @@ pub fn saturating(a: u32, b: u32) -> u32
 pub fn sum(a: u32, n: u32) -> u32
     ensures { result ≡ sum 31 a n }
 {
-    std::num::wrapping_add_u32(a, n) % 0x8000_0000
+    a.wrapping_add(n) % 0x8000_0000
 }
 
 pub fn successor(a: u32) -> u32

@@ -8,9 +8,9 @@ use native.Mathlib.Omega.{arith}
 use borrow.Author.Rules.{rules}
 use lib.Dec.{ltb}
 use lib.Ieee.{Float}
-use lib.IntN.{ℤ, pos}
+use lib.IntN.{ℤ}
 use lib.ListN.{set, replicate}
-use Rattle.numbers.specs.declared.instant.Moment.{Moment}
+use Rattle.std.specs.Prelude.{Option}
 use Rattle.clock.specs.declared.base.TimeBase.{TimeBase}
 use Rattle.clock.specs.declared.stats.OnlineStats.{OnlineStats}
 use Rattle.clock.specs.declared.time.SynchronizedRemoteClock.{SynchronizedRemoteClock}
@@ -19,10 +19,7 @@ use Rattle.intervals.specs.declared.rates.Arrivals.{Arrivals}
 use Rattle.intervals.specs.declared.rates.Links.{Links}
 use Rattle.acks.specs.declared.rtt.Rtt.{Rtt}
 use Rattle.window.specs.declared.Window.{Window}
-use Rattle.head.specs.Rules.{then_of}
-use Rattle.head.specs.Head.{made_of}
 use Rattle.head.specs.declared.state.Head.{Head}
-use Rattle.head.specs.declared.state.Made.{Made}
 use Rattle.packing.specs.Words.{whole_of, float_of, flag_of, number_of, moment_of, number_formed, flag_formed, float_formed, moment_formed}
 use Rattle.packing.specs.Packed.{at, sixteen_of, window_of, base_of, stats_of, clock_of, rtt_of, arrivals_of, links_of, history_of, head_of, numbers_formed, first_formed, rates_formed, last_formed, formed, nowhere, unpack_of}
 use Rattle.packing.specs.Puts.{read_numbers}
@@ -58,11 +55,6 @@ test-end ws i n p h g =
     let e : n ≡ 16 = omega arith in
     p ∙ ap (numbers_formed ws i) e
 
--- what making returns beside refusal 15
-pub no-capacity : (m : Made) → m ≡ made_of (pos 0) 0 false 0 0 → m.head ≡ nowhere
-unfolding made_of then_of
-no-capacity m e = rw e
-
 module _ (ws : List ℕ) where
   -- the parts
   pub says-window : {a b c d e : ℕ}
@@ -78,7 +70,7 @@ module _ (ws : List ℕ) where
       → ◌≡◌ {A = OnlineStats} (record { mean = x; squares = y; count = n }) (stats_of ws)
   says-stats a b c = rw (a, b, c)
 
-  pub says-clock : {b : TimeBase} {m : Moment} {s : Bool} {o : OnlineStats}
+  pub says-clock : {b : TimeBase} {m : Option ℤ} {s : Bool} {o : OnlineStats}
       → b ≡ base_of ws → m ≡ moment_of (at ws 10) (at ws 11) → s ≡ flag_of (at ws 12) → o ≡ stats_of ws
       → ◌≡◌ {A = SynchronizedRemoteClock} (record { base = b; last = m; seen = s; stats = o }) (clock_of ws)
   says-clock a b c d = rw (a, b, c, d)
@@ -86,12 +78,12 @@ module _ (ws : List ℕ) where
   pub says-rtt : {a b : ℕ} → a ≡ number_of (at ws 16) → b ≡ number_of (at ws 17) → ◌≡◌ {A = Rtt} (record { mean = a; variance = b }) (rtt_of ws)
   says-rtt a b = rw (a, b)
 
-  pub says-arrivals : {g s : List ℕ} {a n : ℕ} {m : Moment}
+  pub says-arrivals : {g s : List ℕ} {a n : ℕ} {m : Option ℤ}
       → g ≡ sixteen_of ws 18 → s ≡ sixteen_of ws 34 → a ≡ at ws 50 → n ≡ at ws 51 → m ≡ moment_of (at ws 52) (at ws 53)
       → ◌≡◌ {A = Arrivals} (record { gaps = g; sizes = s; at = a; count = n; last = m }) (arrivals_of ws)
   says-arrivals a b c d e = rw (a, b, c, d, e)
 
-  pub says-links : {g : List ℕ} {a n : ℕ} {m : Moment}
+  pub says-links : {g : List ℕ} {a n : ℕ} {m : Option ℤ}
       → g ≡ sixteen_of ws 54 → a ≡ at ws 70 → n ≡ at ws 71 → m ≡ moment_of (at ws 72) (at ws 73)
       → ◌≡◌ {A = Links} (record { gaps = g; at = a; count = n; probe = m }) (links_of ws)
   says-links a b c d = rw (a, b, c, d)
@@ -155,4 +147,4 @@ module _ (ws : List ℕ) where
   unfolding unpack_of
   says-not p e q = rw (sym p ∙ e, q)
 
-pub ruleset says_all = (no-capacity, read-start, read-turn, read-end, test-start, test-turn, test-end, says-window, says-base, says-stats, says-clock, says-rtt, says-arrivals, says-links, says-history, says-head, tests-first, tests-rates, tests-last, tests-all, tests-not, says, says-not, rules)
+pub ruleset says_all = (read-start, read-turn, read-end, test-start, test-turn, test-end, says-window, says-base, says-stats, says-clock, says-rtt, says-arrivals, says-links, says-history, says-head, tests-first, tests-rates, tests-last, tests-all, tests-not, says, says-not, rules)

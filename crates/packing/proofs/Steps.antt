@@ -2,88 +2,61 @@
 -- Assumes nothing.
 use mathlib.Core.Path.{◌≡◌, refl, sym, ◌∙◌, ap}
 use mathlib.Core.Bool.{Bool, true, false}
-use Prim.Native.Nat.{ℕ, ◌-◌, ◌^◌, ◌<◌, ◌≤◌}
+use Prim.Native.Nat.{ℕ, suc, ◌-◌, ◌^◌, ◌<◌, ◌≤◌}
 use native.Mathlib.Nat.{mod-eq_of_lt}
 use native.Mathlib.Omega.{arith}
 use borrow.Author.Rules.{rules}
-use borrow.Author.Tests.{eq-eqb, ne_eqb}
-use lib.Dec.{leb-zero}
+use borrow.Author.Tests.{eq-eqb, ne_eqb, le-ltb}
 use lib.IntN.{ℤ, pos, negsuc, ◌-ℤ◌}
-use lib.Signed.{mag, le_z}
 use mir.Syntax.{w64}
 use mir.Val.{Fits, SFits, to_z, of_z, bool_byte}
-use mir.Facts.{to_z_pos, to_z-of_z}
+use mir.Facts.{to_z_pos}
 use Rattle.numbers.specs.Circular.{wrap}
-use Rattle.numbers.specs.declared.instant.Moment.{Moment}
-use Rattle.numbers.specs.declared.instant.Moment.TheVariants.{Unset, At}
-use Rattle.numbers.proofs.Flags.{impossible}
-use Rattle.numbers.proofs.Halves.{same, in-range, above--, below--}
+use Rattle.std.specs.Prelude.{Option, Some, None}
+use Rattle.numbers.proofs.Flags.{by-order}
+use Rattle.numbers.proofs.Halves.{same, above--, below--}
 use Rattle.numbers.proofs.Signs.{signed_low, signed_high}
 use Rattle.packing.specs.Holds.{Time}
 use Rattle.packing.specs.Words.{word_of, whole_of, flag_word, time_word, moment_of}
 use Rattle.packing.proofs.Floats.{itself, nan-bits, no-nan-bits, quotient-nan, float-tests}
 
--- of_whole, on either side of zero
-pub word-above : (z : ℤ) {z₁ z₂ : ℤ} {m : ℕ} → SFits w64 z → m ≡ mag z₁ → z₁ ≡ z → le_z (pos 0) z₂ ≡ true → z₂ ≡ z → m ≡ word_of z
+-- of_whole and whole
+pub word-cast : (z : ℤ) {z₁ : ℤ} {r : ℕ} → SFits w64 z → r ≡ of_z w64 z₁ → z₁ ≡ z → r ≡ word_of z
 unfolding wrap
-word-above (pos n) f a p e q = rw (a, p) (sym (mod-eq_of_lt (omega (arith, f.sfits))))
-word-above (negsuc n) f a p e q = impossible (sym (rw q at e))
-
-pub word_below : (z : ℤ) {z₁ z₂ : ℤ} {m : ℕ} → SFits w64 z → m ≡ mag z₁ → z₁ ≡ z → le_z (pos 0) z₂ ≡ false → z₂ ≡ z → 18446744073709551615 - m ≡ word_of z
-unfolding wrap
-word_below (pos n) f a p e q = impossible (sym (leb-zero n) ∙ rw q at e)
-word_below (negsuc n) f a p e q =
+word-cast (pos n) f a p = rw (a, p) (sym (mod-eq_of_lt (omega (arith, f.sfits))))
+word-cast (negsuc n) f a p =
     let h : n < 2 ^ 64 = omega (arith, f.sfits) in
-    rw (a, p, mod-eq_of_lt h)
+    rw (a, p, mod-eq_of_lt h) (omega arith)
 
--- whole: below 2^63 the word itself, and from there on as far below -1 as the word lies below 2^64 - 1
-pub whole-low : (w : ℕ) → w < 9223372036854775808 → to_z w64 w ≡ whole_of w
-whole-low w h = to_z_pos w64 h ∙ sym (signed_low 64 w h)
+turn-less : (w : ℕ) → 9223372036854775808 ≤ w → Fits w64 w → pos w -ℤ pos (2 ^ 64) ≡ negsuc (2 ^ 64 - suc w)
+turn-less w lo f = let h = f.fits in same (rw above-- (omega arith)) (rw below-- (omega arith))
 
-module _ (m : ℕ) (h : m < 2 ^ 63) where
-  negated : SFits w64 (pos 0 -ℤ to_z w64 m)
-  negated = rw (to_z_pos w64 h) (record { sfits = in-range (2 ^ 63) (pos 0 -ℤ pos m) (rw above-- (omega arith)) (rw below-- (omega arith)) })
-
-  less_one : pos 0 -ℤ to_z w64 m -ℤ pos 1 ≡ negsuc m
-  less_one = rw (to_z_pos w64 h) (same (rw (above--, above--, below--) (omega arith)) (rw (below--, above--, below--) (omega arith)))
-
-  fitting : SFits w64 (to_z w64 (of_z w64 (pos 0 -ℤ to_z w64 m)) -ℤ pos 1)
-  fitting = rw (to_z-of_z negated, less_one) (record { sfits = h })
-
-  turned : to_z w64 (of_z w64 (to_z w64 (of_z w64 (pos 0 -ℤ to_z w64 m)) -ℤ pos 1)) ≡ negsuc m
-  turned = to_z-of_z fitting ∙ rw (to_z-of_z negated) less_one
-
-module _ (w : ℕ) (lo : 9223372036854775808 ≤ w) where
-  pub negated_fits : SFits w64 (pos 0 -ℤ to_z w64 (18446744073709551615 - w))
-  negated_fits = negated (18446744073709551615 - w) (omega arith)
-
-  pub lessened-fits : SFits w64 (to_z w64 (of_z w64 (pos 0 -ℤ to_z w64 (18446744073709551615 - w))) -ℤ pos 1)
-  lessened-fits = fitting (18446744073709551615 - w) (omega arith)
-
-  turn-less : Fits w64 w → pos w -ℤ pos (2 ^ 64) ≡ negsuc (18446744073709551615 - w)
-  turn-less f = let h = f.fits in same (rw above-- (omega arith)) (rw below-- (omega arith))
-
-  pub whole-high : Fits w64 w → to_z w64 (of_z w64 (to_z w64 (of_z w64 (pos 0 -ℤ to_z w64 (18446744073709551615 - w))) -ℤ pos 1)) ≡ whole_of w
-  whole-high f = turned (18446744073709551615 - w) (omega arith) ∙ sym (signed_high 64 w lo ∙ turn-less f)
+pub whole-cast : (w : ℕ) {r r₁ : ℤ} → Fits w64 w → r ≡ to_z w64 w → r₁ ≡ r → r₁ ≡ whole_of w
+whole-cast w f a p =
+    p
+    ∙ a
+    ∙ by-order w (2 ^ 63)
+    (λ h. to_z_pos w64 h ∙ sym (signed_low 64 w h))
+    (λ h. rw (le-ltb w (2 ^ 63) h) (sym (signed_high 64 w h ∙ turn-less w h f)))
 
 pub flag-byte : (b : Bool) → bool_byte b ≡ flag_word b
 flag-byte true = refl
 flag-byte false = refl
 
 -- moments
-pub time-at : (m : Moment) (t : ℤ) {t₁ : ℤ} {w : ℕ} → m ≡ At t → w ≡ word_of t₁ → t₁ ≡ t → w ≡ time_word m
+pub time-at : (m : Option ℤ) (t : ℤ) {t₁ : ℤ} {w : ℕ} → m ≡ Some t → w ≡ word_of t₁ → t₁ ≡ t → w ≡ time_word m
 time-at m t e p q = rw e (p ∙ ap word_of q)
 
-pub time-holds : (m : Moment) (t : ℤ) → m ≡ At t → SFits w64 t → Time m
+pub time-holds : (m : Option ℤ) (t : ℤ) → m ≡ Some t → SFits w64 t → Time m
 time-holds m t e f = rw e f.sfits
 
-pub unset-holds : (m : Moment) → m ≡ Unset → Time m
+pub unset-holds : (m : Option ℤ) → m ≡ None → Time m
 unset-holds m e = rw e tt
 
-pub moment-at : (s w : ℕ) {z z₁ : ℤ} → s ≡ 1 → z ≡ whole_of w → z₁ ≡ z → At z₁ ≡ moment_of s w
-moment-at s w e p q = rw (eq-eqb s 1 e) (ap At (q ∙ p))
+pub moment-at : (s w : ℕ) {z z₁ : ℤ} → s ≡ 1 → z ≡ whole_of w → z₁ ≡ z → Some z₁ ≡ moment_of s w
+moment-at s w e p q = rw (eq-eqb s 1 e) (ap Some (q ∙ p))
 
-pub moment-unset : (s w : ℕ) → (s ≡ 1 → ⊥) → Unset ≡ moment_of s w
+pub moment-unset : (s w : ℕ) → (s ≡ 1 → ⊥) → None ≡ moment_of s w
 moment-unset s w n = rw (ne_eqb s 1 n)
 
-pub ruleset steps = (word-above, word_below, whole-low, negated_fits, lessened-fits, whole-high, itself, nan-bits, no-nan-bits, quotient-nan, float-tests, flag-byte, time-at, time-holds, unset-holds, moment-at, moment-unset, rules)
+pub ruleset steps = (word-cast, whole-cast, itself, nan-bits, no-nan-bits, quotient-nan, float-tests, flag-byte, time-at, time-holds, unset-holds, moment-at, moment-unset, rules)

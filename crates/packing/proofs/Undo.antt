@@ -12,8 +12,7 @@ use lib.Ieee.{Float, nan, inf, fin, binary64, is_nan, nan_bits, of_bits, to_bits
 use lib.Ieee.Bits.{of_bits-to_bits, to_bits-of_bits, nan_bits_is}
 use lib.IntN.{ℤ}
 use lib.ListN.{length}
-use Rattle.numbers.specs.declared.instant.Moment.{Moment}
-use Rattle.numbers.specs.declared.instant.Moment.TheVariants.{Unset, At}
+use Rattle.std.specs.Prelude.{Option, Some, None}
 use Rattle.numbers.proofs.Flags.{and_left, and_right, by_bool, by-order}
 use Rattle.numbers.proofs.Signs.{signed-congruent, signed-only}
 use Rattle.head.specs.declared.state.Head.{Head}
@@ -34,18 +33,18 @@ flag-back : (b : Bool) → flag_of (flag_word b) ≡ b
 flag-back true = refl
 flag-back false = refl
 
-time-back : (m : Moment) → Time m → moment_of (set_word m) (time_word m) ≡ m
-time-back Unset h = refl
-time-back (At t) h = ap At (whole_back t h)
+time-back : (m : Option ℤ) → Time m → moment_of (set_word m) (time_word m) ≡ m
+time-back None h = refl
+time-back (Some t) h = ap Some (whole_back t h)
 
 -- and its word is formed
 flag-fits : (b : Bool) → flag_formed (flag_word b) ≡ true
 flag-fits true = refl
 flag-fits false = refl
 
-time-fits : (m : Moment) → moment_formed (set_word m) (time_word m) ≡ true
-time-fits Unset = refl
-time-fits (At t) = refl
+time-fits : (m : Option ℤ) → moment_formed (set_word m) (time_word m) ≡ true
+time-fits None = refl
+time-fits (Some t) = refl
 
 double-fits : (x : Float) → Double x → float_formed (bits_of x) ≡ true
 unfolding is_nan to_bits nan_bits

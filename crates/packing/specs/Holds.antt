@@ -1,10 +1,8 @@
 -- What a head holds by its machine types, as far as its words depend on it: a u32 is under 2^32, an i64 has 64 bits, an array sixteen elements, an f64 is one.
-use Rattle.std.specs.Prelude.{◌≡◌, true, List, ℕ, ◌^◌, ◌<◌, T, Float, ℤ, length}
+use Rattle.std.specs.Prelude.{◌≡◌, true, List, ℕ, ◌^◌, ◌<◌, T, Float, ℤ, length, Option, Some, None}
 use Rattle.std.specs.Float.{binary64}
 use Rattle.std.specs.Float.Ieee.{fits}
 use Rattle.std.specs.Int.Signed.{mag}
-use Rattle.numbers.specs.declared.instant.Moment.{Moment}
-use Rattle.numbers.specs.declared.instant.Moment.TheVariants.{Unset, At}
 use Rattle.clock.specs.declared.time.SynchronizedRemoteClock.{SynchronizedRemoteClock}
 use Rattle.acks.specs.declared.history.History.{History}
 use Rattle.intervals.specs.declared.rates.Arrivals.{Arrivals}
@@ -20,9 +18,9 @@ Number n = n < 2 ^ 32
 abbrev pub Whole : ℤ → Type 0
 Whole z = mag z < 2 ^ 63
 
-abbrev pub Time : Moment → Type 0
-Time Unset = Unit {0}
-Time (At t) = Whole t
+abbrev pub Time : Option ℤ → Type 0
+Time None = Unit {0}
+Time (Some t) = Whole t
 
 abbrev pub Numbers : List ℕ → Type 0
 Numbers ns = (length ns ≡ 16) × (numbers_formed ns 0 16 ≡ true)

@@ -10,7 +10,7 @@ use Rattle.intervals.specs.declared.rates.Arrivals.{Arrivals}
 use Rattle.intervals.specs.declared.rates.Links.{Links}
 use Rattle.acks.specs.declared.rtt.Rtt.{Rtt}
 use Rattle.window.specs.declared.Window.{Window}
-use Rattle.head.specs.Head.{unmade}
+use Rattle.head.specs.Head as heads
 use Rattle.head.specs.declared.state.Head.{Head}
 use Rattle.packing.specs.Words.{word_of, whole_of, bits_of, float_of, flag_word, flag_of, number_of, set_word, time_word, moment_of, number_formed, flag_formed, float_formed, moment_formed}
 
@@ -138,7 +138,7 @@ unfoldable pub formed : List ℕ → Bool
 formed ws = first_formed ws && last_formed ws && rates_formed ws
 
 abbrev pub nowhere : Head
-nowhere = unmade
+nowhere = heads.nowhere
 
 unfoldable pub unpack_of : List ℕ → Head
 unpack_of ws = cond (formed ws) (head_of ws) nowhere

@@ -1,10 +1,8 @@
 -- One value as one word of 64 bits, and back.
-use Rattle.std.specs.Prelude.{Bool, ◌&&◌, ◌||◌, not, cond, ℕ, ◌%◌, ◌^◌, eqb, ltb, ℤ, Float}
+use Rattle.std.specs.Prelude.{Bool, ◌&&◌, ◌||◌, not, cond, ℕ, ◌%◌, ◌^◌, eqb, ltb, ℤ, Float, Option, Some, None}
 use Rattle.std.specs.Float.{binary64}
 use Rattle.std.specs.Float.Ieee.{nan_bits, of_bits, to_bits}
 use Rattle.numbers.specs.Circular.{signed, wrap}
-use Rattle.numbers.specs.declared.instant.Moment.{Moment}
-use Rattle.numbers.specs.declared.instant.Moment.TheVariants.{Unset, At}
 
 -- an i64 is its two's complement
 abbrev pub word_of : ℤ → ℕ
@@ -32,16 +30,16 @@ abbrev pub number_of : ℕ → ℕ
 number_of w = w % 2 ^ 32
 
 -- a moment is two words: 0, 0 for unset, 1 and the time for a time
-abbrev pub set_word : Moment → ℕ
-set_word Unset = 0
-set_word (At t) = 1
+abbrev pub set_word : Option ℤ → ℕ
+set_word None = 0
+set_word (Some t) = 1
 
-abbrev pub time_word : Moment → ℕ
-time_word Unset = 0
-time_word (At t) = word_of t
+abbrev pub time_word : Option ℤ → ℕ
+time_word None = 0
+time_word (Some t) = word_of t
 
-abbrev pub moment_of : ℕ → ℕ → Moment
-moment_of set time = cond (eqb set 1) (At (whole_of time)) Unset
+abbrev pub moment_of : ℕ → ℕ → Option ℤ
+moment_of set time = cond (eqb set 1) (Some (whole_of time)) None
 
 -- a word is formed if a value of its kind is packed to it
 abbrev pub number_formed : ℕ → Bool

@@ -1,4 +1,5 @@
-// The head as 79 words, one value each, and back: what crosses the C boundary. 01, "Head and lent areas", in the order of its fields.
+// The head as 79 words, one value each, and back: what crosses the C boundary. 01, "Head and lent areas", in the order
+// of its fields.
 #![tactic(auto)]
 
 pub mod pack;

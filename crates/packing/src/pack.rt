@@ -17,10 +17,8 @@ fn put_sixteen(ws: &mut [u64; 79], at: usize, numbers: [u32; 16])
     requires { at ≤ 63 }
     ensures { (ws.new ≡ put_numbers ws.old at numbers 16) × Numbers numbers }
 {
-    let mut i: usize = 0;
-    while i < 16 {
-        ws[at + i] = words::of_number(numbers[i]);
-        i += 1;
+    for (i, n) in numbers.iter().enumerate() {
+        ws[at + i] = words::of_number(*n);
     }
 }
 
@@ -37,11 +35,10 @@ pub fn put_window(ws: &mut [u64; 79], w: Window)
 pub fn put_base(ws: &mut [u64; 79], k: SynchronizedRemoteClock)
     ensures { (ws.new ≡ put_base ws.old k) × BaseHolds k }
 {
-    let last = k.last;
     ws[8] = words::of_whole(k.base.time);
     ws[9] = words::of_number(k.base.stamp);
-    ws[10] = words::of_set(last);
-    ws[11] = words::of_time(last);
+    ws[10] = words::of_set(k.last);
+    ws[11] = words::of_time(k.last);
 }
 
 pub fn put_stats(ws: &mut [u64; 79], k: SynchronizedRemoteClock)
@@ -63,27 +60,22 @@ fn put_rtt(ws: &mut [u64; 79], t: Rtt)
 fn put_arrivals(ws: &mut [u64; 79], a: Arrivals)
     ensures { (ws.new ≡ put_arrivals ws.old a) × ArrivalsHolds a }
 {
-    let last = a.last;
-    let gaps = a.gaps;
-    let sizes = a.sizes;
-    put_sixteen(ws, 18, gaps);
-    put_sixteen(ws, 34, sizes);
+    put_sixteen(ws, 18, a.gaps);
+    put_sixteen(ws, 34, a.sizes);
     ws[50] = words::of_size(a.at);
     ws[51] = words::of_size(a.count);
-    ws[52] = words::of_set(last);
-    ws[53] = words::of_time(last);
+    ws[52] = words::of_set(a.last);
+    ws[53] = words::of_time(a.last);
 }
 
 fn put_links(ws: &mut [u64; 79], l: Links)
     ensures { (ws.new ≡ put_links ws.old l) × LinksHolds l }
 {
-    let probe = l.probe;
-    let gaps = l.gaps;
-    put_sixteen(ws, 54, gaps);
+    put_sixteen(ws, 54, l.gaps);
     ws[70] = words::of_size(l.at);
     ws[71] = words::of_size(l.count);
-    ws[72] = words::of_set(probe);
-    ws[73] = words::of_time(probe);
+    ws[72] = words::of_set(l.probe);
+    ws[73] = words::of_time(l.probe);
 }
 
 pub fn put_history(ws: &mut [u64; 79], y: History)

@@ -1,6 +1,6 @@
 // Words into the head that they say, part by part. Words that are not formed give a head that every call refuses.
 ghost use Rattle.std.specs.Prelude.{◌≡◌, ◌≤◌};
-ghost use Rattle.packing.specs.Packed.{sixteen_of, numbers_formed, window_of, base_of, stats_of, clock_of, rtt_of, arrivals_of, links_of, history_of, head_of, first_formed, rates_formed, last_formed, formed, nowhere, unpack_of};
+ghost use Rattle.packing.specs.Packed.{sixteen_of, numbers_formed, window_of, base_of, stats_of, clock_of, rtt_of, arrivals_of, links_of, history_of, head_of, first_formed, rates_formed, last_formed, formed, unpack_of};
 
 use crate::words;
 use acks::history::History;
@@ -10,7 +10,6 @@ use clock::stats::OnlineStats;
 use clock::time::SynchronizedRemoteClock;
 use head::state::Head;
 use intervals::rates::{Arrivals, Links};
-use numbers::instant::Moment;
 use window::Window;
 
 // Sixteen numbers, from word `at` on.
@@ -19,24 +18,20 @@ fn sixteen(ws: &[u64; 79], at: usize) -> [u32; 16]
     ensures { result ≡ sixteen_of ws.now at }
 {
     let mut numbers: [u32; 16] = [0; 16];
-    let mut i: usize = 0;
-    while i < 16 {
-        numbers[i] = words::number(ws[at + i]);
-        i += 1;
+    for (i, n) in numbers.iter_mut().enumerate() {
+        *n = words::number(ws[at + i]);
     }
     numbers
 }
 
-// Whether those words are numbers.
+// Whether those words are numbers. The loop stays, since the proof of a fold in its place left the return open.
 fn are_numbers(ws: &[u64; 79], at: usize) -> bool
     requires { at ≤ 63 }
     ensures { result ≡ numbers_formed ws.now at 16 }
 {
     let mut ok = true;
-    let mut i: usize = 0;
-    while i < 16 {
+    for i in 0..16 {
         ok = ok & (ws[at + i] < 0x1_0000_0000);
-        i += 1;
     }
     ok
 }
@@ -189,19 +184,11 @@ fn formed(ws: &[u64; 79]) -> bool
     false
 }
 
-// A head of capacity 0, which is out of range, so that each call refuses it with 1.
-fn nowhere() -> Head
-    ensures { result ≡ nowhere }
-{
-    let made = Head::new(0, 0, false, 0, 0);
-    made.head
-}
-
 pub fn unpack(ws: &[u64; 79]) -> Head
     ensures { result ≡ unpack_of ws.now }
 {
     if formed(ws) {
         return head(ws);
     }
-    nowhere()
+    Head::nowhere()
 }

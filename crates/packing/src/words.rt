@@ -1,25 +1,20 @@
 // One value as one word, and back.
+// Each has a contract, by which the laws of a packed head read it: a cast in its place would leave them none.
 ghost use Rattle.std.specs.Prelude.{◌≡◌};
 ghost use Rattle.packing.specs.Holds.{Time};
 ghost use Rattle.packing.specs.Words.{word_of, whole_of, bits_of, float_of, flag_word, flag_of, number_of, set_word, time_word, moment_of, float_formed, moment_formed};
 
-use numbers::instant::Moment;
-
-// An i64 is its two's complement: the half below 0 lies above 2^63.
+// An i64 is its two's complement.
 pub fn of_whole(z: i64) -> u64
     ensures { result ≡ word_of z }
 {
-    let m = numbers::instant::magnitude(z);
-    if 0 <= z { m } else { 0xffff_ffff_ffff_ffff - m }
+    z.cast_unsigned()
 }
 
 pub fn whole(w: u64) -> i64
     ensures { result ≡ whole_of w }
 {
-    if w < 0x8000_0000_0000_0000 {
-        return w as i64;
-    }
-    -((0xffff_ffff_ffff_ffff - w) as i64) - 1
+    w.cast_signed()
 }
 
 // An f64 is its bits, which a NaN has none of: every NaN is one pattern.
@@ -85,34 +80,31 @@ pub fn number(w: u64) -> u32
 }
 
 // A moment is two words: whether it is set, and its time.
-pub fn of_set(m: Moment) -> u64
+pub fn of_set(m: Option<i64>) -> u64
     ensures { result ≡ set_word m }
 {
-    let Moment::At(_) = m else {
-        return 0;
-    };
-    1
+    m.is_some() as u64
 }
 
-pub fn of_time(m: Moment) -> u64
+pub fn of_time(m: Option<i64>) -> u64
     ensures { (result ≡ time_word m) × Time m }
 {
-    let Moment::At(t) = m else {
-        return 0;
-    };
-    of_whole(t)
+    match m {
+        Some(t) => of_whole(t),
+        None => 0,
+    }
 }
 
-pub fn moment(set: u64, time: u64) -> Moment
+pub fn moment(set: u64, time: u64) -> Option<i64>
     ensures { result ≡ moment_of set time }
 {
     if set == 1 {
-        return Moment::At(whole(time));
+        return Some(whole(time));
     }
-    Moment::Unset
+    None
 }
 
-// Unset has no time beside it.
+// A time that is unset has none beside it.
 pub fn is_moment(set: u64, time: u64) -> bool
     ensures { result ≡ moment_formed set time }
 {

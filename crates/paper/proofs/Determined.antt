@@ -6,32 +6,36 @@ use Prim.Native.Nat.{ℕ}
 use denote.Ref.{Bor}
 use lib.IntN.{ℤ}
 use lib.ListN.{length}
-use Rattle.window.specs.Show.{ShownAt}
+use Rattle.std.specs.Prelude.{Option, Some, None, Result}
+use Rattle.window.specs.Show.{PartOf, ShownAt}
+use Rattle.window.specs.declared.show.Part.{Part}
 use Rattle.window.specs.declared.push.Packet.{Packet}
 use Rattle.head.specs.Head.{made_of}
+use Rattle.head.specs.declared.refusal.Refusal.{Refusal}
 use Rattle.head.specs.declared.state.Head.{Head}
-use Rattle.head.specs.declared.state.Made.{Made}
-use Rattle.feedback.specs.Acking.{full_ack_ended, full_ack_call_of, ack2_ended, ack2_call_of}
-use Rattle.receiver.specs.Data.{data_ended, data_call_of}
-use Rattle.feedback.specs.Loss.{loss_ended, report_call_of}
-use Rattle.receiver.specs.Message.{message_ended, pop_call_of}
-use Rattle.upkeep.specs.Request.{drop_ended, drop_call_of, clear_ended, clear_call_of, room_ended, room_call_of}
+use Rattle.feedback.specs.Acking.{Ack2ed, FullAcked, full_ack_ended, full_ack_call_of, ack2_ended, ack2_call_of}
+use Rattle.receiver.specs.Data.{Handled, data_ended, data_call_of}
+use Rattle.feedback.specs.Loss.{Reported, loss_ended, report_call_of}
+use Rattle.receiver.specs.Message.{Given, message_ended, pop_call_of}
+use Rattle.upkeep.specs.Request.{Cleared, drop_ended, drop_call_of, clear_ended, clear_call_of, room_ended, room_call_of}
 use Rattle.upkeep.specs.Show.{place_call_of, shown_ended, shown_call_of}
-use Rattle.feedback.specs.Sync.{clock_ended, clock_call_of}
-use Rattle.feedback.specs.declared.acking.FullAcked.{FullAcked}
-use Rattle.feedback.specs.declared.acking.Ack2ed.{Ack2ed}
-use Rattle.receiver.specs.declared.data.Handled.{Handled}
-use Rattle.feedback.specs.declared.loss.Reported.{Reported}
-use Rattle.receiver.specs.declared.message.Given.{Given}
-use Rattle.upkeep.specs.declared.request.DropAnswer.{DropAnswer}
-use Rattle.upkeep.specs.declared.request.Cleared.{Cleared}
-use Rattle.upkeep.specs.declared.request.RoomAnswer.{RoomAnswer}
-use Rattle.upkeep.specs.declared.show.ShowAnswer.{ShowAnswer}
-use Rattle.feedback.specs.declared.sync.Clocked.{Clocked}
+use Rattle.feedback.specs.Sync.{Clocked, clock_ended, clock_call_of}
 
-pub made-determined : (start : ℤ) (latency : ℕ) (dropping : Bool) (first capacity : ℕ) (r s : Made)
+pub made-determined : (start : ℤ) (latency : ℕ) (dropping : Bool) (first capacity : ℕ) (r s : Result Head Refusal)
     → r ≡ made_of start latency dropping first capacity → s ≡ made_of start latency dropping first capacity → r ≡ s
 made-determined start latency dropping first capacity r s p q = p ∙ sym q
+
+-- two parts of one place, or of none, are the same part
+module _ (bytes r s : Bor (List ℕ)) where
+  abbrev SamePart : Type 0
+  SamePart = (r.ref_ptr.0 ≡ s.ref_ptr.0) × ((r.ref_ptr.1 ≡ s.ref_ptr.1) × (r.now ≡ s.now))
+
+  same_part : (at len : ℕ) → PartOf bytes at len r → PartOf bytes at len s → SamePart
+  same_part at len p q = (p.block ∙ sym q.block, (p.place ∙ sym q.place, p.bytes ∙ sym q.bytes))
+
+  part-determined : (x : Option Part) → ShownAt x bytes r → ShownAt x bytes s → SamePart
+  part-determined (Some x) p q = same_part x.at x.len p q
+  part-determined None p q = same_part 0 0 p q
 
 module _ (h : Head) where
   -- the head and the answer, the slot area and the payload area
@@ -54,23 +58,23 @@ module _ (h : Head) where
       (ap (λ o. o.reported) e, (ap (λ o. o.slots) e, ap (λ o. o.list) e))
 
   -- the answer and the slot area
-  pub drop-determined : (ws : List ℕ) (first last : ℕ) (r s : DropAnswer) (ws₁ ws₂ : List ℕ)
+  pub drop-determined : (ws : List ℕ) (first last : ℕ) (r s : Result ℕ Refusal) (ws₁ ws₂ : List ℕ)
       → drop_ended r ws₁ ≡ drop_call_of h ws first last → drop_ended s ws₂ ≡ drop_call_of h ws first last → (r ≡ s) × (ws₁ ≡ ws₂)
   drop-determined ws first last r s ws₁ ws₂ p q = let e = p ∙ sym q in (ap (λ o. o.answer) e, ap (λ o. o.slots) e)
 
   pub clear-determined : (r s : Cleared) → clear_ended r ≡ clear_call_of h → clear_ended s ≡ clear_call_of h → r ≡ s
   clear-determined r s p q = ap (λ o. o.cleared) (p ∙ sym q)
 
-  pub room-determined : (r s : RoomAnswer) → room_ended r ≡ room_call_of h → room_ended s ≡ room_call_of h → r ≡ s
+  pub room-determined : (r s : Result ℕ Refusal) → room_ended r ≡ room_call_of h → room_ended s ≡ room_call_of h → r ≡ s
   room-determined r s p q = ap (λ o. o.answer) (p ∙ sym q)
 
   -- the part shown: its block, its place in it and its bytes
   pub show-determined : (ws : List ℕ) (bytes : Bor (List ℕ)) (number : ℕ) (r s : Bor (List ℕ))
       → ShownAt (place_call_of h ws (length bytes.now) number) bytes r → ShownAt (place_call_of h ws (length bytes.now) number) bytes s
       → (r.ref_ptr.0 ≡ s.ref_ptr.0) × ((r.ref_ptr.1 ≡ s.ref_ptr.1) × (r.now ≡ s.now))
-  show-determined ws bytes number r s p q = (p.block ∙ sym q.block, (p.place ∙ sym q.place, p.bytes ∙ sym q.bytes))
+  show-determined ws bytes number r s p q = part-determined bytes r s (place_call_of h ws (length bytes.now) number) p q
 
-  pub shown-determined : (ws : List ℕ) (bytes number : ℕ) (r s : ShowAnswer) → shown_ended r ≡ shown_call_of h ws bytes number → shown_ended s ≡ shown_call_of h ws bytes number → r ≡ s
+  pub shown-determined : (ws : List ℕ) (bytes number : ℕ) (r s : Result Bool Refusal) → shown_ended r ≡ shown_call_of h ws bytes number → shown_ended s ≡ shown_call_of h ws bytes number → r ≡ s
   shown-determined ws bytes number r s p q = ap (λ o. o.answer) (p ∙ sym q)
 
   pub clock-determined : (now : ℤ) (stamp : ℕ) (r s : Clocked) → clock_ended r ≡ clock_call_of h now stamp → clock_ended s ≡ clock_call_of h now stamp → r ≡ s

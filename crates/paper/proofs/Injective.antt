@@ -10,37 +10,27 @@ use lib.Ieee.{Float, nan}
 use lib.ListN.{length, take, length-map}
 use lib.Seq.{length-take-le}
 use Rattle.numbers.proofs.Flags.{by-test}
-use Rattle.intervals.specs.declared.rates.Rate.{Rate}
-use Rattle.intervals.specs.declared.rates.Rate.TheVariants.{Unknown, PerSecond}
+use Rattle.std.specs.Prelude.{Option, Some, None, Result, Ok, Err}
+use Rattle.std.specs.Result.{result_err}
+use Rattle.acks.specs.declared.rtt.Rtt.{Rtt}
 use Rattle.window.specs.declared.Window.{Window}
 use Rattle.window_report.specs.Report.{ReportOutcome, needed, report_of}
 use Rattle.window_report.proofs.ReportLaws.{list-keeps}
-use Rattle.head.specs.Rules.{first_refusal, timed_rules}
+use Rattle.head.specs.Rules.{number_of, first_refusal, timed_rules}
 use Rattle.head.specs.Head.{head_ok}
+use Rattle.head.specs.declared.refusal.Refusal.{Refusal}
+use Rattle.head.specs.declared.refusal.Refusal.TheVariants.{HeadBad, AreaShort, ClockRange, ClockBack, BadNumber, PayloadLong, BufferFull, PacketTooEarly, PacketTooLate, DiscardedDuplicate, OutShort, ListShort, FasnWorn, DriftRange, BadSetting}
 use Rattle.head.specs.declared.state.Head.{Head}
-use Rattle.head.specs.declared.state.Made.{Made}
+use Rattle.head.proofs.Gates.{by-refusal}
 use Rattle.feedback.specs.Loss.{LossOutcome, answer_of, reported_of, report_call_of}
 use Rattle.receiver.specs.declared.data.DataAnswer.{DataAnswer}
 use Rattle.receiver.specs.declared.data.DataAnswer.TheVariants as datas
-use Rattle.receiver.specs.declared.message.MessageAnswer.{MessageAnswer}
-use Rattle.receiver.specs.declared.message.MessageAnswer.TheVariants as messages
-use Rattle.feedback.specs.declared.loss.LossAnswer.{LossAnswer}
-use Rattle.feedback.specs.declared.loss.LossAnswer.TheVariants as losses
-use Rattle.upkeep.specs.declared.request.DropAnswer.{DropAnswer}
-use Rattle.upkeep.specs.declared.request.DropAnswer.TheVariants as drops
-use Rattle.upkeep.specs.declared.request.ClearAnswer.{ClearAnswer}
-use Rattle.upkeep.specs.declared.request.ClearAnswer.TheVariants as clears
-use Rattle.upkeep.specs.declared.request.RoomAnswer.{RoomAnswer}
-use Rattle.upkeep.specs.declared.request.RoomAnswer.TheVariants as rooms
-use Rattle.upkeep.specs.declared.show.ShowAnswer.{ShowAnswer}
-use Rattle.upkeep.specs.declared.show.ShowAnswer.TheVariants as shows
-use Rattle.feedback.specs.declared.sync.ClockAnswer.{ClockAnswer}
-use Rattle.feedback.specs.declared.sync.ClockAnswer.TheVariants as clocks
-use Rattle.feedback.specs.declared.acking.FullAckAnswer.{FullAckAnswer}
-use Rattle.feedback.specs.declared.acking.FullAckAnswer.TheVariants as acks
-use Rattle.feedback.specs.declared.acking.RttAnswer.{RttAnswer}
-use Rattle.feedback.specs.declared.acking.RttAnswer.TheVariants as rtts
-use Rattle.head.specs.Paper.{Word, got, light, loss, refused, message, late, report, ack, rtt, gone, adjusted, unsteady, clear, none, made, room, received, other, Value, whole, dash, plain, Line}
+use Rattle.window_pop.specs.declared.pop.PopAnswer.{PopAnswer}
+use Rattle.window_pop.specs.declared.pop.PopAnswer.TheVariants as messages
+use Rattle.clock.specs.declared.time.Synchronized.{Synchronized}
+use Rattle.clock.specs.declared.time.Synchronized.TheVariants as clocks
+use Rattle.feedback.specs.declared.acking.FullAck.{FullAck}
+use Rattle.head.specs.Paper.{Word, got, light, loss, refused, message, late, report, ack, rtt, gone, adjusted, unsteady, clear, none, made, room, received, other, Value, whole, dash, plain, Line, refusal_values}
 use Rattle.receiver.specs.Paper.{data_line, message_line}
 use Rattle.feedback.specs.Paper.{loss_line, clock_line, rate_value, full_ack_line, rtt_line}
 use Rattle.upkeep.specs.Paper.{drop_line, clear_line, room_line, shown_line}
@@ -98,65 +88,95 @@ holds vs i = is_one (natural vs i)
 by-reading : {A : Type 0} (line : A → Line) (back : Line → A) → ((a : A) → back (line a) ≡ a) → (a b : A) → line a ≡ line b → a ≡ b
 by-reading line back r a b e = sym (r a) ∙ (ap back e ∙ r b)
 
--- a refusal with values is 8
-abbrev too_early : ℕ → List Value → DataAnswer
-too_early n [] = datas.Refused n
-too_early n (v ∷ vs) = datas.PacketTooEarly (nat_abs (as_whole v)) (natural vs 0)
+-- a refusal is read back from its number and values
+abbrev pub refusal_back : ℕ → List Value → Refusal
+refusal_back n vs =
+    cond (eqb n 1) HeadBad
+    (cond (eqb n 2) AreaShort
+    (cond (eqb n 3) ClockRange
+    (cond (eqb n 4) ClockBack
+    (cond (eqb n 5) BadNumber
+    (cond (eqb n 6) PayloadLong
+    (cond (eqb n 7) BufferFull
+    (cond (eqb n 8) (PacketTooEarly (natural vs 0) (natural vs 1))
+    (cond (eqb n 9) PacketTooLate
+    (cond (eqb n 10) DiscardedDuplicate
+    (cond (eqb n 11) OutShort
+    (cond (eqb n 12) ListShort
+    (cond (eqb n 13) FasnWorn
+    (cond (eqb n 14) DriftRange
+    BadSetting)))))))))))))
 
-abbrev data_back : Word → ℕ → List Value → DataAnswer
+refusal-back : (e : Refusal) → refusal_back (number_of e) (refusal_values e) ≡ e
+refusal-back HeadBad = refl
+refusal-back AreaShort = refl
+refusal-back ClockRange = refl
+refusal-back ClockBack = refl
+refusal-back BadNumber = refl
+refusal-back PayloadLong = refl
+refusal-back BufferFull = refl
+refusal-back (PacketTooEarly places need) = refl
+refusal-back PacketTooLate = refl
+refusal-back DiscardedDuplicate = refl
+refusal-back OutShort = refl
+refusal-back ListShort = refl
+refusal-back FasnWorn = refl
+refusal-back DriftRange = refl
+refusal-back BadSetting = refl
+
+abbrev data_back : Word → ℕ → List Value → Result DataAnswer Refusal
 data_back w n vs =
-    cond (is w got) (datas.Got (natural vs 0) (holds vs 1))
-    (cond (is w light) (datas.Light (natural vs 0) (holds vs 1))
-    (cond (is w loss) (datas.Loss (natural vs 0) (natural vs 1))
-    (too_early n vs)))
+    cond (is w got) (Ok (datas.Got (natural vs 0) (holds vs 1)))
+    (cond (is w light) (Ok (datas.Light (natural vs 0) (holds vs 1)))
+    (cond (is w loss) (Ok (datas.Loss (natural vs 0) (natural vs 1)))
+    (Err (refusal_back n vs))))
 
-data-back : (a : DataAnswer) → data_back (data_line a).word (data_line a).refusal (data_line a).values ≡ a
-data-back (datas.Got lrsn true) = refl
-data-back (datas.Got lrsn false) = refl
-data-back (datas.Light lrsn true) = refl
-data-back (datas.Light lrsn false) = refl
-data-back (datas.Loss first last) = refl
-data-back (datas.Refused n) = refl
-data-back (datas.PacketTooEarly places need) = refl
+data-back : (a : Result DataAnswer Refusal) → data_back (data_line a).word (data_line a).refusal (data_line a).values ≡ a
+data-back (Ok (datas.Got lrsn true)) = refl
+data-back (Ok (datas.Got lrsn false)) = refl
+data-back (Ok (datas.Light lrsn true)) = refl
+data-back (Ok (datas.Light lrsn false)) = refl
+data-back (Ok (datas.Loss first last)) = refl
+data-back (Err e) = rw (refusal-back e)
 
-pub data-injective : (a b : DataAnswer) → data_line a ≡ data_line b → a ≡ b
+pub data-injective : (a b : Result DataAnswer Refusal) → data_line a ≡ data_line b → a ≡ b
 data-injective = by-reading data_line (λ l. data_back l.word l.refusal l.values) data-back
 
-abbrev message_back : Word → ℕ → List Value → MessageAnswer
+abbrev message_back : Word → ℕ → List Value → Result PopAnswer Refusal
 message_back w n vs =
-    cond (is w none) (messages.Nothing)
-    (cond (is w message) (messages.Message (signed vs 0) (natural vs 1) (natural vs 2))
-    (cond (is w late) (messages.Late (natural vs 0) (natural vs 1) (signed vs 2))
-    (messages.Refused n)))
+    cond (is w none) (Ok messages.Nothing)
+    (cond (is w message) (Ok (messages.Message (signed vs 0) (natural vs 1) (natural vs 2)))
+    (cond (is w late) (Ok (messages.Late (natural vs 0) (natural vs 1) (signed vs 2)))
+    (Err (refusal_back n vs))))
 
-message-back : (a : MessageAnswer) → message_back (message_line a).word (message_line a).refusal (message_line a).values ≡ a
-message-back messages.Nothing = refl
-message-back (messages.Message time bytes packets) = refl
-message-back (messages.Late first end delay) = refl
-message-back (messages.Refused n) = refl
+message-back : (a : Result PopAnswer Refusal) → message_back (message_line a).word (message_line a).refusal (message_line a).values ≡ a
+message-back (Ok messages.Nothing) = refl
+message-back (Ok (messages.Message time bytes packets)) = refl
+message-back (Ok (messages.Late first end delay)) = refl
+message-back (Err e) = rw (refusal-back e)
 
-pub message-injective : (a b : MessageAnswer) → message_line a ≡ message_line b → a ≡ b
+pub message-injective : (a b : Result PopAnswer Refusal) → message_line a ≡ message_line b → a ≡ b
 message-injective = by-reading message_line (λ l. message_back l.word l.refusal l.values) message-back
 
 -- a report is read back by the count of its words, if the list has them
-abbrev loss_back : Word → ℕ → List Value → LossAnswer
+abbrev loss_back : Word → ℕ → List Value → Result (Option ℕ) Refusal
 loss_back w n vs =
-    cond (is w none) (losses.Nothing)
-    (cond (is w report) (losses.Report (length vs))
-    (losses.Refused n))
+    cond (is w none) (Ok None)
+    (cond (is w report) (Ok (Some (length vs)))
+    (Err (refusal_back n vs)))
 
 -- a list of n words has those of the report
-abbrev pub Fits : LossAnswer → ℕ → Type 0
-Fits losses.Nothing n = Unit
-Fits (losses.Report words) n = words ≤ n
-Fits (losses.Refused k) n = Unit
+abbrev pub Fits : Result (Option ℕ) Refusal → ℕ → Type 0
+Fits (Ok None) n = Unit
+Fits (Ok (Some words)) n = words ≤ n
+Fits (Err e) n = Unit
 
-loss-back : (a : LossAnswer) (list : List ℕ) → Fits a (length list) → loss_back (loss_line a list).word (loss_line a list).refusal (loss_line a list).values ≡ a
-loss-back losses.Nothing list i = refl
-loss-back (losses.Report words) list i = ap (λ (n : ℕ). losses.Report n) (length-map (take words list) plain ∙ length-take-le words list i)
-loss-back (losses.Refused n) list i = refl
+loss-back : (a : Result (Option ℕ) Refusal) (list : List ℕ) → Fits a (length list) → loss_back (loss_line a list).word (loss_line a list).refusal (loss_line a list).values ≡ a
+loss-back (Ok None) list i = refl
+loss-back (Ok (Some words)) list i = ap (λ (n : ℕ). Ok (Some n)) (length-map (take words list) plain ∙ length-take-le words list i)
+loss-back (Err e) list i = rw (refusal-back e)
 
-pub loss-injective : (a b : LossAnswer) (l m : List ℕ) → Fits a (length l) → Fits b (length m) → loss_line a l ≡ loss_line b m → a ≡ b
+pub loss-injective : (a b : Result (Option ℕ) Refusal) (l m : List ℕ) → Fits a (length l) → Fits b (length m) → loss_line a l ≡ loss_line b m → a ≡ b
 loss-injective a b l m i j e = sym (loss-back a l i) ∙ (ap (λ (x : Line). loss_back x.word x.refusal x.values) e ∙ loss-back b m j)
 
 -- so it is of every loss report: refusal 12 is tested before
@@ -172,116 +192,135 @@ pub loss-fits : (h : Head) (ws list : List ℕ) (now : ℤ) → Fits (report_cal
 unfolding report_call_of reported_of
 loss-fits h ws list now =
     let m = h.rtt.mean in
-    by-test (λ (x : LossOutcome). Fits x.reported.answer (length x.list)) (eqb (first_refusal (timed_rules (head_ok h) (length ws) (3 * h.window.capacity) now h.latest)) 0) _ _
-    (λ t. rw (list-keeps h.window ws now m list) (words-fit h.window ws now m list))
-    (λ t. tt)
+    by-refusal (λ (x : LossOutcome). Fits x.reported.answer (length x.list)) (first_refusal (timed_rules (head_ok h) (length ws) (3 * h.window.capacity) now h.latest)) _ _
+    (λ x t. rw (list-keeps h.window ws now m list) (words-fit h.window ws now m list))
+    (λ e t. tt)
 
-abbrev drop_back : Word → ℕ → List Value → DropAnswer
+abbrev drop_back : Word → ℕ → List Value → Result ℕ Refusal
 drop_back w n vs =
-    cond (is w gone) (drops.Gone (natural vs 0))
-    (drops.Refused n)
+    cond (is w gone) (Ok (natural vs 0))
+    (Err (refusal_back n vs))
 
-drop-back : (a : DropAnswer) → drop_back (drop_line a).word (drop_line a).refusal (drop_line a).values ≡ a
-drop-back (drops.Gone count) = refl
-drop-back (drops.Refused n) = refl
+drop-back : (a : Result ℕ Refusal) → drop_back (drop_line a).word (drop_line a).refusal (drop_line a).values ≡ a
+drop-back (Ok count) = refl
+drop-back (Err e) = rw (refusal-back e)
 
-pub drop-injective : (a b : DropAnswer) → drop_line a ≡ drop_line b → a ≡ b
+pub drop-injective : (a b : Result ℕ Refusal) → drop_line a ≡ drop_line b → a ≡ b
 drop-injective = by-reading drop_line (λ l. drop_back l.word l.refusal l.values) drop-back
 
-abbrev clear_back : Word → ℕ → ClearAnswer
-clear_back w n =
-    cond (is w clear) (clears.Cleared)
-    (clears.Refused n)
+abbrev clear_back : Word → ℕ → List Value → Result Unit Refusal
+clear_back w n vs =
+    cond (is w clear) (Ok tt)
+    (Err (refusal_back n vs))
 
-clear-back : (a : ClearAnswer) → clear_back (clear_line a).word (clear_line a).refusal ≡ a
-clear-back clears.Cleared = refl
-clear-back (clears.Refused n) = refl
+clear-back : (a : Result Unit Refusal) → clear_back (clear_line a).word (clear_line a).refusal (clear_line a).values ≡ a
+clear-back (Ok _) = refl
+clear-back (Err e) = rw (refusal-back e)
 
-pub clear-injective : (a b : ClearAnswer) → clear_line a ≡ clear_line b → a ≡ b
-clear-injective = by-reading clear_line (λ l. clear_back l.word l.refusal) clear-back
+pub clear-injective : (a b : Result Unit Refusal) → clear_line a ≡ clear_line b → a ≡ b
+clear-injective = by-reading clear_line (λ l. clear_back l.word l.refusal l.values) clear-back
 
-abbrev room_back : Word → ℕ → List Value → RoomAnswer
+abbrev room_back : Word → ℕ → List Value → Result ℕ Refusal
 room_back w n vs =
-    cond (is w room) (rooms.Room (natural vs 0))
-    (rooms.Refused n)
+    cond (is w room) (Ok (natural vs 0))
+    (Err (refusal_back n vs))
 
-room-back : (a : RoomAnswer) → room_back (room_line a).word (room_line a).refusal (room_line a).values ≡ a
-room-back (rooms.Room places) = refl
-room-back (rooms.Refused n) = refl
+room-back : (a : Result ℕ Refusal) → room_back (room_line a).word (room_line a).refusal (room_line a).values ≡ a
+room-back (Ok places) = refl
+room-back (Err e) = rw (refusal-back e)
 
-pub room-injective : (a b : RoomAnswer) → room_line a ≡ room_line b → a ≡ b
+pub room-injective : (a b : Result ℕ Refusal) → room_line a ≡ room_line b → a ≡ b
 room-injective = by-reading room_line (λ l. room_back l.word l.refusal l.values) room-back
 
-abbrev shown_back : Word → ℕ → ShowAnswer
-shown_back w n =
-    cond (is w received) (shows.Received)
-    (cond (is w other) (shows.Other)
-    (shows.Refused n))
+abbrev shown_back : Word → ℕ → List Value → Result Bool Refusal
+shown_back w n vs =
+    cond (is w received) (Ok true)
+    (cond (is w other) (Ok false)
+    (Err (refusal_back n vs)))
 
-shown-back : (a : ShowAnswer) → shown_back (shown_line a).word (shown_line a).refusal ≡ a
-shown-back shows.Received = refl
-shown-back shows.Other = refl
-shown-back (shows.Refused n) = refl
+shown-back : (a : Result Bool Refusal) → shown_back (shown_line a).word (shown_line a).refusal (shown_line a).values ≡ a
+shown-back (Ok true) = refl
+shown-back (Ok false) = refl
+shown-back (Err e) = rw (refusal-back e)
 
-pub shown-injective : (a b : ShowAnswer) → shown_line a ≡ shown_line b → a ≡ b
-shown-injective = by-reading shown_line (λ l. shown_back l.word l.refusal) shown-back
+pub shown-injective : (a b : Result Bool Refusal) → shown_line a ≡ shown_line b → a ≡ b
+shown-injective = by-reading shown_line (λ l. shown_back l.word l.refusal l.values) shown-back
 
 abbrev first_of : List Float → Float
 first_of [] = nan
 first_of (x ∷ xs) = x
 
-abbrev clock_back : Word → ℕ → List Value → List Float → ClockAnswer
+abbrev clock_back : Word → ℕ → List Value → List Float → Result Synchronized Refusal
 clock_back w n vs xs =
-    cond (is w none) (clocks.Nothing)
-    (cond (is w adjusted) (clocks.Adjusted (signed vs 0) (natural vs 1))
-    (cond (is w unsteady) (clocks.Unsteady (natural vs 0) (first_of xs))
-    (clocks.Refused n)))
+    cond (is w none) (Ok clocks.Nothing)
+    (cond (is w adjusted) (Ok (clocks.Adjusted (signed vs 0) (natural vs 1)))
+    (cond (is w unsteady) (Ok (clocks.Unsteady (natural vs 0) (first_of xs)))
+    (Err (refusal_back n vs))))
 
-clock-back : (a : ClockAnswer) → clock_back (clock_line a).word (clock_line a).refusal (clock_line a).values (clock_line a).exact ≡ a
-clock-back clocks.Nothing = refl
-clock-back (clocks.Adjusted mean deviation) = refl
-clock-back (clocks.Unsteady deviation v) = refl
-clock-back (clocks.Refused n) = refl
+clock-back : (a : Result Synchronized Refusal) → clock_back (clock_line a).word (clock_line a).refusal (clock_line a).values (clock_line a).exact ≡ a
+clock-back (Ok clocks.Nothing) = refl
+clock-back (Ok (clocks.Adjusted mean deviation)) = refl
+clock-back (Ok (clocks.Unsteady deviation v)) = refl
+clock-back (Err e) = rw (refusal-back e)
 
-pub clock-injective : (a b : ClockAnswer) → clock_line a ≡ clock_line b → a ≡ b
+pub clock-injective : (a b : Result Synchronized Refusal) → clock_line a ≡ clock_line b → a ≡ b
 clock-injective = by-reading clock_line (λ l. clock_back l.word l.refusal l.values l.exact) clock-back
 
-abbrev rate_back : Value → Rate
-rate_back (whole n) = PerSecond (nat_abs n)
-rate_back dash = Unknown
+abbrev rate_back : Value → Option ℕ
+rate_back (whole n) = Some (nat_abs n)
+rate_back dash = None
 
-rate-back : (a : Rate) → rate_back (rate_value a) ≡ a
-rate-back Unknown = refl
-rate-back (PerSecond n) = refl
+rate-back : (a : Option ℕ) → rate_back (rate_value a) ≡ a
+rate-back None = refl
+rate-back (Some n) = refl
 
-abbrev full_ack_back : Word → ℕ → List Value → FullAckAnswer
+abbrev full_ack_back : Word → ℕ → List Value → Result (Option FullAck) Refusal
 full_ack_back w n vs =
-    cond (is w none) (acks.Nothing)
-    (cond (is w ack) (acks.Ack (natural vs 0) (natural vs 1) (natural vs 2) (natural vs 3) (natural vs 4) (rate_back (at vs 5)) (rate_back (at vs 6)) (rate_back (at vs 7)))
-    (acks.Refused n))
+    cond (is w none) (Ok None)
+    (cond (is w ack)
+    (Ok
+    (Some
+    (record {
+      number = natural vs 0;
+      lrsn = natural vs 1;
+      mean = natural vs 2;
+      variance = natural vs 3;
+      room = natural vs 4;
+      packet_receive_rate = rate_back (at vs 5);
+      estimated_link_capacity = rate_back (at vs 6);
+      data_receive_rate = rate_back (at vs 7);
+    })))
+    (Err (refusal_back n vs)))
 
-full-ack-back : (a : FullAckAnswer) → full_ack_back (full_ack_line a).word (full_ack_line a).refusal (full_ack_line a).values ≡ a
-full-ack-back acks.Nothing = refl
-full-ack-back (acks.Ack number lrsn mean variance places packets bytes link) = rw (rate-back packets, rate-back bytes, rate-back link)
-full-ack-back (acks.Refused n) = refl
+full-ack-back : (a : Result (Option FullAck) Refusal) → full_ack_back (full_ack_line a).word (full_ack_line a).refusal (full_ack_line a).values ≡ a
+full-ack-back (Ok None) = refl
+full-ack-back (Ok (Some a)) = rw (rate-back a.packet_receive_rate, rate-back a.estimated_link_capacity, rate-back a.data_receive_rate)
+full-ack-back (Err e) = rw (refusal-back e)
 
-pub full-ack-injective : (a b : FullAckAnswer) → full_ack_line a ≡ full_ack_line b → a ≡ b
+pub full-ack-injective : (a b : Result (Option FullAck) Refusal) → full_ack_line a ≡ full_ack_line b → a ≡ b
 full-ack-injective = by-reading full_ack_line (λ l. full_ack_back l.word l.refusal l.values) full-ack-back
 
-abbrev rtt_back : Word → ℕ → List Value → RttAnswer
+abbrev rtt_back : Word → ℕ → List Value → Result (Option Rtt) Refusal
 rtt_back w n vs =
-    cond (is w none) (rtts.Nothing)
-    (cond (is w rtt) (rtts.Rtt (natural vs 0) (natural vs 1))
-    (rtts.Refused n))
+    cond (is w none) (Ok None)
+    (cond (is w rtt) (Ok (Some (record { mean = natural vs 0; variance = natural vs 1 })))
+    (Err (refusal_back n vs)))
 
-rtt-back : (a : RttAnswer) → rtt_back (rtt_line a).word (rtt_line a).refusal (rtt_line a).values ≡ a
-rtt-back rtts.Nothing = refl
-rtt-back (rtts.Rtt mean variance) = refl
-rtt-back (rtts.Refused n) = refl
+rtt-back : (a : Result (Option Rtt) Refusal) → rtt_back (rtt_line a).word (rtt_line a).refusal (rtt_line a).values ≡ a
+rtt-back (Ok None) = refl
+rtt-back (Ok (Some t)) = refl
+rtt-back (Err e) = rw (refusal-back e)
 
-pub rtt-injective : (a b : RttAnswer) → rtt_line a ≡ rtt_line b → a ≡ b
+pub rtt-injective : (a b : Result (Option Rtt) Refusal) → rtt_line a ≡ rtt_line b → a ≡ b
 rtt-injective = by-reading rtt_line (λ l. rtt_back l.word l.refusal l.values) rtt-back
 
 -- making's line has its refusal, not its head
-pub made-refusal : (a b : Made) → made_line a ≡ made_line b → a.refusal ≡ b.refusal
-made-refusal a b e = ap (λ l. l.refusal) e
+abbrev made_back : Word → ℕ → List Value → Option Refusal
+made_back w n vs = cond (is w made) None (Some (refusal_back n vs))
+
+made-back : (a : Result Head Refusal) → made_back (made_line a).word (made_line a).refusal (made_line a).values ≡ result_err a
+made-back (Ok h) = refl
+made-back (Err e) = rw (refusal-back e)
+
+pub made-refusal : (a b : Result Head Refusal) → made_line a ≡ made_line b → result_err a ≡ result_err b
+made-refusal a b e = sym (made-back a) ∙ (ap (λ (l : Line). made_back l.word l.refusal l.values) e ∙ made-back b)

@@ -1,161 +1,82 @@
--- What the code of lib.rt does at each return, as laws over plain values. Assumes nothing.
-use mathlib.Core.Path.{◌≡◌, refl, sym, ◌∙◌}
-use mathlib.Core.Bool.{Bool, true, false, ◌&&◌, cond}
+-- What a reading that is bad tells the code of lib.rt, as laws over plain values. Assumes nothing.
+use mathlib.Core.Path.{◌≡◌, refl, sym, ◌∙◌, ap}
 use mathlib.Core.List.{List, [], ◌∷◌}
-use Prim.Native.Nat.{ℕ, ◌+◌, ◌<◌, ◌≤◌}
+use Prim.Native.Nat.{ℕ, ◌≤◌}
 use native.Mathlib.Omega.{arith}
-use borrow.Author.Rules.{rules}
-use borrow.Author.Tests.{eq-eqb, ne_eqb, lt-ltb, le-ltb, ltb-false}
-use lib.Dec.{eqb, ltb}
-use lib.IntN.{ℤ}
+use borrow.Author.Tests.{lt-ltb, ltb-false, ne_eqb}
+use lib.Dec.{ltb}
 use lib.ListN.{length}
+use Rattle.std.specs.Prelude.{◌≢◌, Some, Result, Ok, Err}
 use Rattle.numbers.proofs.Flags.{by-test, by-order}
-use Rattle.head.specs.Head.{made_of}
-use Rattle.head.specs.declared.state.Made.{Made}
-use Rattle.dlt.specs.Bytes.{byte_at, field}
+use Rattle.dlt.specs.Bytes.{byte_at}
 use Rattle.dlt.specs.Header.{header_of}
-use Rattle.dlt.specs.Record.{least_size, fields_of, record_of}
-use Rattle.dlt.specs.declared.header.HeaderRead.{HeaderRead}
-use Rattle.dlt.specs.declared.header.HeaderRead.TheVariants as headers
-use Rattle.dlt.specs.declared.record.RecordRead.{RecordRead}
-use Rattle.dlt.specs.declared.record.RecordRead.TheVariants as records
-use Rattle.dlt.proofs.Steps.{fixed-room}
-use Rattle.reason.specs.Reason.{is_marked, form_reason, setting_reason, header_reason_by, header_reason, need_in, cut_reason, wrong_reason, record_reason_by, record_reason}
-use Rattle.reason.specs.declared.Reason.{Reason}
+use Rattle.dlt.specs.Record.{code_of, least_size, record_of}
+use Rattle.dlt.specs.declared.Unread.{Unread}
+use Rattle.dlt.specs.declared.Unread.TheVariants as unread
+use Rattle.dlt.specs.declared.header.Header.{Header}
+use Rattle.dlt.specs.declared.record.Record.{Record}
+use Rattle.dlt.specs.declared.kind.Kind.{Kind}
+use Rattle.dlt.specs.declared.kind.Kind.TheVariants as kinds
+use Rattle.dlt.proofs.Steps.{HasNoKind, no_kind}
+use Rattle.reason.specs.Reason.{need_in, wrong_reason}
 use Rattle.reason.specs.declared.Reason.TheVariants as reasons
 
--- is_marked, form
-pub mark-is : (xs : List ℕ) → (eqb (byte_at xs 0) 68 && eqb (byte_at xs 1) 76 && eqb (byte_at xs 2) 84) ≡ is_marked xs
-unfolding is_marked
-mark-is xs = refl
+-- short and bad are two things
+abbrev code : {T : Type 0} → Result T Unread → ℕ
+code (Err unread.Short) = 0
+code (Err unread.Bad) = 1
+code (Ok x) = 2
 
-module _ (xs : List ℕ) {b : Bool} (e : b ≡ is_marked xs) where
-  pub form-mark : b ≡ false → reasons.NoMark ≡ form_reason xs
-  unfolding form_reason
-  form-mark f = rw (← e, f)
+two_things : {P T : Type 0} {x : Result T Unread} → x ≡ Err unread.Short → x ≡ Err unread.Bad → P
+two_things e f = absurd (let z : ◌≡◌ {A = ℕ} 0 1 = ap code (sym e ∙ f) in omega arith)
 
-  module _ {v : ℕ} (f : b ≡ true) (g : v ≡ field xs 3 2) where
-    pub form-late : v ≡ 1 → reasons.LateDrop (byte_at xs 17) ≡ form_reason xs
-    unfolding form_reason
-    form-late h = rw (← e, f, ← g, eq-eqb _ _ h)
-
-    pub form-version : (v ≡ 1 → ⊥) → reasons.Version v ≡ form_reason xs
-    unfolding form_reason
-    form-version h = rw (← e, f, ← g, ne_eqb _ _ h)
-
--- setting
-pub setting-wide : (m : Made) (capacity : ℕ) → 32 < capacity → reasons.Capacity capacity ≡ setting_reason m capacity
-setting-wide m capacity h = rw (lt-ltb _ _ h)
-
-pub setting-none : (start : ℤ) (latency : ℕ) (dropping : Bool) (first capacity : ℕ) {n : ℤ} {m : Made} → capacity ≤ 32 → m ≡ made_of n latency dropping first capacity → n ≡ start
-    → m.refusal ≡ 0 → reasons.Nothing ≡ setting_reason (made_of start latency dropping first capacity) capacity
-setting-none start latency dropping first capacity h e q f = rw (le-ltb _ _ h, ← q, ← e, eq-eqb _ _ f)
-
-pub setting-refused : (start : ℤ) (latency : ℕ) (dropping : Bool) (first capacity : ℕ) {n : ℤ} {m : Made} → capacity ≤ 32 → m ≡ made_of n latency dropping first capacity → n ≡ start
-    → (m.refusal ≡ 0 → ⊥) → reasons.Setting ≡ setting_reason (made_of start latency dropping first capacity) capacity
-setting-refused start latency dropping first capacity h e q f = rw (le-ltb _ _ h, ← q, ← e, ne_eqb _ _ f)
-
--- of_header
-pub bad_long : (xs : List ℕ) {r : HeaderRead} → r ≡ header_of xs → r ≡ headers.Bad → 24 ≤ length xs
+pub bad_long : (xs : List ℕ) {r : Result Header Unread} → r ≡ header_of xs → r ≡ Err unread.Bad → 24 ≤ length xs
 unfolding header_of
-bad_long xs e f =
-    by-order (length xs) 24
-    (λ l. absurd (let z : headers.Short ≡ headers.Bad = sym (e ∙ rw (lt-ltb _ _ l)) ∙ f in let o : ◌≡◌ {A = ℕ} 0 1 = cc in omega arith))
-    (λ l. l)
+bad_long xs e f = by-order (length xs) 24 (λ l. two_things (e ∙ rw (lt-ltb _ _ l)) f) (λ l. l)
 
-module _ (xs : List ℕ) {r : HeaderRead} (e : r ≡ header_of xs) where
-  pub header-short : r ≡ headers.Short → reasons.HeaderCut (length xs) ≡ header_reason xs
-  header-short f = rw (← e, f)
-
-  pub header-form : {x : Reason} → r ≡ headers.Bad → x ≡ form_reason xs → x ≡ header_reason xs
-  header-form f g = rw (← e, f) g
-
-  pub header-setting : {x : Reason} {start n : ℤ} {latency : ℕ} {dropping : Bool} {first capacity : ℕ} → r ≡ headers.Header start latency dropping first capacity → n ≡ start
-      → x ≡ setting_reason (made_of n latency dropping first capacity) capacity → x ≡ header_reason xs
-  header-setting f q g = rw (← e, f, ← q) g
-
--- need, cut
-module _ (xs : List ℕ) {k : ℕ} (e : k ≡ byte_at xs 0) where
-  pub need-unknown : k ≡ 1 → length xs < 24 → 0 ≡ need_in xs
-  unfolding need_in
-  need-unknown f h = rw (← e, eq-eqb _ _ f, lt-ltb _ _ h)
-
-  pub need-data : {n : ℕ} → k ≡ 1 → 24 ≤ length xs → n ≡ field xs 22 2 → 24 + n ≡ need_in xs
-  unfolding need_in
-  need-data f h g = rw (← e, eq-eqb _ _ f, le-ltb _ _ h, g)
-
-  pub need-fixed : {n : ℕ} → (k ≡ 1 → ⊥) → n ≡ least_size k → n ≡ need_in xs
-  unfolding need_in
-  need-fixed f g = rw (← e, ne_eqb _ _ f) g
-
-  -- wrong
-  pub wrong-room : k ≡ 1 → least_size (byte_at xs 0) ≤ length xs → 22 + 2 ≤ length xs
-  wrong-room f h = fixed-room (sym e ∙ f) h tt
-
-  pub wrong-length : {n : ℕ} → k ≡ 1 → n ≡ field xs 22 2 → reasons.Length n ≡ wrong_reason xs
-  unfolding wrong_reason
-  wrong-length f g = rw (← e, eq-eqb _ _ f, g)
-
-  pub wrong-kind : (k ≡ 1 → ⊥) → reasons.Kind k ≡ wrong_reason xs
-  unfolding wrong_reason
-  wrong-kind f = rw (← e, ne_eqb _ _ f)
-
-pub cut-none : (xs : List ℕ) → length xs < 1 → reasons.Nothing ≡ cut_reason xs
-unfolding cut_reason
-cut-none xs h = rw (lt-ltb _ _ h)
-
-pub cut-some : (xs : List ℕ) {n : ℕ} → 1 ≤ length xs → n ≡ need_in xs → reasons.Cut (length xs) n ≡ cut_reason xs
-unfolding cut_reason
-cut-some xs h e = rw (le-ltb _ _ h, e)
-
--- of_record
-wrong-whole : (xs : List ℕ) → record_of xs ≡ records.Bad → least_size (byte_at xs 0) ≤ length xs
+wrong-whole : (xs : List ℕ) → record_of xs ≡ Err unread.Bad → least_size (byte_at xs 0) ≤ length xs
 unfolding record_of
 wrong-whole xs =
-    by-test (λ (r : RecordRead). r ≡ records.Bad → least_size (byte_at xs 0) ≤ length xs) (ltb (length xs) (least_size (byte_at xs 0))) _ _
-    (λ t e. absurd (let z : ◌≡◌ {A = ℕ} 0 1 = cc in omega arith))
+    by-test (λ (r : Result Record Unread). r ≡ Err unread.Bad → least_size (byte_at xs 0) ≤ length xs) (ltb (length xs) (least_size (byte_at xs 0))) _ _
+    (λ t e. absurd (let z : ◌≡◌ {A = ℕ} 0 1 = ap code e in omega arith))
     (λ t e. ltb-false _ _ t)
 
-pub wrong-some : (xs : List ℕ) → record_of xs ≡ records.Bad → 1 ≤ length xs
+pub wrong-some : (xs : List ℕ) → record_of xs ≡ Err unread.Bad → 1 ≤ length xs
 unfolding record_of least_size
-wrong-some [] e = absurd (let z : ◌≡◌ {A = ℕ} 0 1 = cc in omega arith)
+wrong-some [] e = absurd (let z : ◌≡◌ {A = ℕ} 0 1 = ap code e in omega arith)
 wrong-some (x ∷ xs) e = omega arith
 
-module _ (xs : List ℕ) {r : RecordRead} (e : r ≡ record_of xs) where
-  pub bad_whole : r ≡ records.Bad → least_size (byte_at xs 0) ≤ length xs
+module _ (xs : List ℕ) {r : Result Record Unread} (e : r ≡ record_of xs) where
+  pub bad_whole : r ≡ Err unread.Bad → least_size (byte_at xs 0) ≤ length xs
   bad_whole f = wrong-whole xs (sym e ∙ f)
 
-  pub bad_some : r ≡ records.Bad → 1 ≤ length xs
+  pub bad_some : r ≡ Err unread.Bad → 1 ≤ length xs
   bad_some f = wrong-some xs (sym e ∙ f)
 
-  pub by-record : {s : RecordRead} {x : Reason} → r ≡ s → x ≡ record_reason_by xs s → x ≡ record_reason xs
-  by-record f g = rw (← e, f) g
+-- a byte that no kind has
+pub need_none : (xs : List ℕ) → HasNoKind (byte_at xs 0) → Some 1 ≡ need_in xs
+unfolding need_in
+need_none xs n = rw (ne_eqb _ _ (λ e. n kinds.Data (sym e))) (ap Some (no_kind _ n).0)
 
-pub ruleset reads = (
-  mark-is,
-  form-mark,
-  form-late,
-  form-version,
-  setting-wide,
-  setting-none,
-  setting-refused,
-  bad_long,
-  header-short,
-  header-form,
-  header-setting,
-  need-unknown,
-  need-data,
-  need-fixed,
-  wrong-room,
-  wrong-length,
-  wrong-kind,
-  cut-none,
-  cut-some,
-  bad_whole,
-  bad_some,
-  by-record,
-  rules,
-)
+pub wrong_none : (xs : List ℕ) → HasNoKind (byte_at xs 0) → reasons.Kind (byte_at xs 0) ≡ wrong_reason xs
+unfolding wrong_reason
+wrong_none xs n = rw (ne_eqb _ _ (λ e. n kinds.Data (sym e))) refl
 
--- what a reading that is bad tells the code
+-- and one of a kind that is not data
+pub wrong_other : (xs : List ℕ) {k : Kind} → code_of k ≡ byte_at xs 0 → k ≢ kinds.Data → reasons.Kind (byte_at xs 0) ≡ wrong_reason xs
+unfolding wrong_reason
+wrong_other xs {k} e n = rw (ne_eqb _ _ (λ f. n (data_only k (e ∙ f)))) refl
+  where
+    data_only : (k : Kind) → code_of k ≡ 1 → k ≡ kinds.Data
+    data_only kinds.Data e = refl
+    data_only kinds.Pop e = absurd (omega (arith, e))
+    data_only kinds.Report e = absurd (omega (arith, e))
+    data_only kinds.FullAck e = absurd (omega (arith, e))
+    data_only kinds.Ack2 e = absurd (omega (arith, e))
+    data_only kinds.Drop e = absurd (omega (arith, e))
+    data_only kinds.Clock e = absurd (omega (arith, e))
+    data_only kinds.Clear e = absurd (omega (arith, e))
+
 pub ruleset bad_reads = (bad_long, bad_whole, bad_some)
+
+pub ruleset other_kinds = (wrong_none, wrong_other)

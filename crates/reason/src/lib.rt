@@ -10,15 +10,14 @@ ghost use Rattle.reason.specs.Reason.{is_marked, form_reason, setting_reason, he
 
 pub mod tell;
 
+use dlt::Unread;
 use dlt::bytes::half;
-use dlt::header::HeaderRead;
-use dlt::record::RecordRead;
+use dlt::header::Header;
+use dlt::kind::Kind;
 use head::state::Head;
 
-#[derive(Drop)]
+#[derive(Clone, Copy, PartialEq, Eq, Debug)]
 pub enum Reason {
-    // Nothing is wrong.
-    Nothing,
     HeaderCut { have: usize },
     NoMark,
     Version { version: u16 },
@@ -26,18 +25,17 @@ pub enum Reason {
     // Over 32.
     Capacity { capacity: usize },
     Setting,
-    // The bytes that the record needs are 0 if they are not known yet.
-    Cut { have: usize, need: usize },
+    // The bytes that the record needs, if they are known yet.
+    Cut { have: usize, need: Option<usize> },
     Kind { kind: u8 },
     Length { length: u16 },
 }
 
 #[tactic(auto, unfolding(crate::specs::Reason::is_marked))]
 fn is_marked(piece: &[u8]) -> bool
-    requires { 24 ≤ length piece.now }
     ensures { result ≡ is_marked piece.now }
 {
-    (piece[0] == b'D') & (piece[1] == b'L') & (piece[2] == b'T')
+    piece.starts_with(b"DLT")
 }
 
 // 24 bytes that are no header.
@@ -46,7 +44,7 @@ fn form(piece: &[u8]) -> Reason
     requires { 24 ≤ length piece.now }
     ensures { result ≡ form_reason piece.now }
 {
-    if is_marked(piece) {} else {
+    if !is_marked(piece) {
         return Reason::NoMark;
     }
     let version = half(piece, 3);
@@ -56,102 +54,82 @@ fn form(piece: &[u8]) -> Reason
     Reason::Version { version }
 }
 
-fn setting(start: i64, latency: u32, dropping: bool, first: u32, capacity: usize) -> Reason
-    ensures { result ≡ setting_reason (made_of start latency dropping first capacity) capacity }
+fn setting(h: Header) -> Option<Reason>
+    ensures { result ≡ setting_reason (made_of h.start h.latency h.dropping h.first h.capacity) h.capacity }
 {
-    if 32 < capacity {
-        return Reason::Capacity { capacity };
+    if 32 < h.capacity {
+        return Some(Reason::Capacity {
+            capacity: h.capacity,
+        });
     }
-    let made = Head::new(start, latency, dropping, first, capacity);
-    if made.refusal == 0 {
-        return Reason::Nothing;
+    match Head::new(h.start, h.latency, h.dropping, h.first, h.capacity) {
+        Ok(_) => None,
+        Err(_) => Some(Reason::Setting),
     }
-    Reason::Setting
 }
 
-// Of the bytes that a file starts with, when no more of them come.
+// Of the bytes that a file starts with, when no more of them come; none if nothing is wrong.
 #[tactic(auto, using(crate::proofs::Steps::bad_reads))]
-pub fn of_header(piece: &[u8]) -> Reason
+pub fn of_header(piece: &[u8]) -> Option<Reason>
     ensures { result ≡ header_reason piece.now }
 {
-    match dlt::header::header(piece) {
-        HeaderRead::Short => Reason::HeaderCut { have: piece.len() },
-        HeaderRead::Bad => form(piece),
-        HeaderRead::Header {
-            start,
-            latency,
-            dropping,
-            first,
-            capacity,
-        } => setting(start, latency, dropping, first, capacity),
+    match dlt::header::read(piece) {
+        Err(Unread::Short) => Some(Reason::HeaderCut { have: piece.len() }),
+        Err(Unread::Bad) => Some(form(piece)),
+        Ok(h) => setting(h),
     }
 }
 
-#[tactic(auto, unfolding(crate::specs::Reason::need_in))]
-fn need(rest: &[u8]) -> usize
+// The bytes of a record with its payload: of a data packet none before its length is there. A kind byte that no kind
+// has is all there is.
+#[tactic(auto, using(crate::proofs::Steps::need_none), unfolding(crate::specs::Reason::need_in))]
+fn need(rest: &[u8]) -> Option<usize>
     requires { 1 ≤ length rest.now }
     ensures { result ≡ need_in rest.now }
 {
-    let kind = rest[0];
-    if kind == 1 {
-        if rest.len() < 24 {
-            return 0;
-        }
-        return 24 + half(rest, 22) as usize;
+    match Kind::try_from(rest[0]) {
+        Ok(Kind::Data) if rest.len() < 24 => None,
+        Ok(Kind::Data) => Some(24 + usize::from(half(rest, 22))),
+        Ok(kind) => Some(kind.fixed()),
+        Err(_) => Some(1),
     }
-    dlt::record::fixed(kind)
 }
 
 #[tactic(auto, unfolding(crate::specs::Reason::cut_reason))]
-fn cut(rest: &[u8]) -> Reason
+fn cut(rest: &[u8]) -> Option<Reason>
     ensures { result ≡ cut_reason rest.now }
 {
-    if rest.len() < 1 {
-        return Reason::Nothing;
+    if rest.is_empty() {
+        return None;
     }
-    Reason::Cut {
+    Some(Reason::Cut {
         have: rest.len(),
         need: need(rest),
-    }
+    })
 }
 
-#[tactic(auto, unfolding(crate::specs::Reason::wrong_reason))]
+#[tactic(auto, using(crate::proofs::Steps::other_kinds), unfolding(crate::specs::Reason::wrong_reason, dlt::specs::Record::least_size))]
 fn wrong(rest: &[u8]) -> Reason
     requires in_bounds { 1 ≤ length rest.now }
     requires rest_in_bounds { least_size (byte_at rest.now 0) ≤ length rest.now }
     ensures { result ≡ wrong_reason rest.now }
 {
-    let kind = rest[0];
-    if kind == 1 {
-        return Reason::Length {
+    match Kind::try_from(rest[0]) {
+        Ok(Kind::Data) => Reason::Length {
             length: half(rest, 22),
-        };
+        },
+        _ => Reason::Kind { kind: rest[0] },
     }
-    Reason::Kind { kind }
 }
 
-// Of the bytes from a record on, when no more of them come.
+// Of the bytes from a record on, when no more of them come; none if there is a record, or no byte.
 #[tactic(auto, using(crate::proofs::Steps::bad_reads))]
-pub fn of_record(rest: &[u8]) -> Reason
+pub fn of_record(rest: &[u8]) -> Option<Reason>
     ensures { result ≡ record_reason rest.now }
 {
-    match dlt::record::record(rest, 0) {
-        RecordRead::Short => cut(rest),
-        RecordRead::Bad => wrong(rest),
-        RecordRead::Data {
-            time: _,
-            number: _,
-            message: _,
-            location: _,
-            stamp: _,
-            length: _,
-        } => Reason::Nothing,
-        RecordRead::Pop { time: _ } => Reason::Nothing,
-        RecordRead::Report { time: _ } => Reason::Nothing,
-        RecordRead::FullAck { time: _ } => Reason::Nothing,
-        RecordRead::Ack2 { time: _, number: _ } => Reason::Nothing,
-        RecordRead::Drop { first: _, last: _ } => Reason::Nothing,
-        RecordRead::Clock { time: _, stamp: _ } => Reason::Nothing,
-        RecordRead::Clear => Reason::Nothing,
+    match dlt::record::read(rest, 0) {
+        Err(Unread::Short) => cut(rest),
+        Err(Unread::Bad) => Some(wrong(rest)),
+        Ok(_) => None,
     }
 }

@@ -5,448 +5,185 @@
 // file.
 #![tactic(auto)]
 
-ghost use Rattle.std.specs.Prelude.{◌≡◌, ◌-◌, ◌≤◌, length};
-ghost use Rattle.trace.specs.Lends.{slots_lent, payloads_lent, history_lent, list_lent};
+ghost use Rattle.std.specs.Prelude.{◌≡◌, ◌+◌, ◌≤◌, length, IfSome, OnOk, OnErr};
+ghost use Rattle.trace.specs.Lends.{slots_lent, payloads_lent, history_lent, output_lent, list_lent};
 ghost use Rattle.replaying.specs.Counts.{IsPrefixLen};
-ghost use Rattle.replaying.specs.Reads.{wanting_of, filled_of, flushed_of};
+ghost use Rattle.replaying.specs.Reads.{Filled, Flushed};
 ghost use Rattle.replaying.specs.Same.{same_bytes};
 
+mod held;
+
+use crate::held::{Hand, Lines};
+use dlt::Unread;
 use std::env::{Env, FillError};
 use std::fs::File;
 use std::io;
 use std::io::Read;
-use trace::{Begun, Opened, Status, Trace, Turned};
+use trace::{Status, Trace};
 
 // The areas of capacity 32. With them no record is refused by 2, 11 or 12: the theorem `replay-areas`. An output has
 // the length of the payloads.
-fn slot_area() -> [u64; 96]
-    ensures { slots_lent ≡ length result }
-{
-    [0; 96]
-}
-
-fn payload_area() -> [u8; 46592]
-    ensures { payloads_lent ≡ length result }
-{
-    [0; 46592]
-}
-
-fn history_area() -> [u64; 2048]
-    ensures { history_lent ≡ length result }
-{
-    [0; 2048]
-}
-
-fn loss_words() -> [u32; 64]
-    ensures { list_lent ≡ length result }
-{
-    [0; 64]
-}
-
-// The bytes at hand, and the lines that are still to be written out.
-fn large_buffer() -> [u8; 65536]
-    ensures { 65536 ≡ length result }
-{
-    [0; 65536]
-}
-
-// A word of the command line: no path is longer.
-fn word_buffer() -> [u8; 4096]
-    ensures { 4096 ≡ length result }
-{
-    [0; 4096]
-}
-
-// Where a replay reads and where it writes, and why the last of it failed.
 #[derive(Drop)]
-struct Ports<'a, R, P> {
-    input: &'a mut R,
-    output: &'a P,
-    failure: Option<io::Error>,
+struct Areas {
+    words: [u64; 96],
+    bytes: [u8; 46592],
+    area: [u64; 2048],
+    out: [u8; 46592],
+    list: [u32; 64],
 }
 
-// What is to be done next.
-#[derive(Clone, Copy)]
-enum Want {
-    // The header, or a turn of the trace.
-    Header,
-    Turn,
-    // More bytes for either.
-    HeaderBytes,
-    TurnBytes,
-    // Room for a line.
-    Room,
-    // The end line is written, or the bad line of a header or of a record.
-    Nothing,
+impl Areas {
+    fn new() -> Self
+        ensures slots { slots_lent ≡ length result.words }
+        ensures payloads { payloads_lent ≡ length result.bytes }
+        ensures history { history_lent ≡ length result.area }
+        ensures output { output_lent ≡ length result.out }
+        ensures list { list_lent ≡ length result.list }
+    {
+        Areas {
+            words: [0; 96],
+            bytes: [0; 46592],
+            area: [0; 2048],
+            out: [0; 46592],
+            list: [0; 64],
+        }
+    }
+}
+
+impl Hand {
+    // A read that gave nothing is the end of the file, and no other is.
+    fn took(&mut self, kept: usize, n: usize)
+        requires { kept + n ≤ 65536 }
+        ensures { Filled self.old kept n self.new }
+    {
+        self.at = 0;
+        self.end = kept + n;
+        self.last = n == 0;
+    }
+
+    // The unread bytes go to the front, and one read behind them.
+    fn fill<R: Read>(&mut self, input: &mut R) -> io::Result<()>
+        ensures unread { OnErr result (self.new.last ≡ self.old.last) }
+    {
+        let kept = self.shift();
+        let n = input.read(&mut self.bytes[kept..])?;
+        self.took(kept, n);
+        Ok(())
+    }
+}
+
+impl Lines {
+    fn flush(&mut self, output: &impl Print) -> io::Result<()>
+        ensures done { OnOk result (Flushed self.old self.new) }
+        ensures failed { OnErr result (self.new ≡ self.old) }
+    {
+        output.write_all(&self.text[..self.used])?;
+        self.used = 0;
+        Ok(())
+    }
+}
+
+// Why a replay stopped before its end.
+#[derive(Drop)]
+enum Failure {
+    Unread(io::Error),
+    Unwritten(io::Error),
+}
+
+// How the file ended: with the end line, or with the bad line of its header, or of the record that begins at `offset`
+// after `count` others.
+#[derive(Clone, Copy, PartialEq, Eq, Debug)]
+enum End {
+    Whole,
     BadHeader,
-    BadRecord,
-    // Reading or writing failed.
-    Unread,
-    Unwritten,
+    BadRecord { offset: u64, count: u64 },
 }
 
-// Between two turns: the bytes at hand are those from `at` to `end` of the buffer, and `used` bytes of lines are still
-// to be written out. `last` says that the file has no more.
-#[derive(Clone, Copy)]
-struct State {
-    trace: Trace,
-    at: usize,
-    end: usize,
-    used: usize,
-    last: bool,
-    want: Want,
-}
-
-// n, or as many bytes as there are.
-fn within(n: usize, part: &[u8]) -> usize
-    ensures { IsPrefixLen result part.now }
-{
-    if n < part.len() { n } else { part.len() }
-}
-
-fn least(a: usize, b: usize) -> usize
-    ensures { result ≤ b }
-{
-    if a < b { a } else { b }
-}
-
-// Moves the bytes from `at` to `end` to the front.
-fn shift(hand: &mut [u8], at: usize, end: usize)
-    requires at_le_end { at ≤ end }
-    requires end_in_bounds { end ≤ length hand.old }
-{
-    for i in at..end {
-        hand[i - at] = hand[i];
-    }
-}
-
-fn wanting(s: State, want: Want) -> State
-    ensures { result ≡ wanting_of s want }
-{
-    let trace = s.trace;
-    State {
-        trace,
-        at: s.at,
-        end: s.end,
-        used: s.used,
-        last: s.last,
-        want,
-    }
-}
-
-// What a read gave: the bytes at hand end here, and its answer, which is their number, or below 0 where it failed.
-#[derive(Clone, Copy)]
-struct Got {
-    end: usize,
-    answer: isize,
-}
-
-// One read into a part, and its answer, as above. Why it failed is kept.
-fn read_into<R: Read, P>(ports: &mut Ports<'_, R, P>, part: &mut [u8]) -> isize {
-    match ports.input.read(part) {
-        Ok(n) => isize::try_from(n).unwrap_or(isize::MAX),
-        Err(e) => {
-            ports.failure = Some(e);
-            -1
-        }
-    }
-}
-
-// The bytes at hand go to the front, and one read behind them.
-fn read_behind<R: Read, P>(
-    ports: &mut Ports<'_, R, P>,
-    hand: &mut [u8],
-    from: usize,
-    to: usize,
-) -> Got {
-    let end = within(to, hand);
-    let at = least(from, end);
-    shift(hand, at, end);
-    let kept = end - at;
-    let answer = read_into(ports, &mut hand[kept..]);
-    Got {
-        end: std::num::wrapping_add_usize(kept, usize::try_from(answer).unwrap_or(0)),
-        answer,
-    }
-}
-
-// A read that gave nothing is the end of the file, and no other is.
-#[tactic(auto, unfolding(crate::specs::Reads::filled_of))]
-fn filled(s: State, got: Got, want: Want) -> State
-    ensures { result ≡ filled_of s got want }
-{
-    if got.answer < 0 {
-        return wanting(s, Want::Unread);
-    }
-    let trace = s.trace;
-    State {
-        trace,
-        at: 0,
-        end: got.end,
-        used: s.used,
-        last: got.answer <= 0,
-        want,
-    }
-}
-
-fn write_out<R, P: Print>(ports: &mut Ports<'_, R, P>, text: &[u8], used: usize) -> bool {
-    let n = within(used, text);
-    match ports.output.write_all(&text[..n]) {
-        Ok(()) => true,
-        Err(e) => {
-            ports.failure = Some(e);
-            false
-        }
-    }
-}
-
-// The lines were written out, or not.
-#[tactic(auto, unfolding(crate::specs::Reads::flushed_of))]
-fn flushed(s: State, done: bool, want: Want) -> State
-    ensures { result ≡ flushed_of s done want }
-{
-    if done {
-        let trace = s.trace;
-        return State {
-            trace,
-            at: s.at,
-            end: s.end,
-            used: 0,
-            last: s.last,
-            want,
-        };
-    }
-    wanting(s, Want::Unwritten)
-}
-
-// The line of a file that is no trace, `bad 0`, and the cursor behind it.
-fn put_bad(text: &mut [u8]) -> usize {
-    if text.len() < 256 {
-        return 0;
-    }
-    lines::bad_line(text, 0, 0)
-}
-
-// The bytes at hand stay, so that the reason can be told.
-fn bad_start(text: &mut [u8], s: State) -> State {
-    let used = put_bad(text);
-    let trace = s.trace;
-    State {
-        trace,
-        at: 0,
-        end: s.end,
-        used,
-        last: true,
-        want: Want::BadHeader,
-    }
-}
-
-fn opening(hand: &[u8], to: usize, counting: bool) -> Begun {
-    let end = within(to, hand);
-    trace::begin(&hand[..end], counting)
-}
-
-// The header, from the bytes at hand.
-fn open(hand: &[u8], text: &mut [u8], s: State) -> State {
-    let before = s.trace;
-    let tally = before.tally;
-    let b = opening(hand, s.end, tally.asked);
-    let trace = b.trace;
-    let opened = b.opened;
-    match opened {
-        Opened::Ready => State {
-            trace,
-            at: 24,
-            end: s.end,
-            used: s.used,
-            last: s.last,
-            want: Want::Turn,
-        },
-        Opened::Bad => bad_start(text, s),
-        Opened::Short => {
-            if s.last {
-                return bad_start(text, s);
-            }
-            wanting(s, Want::HeaderBytes)
-        }
-    }
-}
-
-fn after(status: Status) -> Want {
-    match status {
-        Status::Line => Want::Turn,
-        Status::More => Want::TurnBytes,
-        Status::LineShort => Want::Room,
-        Status::End => Want::Nothing,
-        Status::Bad => Want::BadRecord,
-    }
-}
-
-fn turned(s: State, x: Turned) -> State {
-    let trace = x.trace;
-    let status = x.status;
-    State {
-        trace,
-        at: std::num::wrapping_add_usize(s.at, x.size),
-        end: s.end,
-        used: std::num::wrapping_add_usize(s.used, x.length),
-        last: s.last,
-        want: after(status),
-    }
-}
-
-// A turn of the trace, with its line behind the lines that are there.
-fn turn(
-    words: &mut [u64],
-    bytes: &mut [u8],
-    area: &mut [u64],
-    out: &mut [u8],
-    list: &mut [u32],
-    hand: &[u8],
-    text: &mut [u8],
-    trace: Trace,
-    at: usize,
-    to: usize,
-    last: bool,
-    used: usize,
-) -> Turned {
-    let end = within(to, hand);
-    let from = within(used, text);
-    trace::next(
-        trace,
-        words,
-        bytes,
-        area,
-        out,
-        list,
-        &mut text[from..],
-        &hand[..end],
-        at,
-        last,
-    )
-}
-
-// What is wanted is done once.
-fn act<R: Read, P: Print>(
-    ports: &mut Ports<'_, R, P>,
-    words: &mut [u64],
-    bytes: &mut [u8],
-    area: &mut [u64],
-    out: &mut [u8],
-    list: &mut [u32],
-    hand: &mut [u8],
-    text: &mut [u8],
-    s: State,
-) -> State {
-    let want = s.want;
-    let trace = s.trace;
-    match want {
-        Want::Turn => {
-            let x = turn(
-                words, bytes, area, out, list, hand, text, trace, s.at, s.end, s.last, s.used,
-            );
-            turned(s, x)
-        }
-        Want::Header => open(hand, text, s),
-        Want::HeaderBytes => filled(s, read_behind(ports, hand, s.at, s.end), Want::Header),
-        Want::TurnBytes => filled(s, read_behind(ports, hand, s.at, s.end), Want::Turn),
-        Want::Room => flushed(s, write_out(ports, text, s.used), Want::Turn),
-        _ => s,
-    }
-}
-
-fn less(turns: u64) -> u64
-    ensures { result ≤ turns - 1 }
-{
-    if turns == 0 {
-        return 0;
-    }
-    turns - 1
-}
-
-// The turns that are left: none once nothing is wanted.
-fn left(want: Want, turns: u64) -> u64
-    ensures { result ≤ turns - 1 }
-{
-    match want {
-        Want::Nothing => 0,
-        Want::BadHeader => 0,
-        Want::BadRecord => 0,
-        Want::Unread => 0,
-        Want::Unwritten => 0,
-        Want::Turn => less(turns),
-        Want::Header => less(turns),
-        Want::HeaderBytes => less(turns),
-        Want::TurnBytes => less(turns),
-        Want::Room => less(turns),
-    }
-}
-
-// A proved loop has to end, and nothing says that a file does: it counts down from a number that no run uses up.
+// What a replay has between two turns of the trace.
 #[derive(Drop)]
-struct Going {
-    turns: u64,
-    state: State,
+struct Replay {
+    areas: Areas,
+    hand: Hand,
+    lines: Lines,
 }
 
-fn once<R: Read, P: Print>(
-    ports: &mut Ports<'_, R, P>,
-    words: &mut [u64],
-    bytes: &mut [u8],
-    area: &mut [u64],
-    out: &mut [u8],
-    list: &mut [u32],
-    hand: &mut [u8],
-    text: &mut [u8],
-    g: Going,
-) -> Going
-    ensures { result.turns ≤ g.turns - 1 }
-{
-    let before = g.state;
-    let state = act(ports, words, bytes, area, out, list, hand, text, before);
-    let want = state.want;
-    Going {
-        turns: left(want, g.turns),
-        state,
+// A proved loop has to end, and nothing says that a file does: each counts up to a number that no run reaches.
+impl Replay {
+    // The header. Where it is bad the bytes at hand stay, so that the reason can be told.
+    fn open<R: Read>(&mut self, input: &mut R, counting: bool) -> io::Result<Option<Trace>> {
+        for _ in 0..u64::MAX {
+            match self.hand.begin(counting) {
+                Ok(trace) => return Ok(Some(trace)),
+                Err(Unread::Short) if !self.hand.last => self.hand.fill(input)?,
+                Err(_) => break,
+            }
+        }
+        self.lines.put_bad();
+        Ok(None)
     }
-}
 
-fn replay_all<R: Read, P: Print>(
-    ports: &mut Ports<'_, R, P>,
-    words: &mut [u64],
-    bytes: &mut [u8],
-    area: &mut [u64],
-    out: &mut [u8],
-    list: &mut [u32],
-    hand: &mut [u8],
-    text: &mut [u8],
-    start: State,
-) -> State {
-    let mut g = Going {
-        turns: u64::MAX,
-        state: start,
-    };
-    while g.turns > 0 {
-        g = once(ports, words, bytes, area, out, list, hand, text, g);
+    // A turn of the trace, with its line behind the lines that are there.
+    fn turn(&mut self, trace: &mut Trace) -> Status {
+        let areas = &mut self.areas;
+        let x = trace::next(
+            *trace,
+            &mut areas.words,
+            &mut areas.bytes,
+            &mut areas.area,
+            &mut areas.out,
+            &mut areas.list,
+            &mut self.lines.text[self.lines.used..],
+            self.hand.piece(),
+            self.hand.at,
+            self.hand.last,
+        );
+        *trace = x.trace;
+        self.hand.pass(x.size);
+        self.lines.add(x.length);
+        x.status
     }
-    g.state
-}
 
-fn fresh(counting: bool) -> State {
-    let b = trace::begin(b"", counting);
-    let trace = b.trace;
-    State {
-        trace,
-        at: 0,
-        end: 0,
-        used: 0,
-        last: false,
-        want: Want::Header,
+    // The whole file, but for the lines that are left at its end.
+    fn run<R: Read>(
+        &mut self,
+        input: &mut R,
+        output: &impl Print,
+        counting: bool,
+    ) -> Result<End, Failure> {
+        let Some(mut trace) = self.open(input, counting).map_err(Failure::Unread)? else {
+            return Ok(End::BadHeader);
+        };
+        for _ in 0..u64::MAX {
+            match self.turn(&mut trace) {
+                Status::Line => {}
+                Status::More => self.hand.fill(input).map_err(Failure::Unread)?,
+                Status::LineShort => self.lines.flush(output).map_err(Failure::Unwritten)?,
+                Status::End => break,
+                Status::Bad => {
+                    return Ok(End::BadRecord {
+                        offset: trace.offset,
+                        count: trace.count,
+                    });
+                }
+            }
+        }
+        Ok(End::Whole)
     }
-}
 
-fn put(out: &impl Print, text: &[u8]) {
-    let _ = out.write_all(text);
+    // Why the header is bad, or why the record at the cursor is: on standard error.
+    fn tell(&self, err: &impl Print, end: End, name: &[u8]) {
+        match end {
+            End::Whole => {}
+            End::BadHeader => {
+                let reason = reason::of_header(self.hand.piece());
+                reason::tell::tell(err, name, 0, 0, reason);
+            }
+            End::BadRecord { offset, count } => {
+                let reason = reason::of_record(self.hand.unread());
+                reason::tell::tell(err, name, offset, count.wrapping_add(1), reason);
+            }
+        }
+    }
 }
 
 // The words of a failure, without the system's number for it.
@@ -457,152 +194,40 @@ fn without_number(text: &str) -> &str {
     }
 }
 
-fn put_cause(rt: &HostRuntime, failure: io::Error) {
-    match failure.to_string(rt.alloc()) {
-        Ok(text) => put(&rt.stderr(), without_number(text.as_str()).as_bytes()),
-        Err(_) => {
-            let _ = rt.eprint(failure);
-        }
-    }
-}
-
-// A line on standard error: what failed, and why.
+// A line on standard error: what failed, whose name need not be text, and why. What cannot be written is let pass.
 fn fail(rt: &HostRuntime, what: &[u8], failure: io::Error) {
-    put(&rt.stderr(), what);
-    put(&rt.stderr(), b": ");
-    put_cause(rt, failure);
-    put(&rt.stderr(), b"\n");
-}
-
-// The same of what failed between the ports.
-fn fail_ports<R, P>(rt: &HostRuntime, ports: &Ports<'_, R, P>, what: &[u8]) {
-    if let Some(failure) = ports.failure {
-        fail(rt, what, failure);
-    }
-}
-
-fn write_rest<R, P: Print>(
-    rt: &HostRuntime,
-    ports: &mut Ports<'_, R, P>,
-    text: &[u8],
-    used: usize,
-) {
-    if write_out(ports, text, used) {
-        return;
-    }
-    fail_ports(rt, ports, b"standard output");
-}
-
-// Why the header is bad, and why the record at the cursor is: on standard error.
-fn tell_header(err: &impl Print, name: &[u8], hand: &[u8], to: usize) {
-    let end = within(to, hand);
-    reason::tell::tell(err, name, 0, 0, reason::of_header(&hand[..end]));
-}
-
-fn tell_record(
-    err: &impl Print,
-    name: &[u8],
-    hand: &[u8],
-    from: usize,
-    to: usize,
-    offset: u64,
-    count: u64,
-) {
-    let end = within(to, hand);
-    let at = least(from, end);
-    let nth = std::num::wrapping_add_u64(count, 1);
-    reason::tell::tell(err, name, offset, nth, reason::of_record(&hand[at..end]));
-}
-
-fn tell(
-    err: &impl Print,
-    want: Want,
-    name: &[u8],
-    hand: &[u8],
-    at: usize,
-    end: usize,
-    offset: u64,
-    count: u64,
-) {
-    match want {
-        Want::BadHeader => tell_header(err, name, hand, end),
-        Want::BadRecord => tell_record(err, name, hand, at, end, offset, count),
-        _ => {}
-    }
-}
-
-// The lines that are left, and what failed. A failure is told before another can take its place.
-fn finish<R, P: Print>(
-    rt: &HostRuntime,
-    ports: &mut Ports<'_, R, P>,
-    want: Want,
-    text: &[u8],
-    used: usize,
-    name: &[u8],
-) {
-    match want {
-        Want::Unwritten => fail_ports(rt, ports, b"standard output"),
-        Want::Unread => {
-            fail_ports(rt, ports, name);
-            write_rest(rt, ports, text, used);
-        }
-        Want::Nothing => write_rest(rt, ports, text, used),
-        Want::BadHeader => write_rest(rt, ports, text, used),
-        Want::BadRecord => write_rest(rt, ports, text, used),
-        Want::Turn => write_rest(rt, ports, text, used),
-        Want::Header => write_rest(rt, ports, text, used),
-        Want::HeaderBytes => write_rest(rt, ports, text, used),
-        Want::TurnBytes => write_rest(rt, ports, text, used),
-        Want::Room => write_rest(rt, ports, text, used),
-    }
-}
-
-fn replay_open<R: Read>(rt: &HostRuntime, input: &mut R, name: &[u8], counting: bool) {
-    let mut ports = Ports {
-        input,
-        output: rt,
-        failure: None,
+    let err = rt.stderr();
+    let _ = err.write_all(what);
+    let _ = match failure.to_string(rt.alloc()) {
+        Ok(text) => err.println(format_args!(": {}", without_number(text.as_str()))),
+        Err(_) => err.println(format_args!(": {failure}")),
     };
-    let mut words = slot_area();
-    let mut bytes = payload_area();
-    let mut area = history_area();
-    let mut out = payload_area();
-    let mut list = loss_words();
-    let mut hand = large_buffer();
-    let mut text = large_buffer();
-    let s = replay_all(
-        &mut ports,
-        &mut words,
-        &mut bytes,
-        &mut area,
-        &mut out,
-        &mut list,
-        &mut hand,
-        &mut text,
-        fresh(counting),
-    );
-    let want = s.want;
-    let trace = s.trace;
-    finish(rt, &mut ports, want, &text, s.used, name);
-    tell(
-        &rt.stderr(),
-        want,
-        name,
-        &hand,
-        s.at,
-        s.end,
-        trace.offset,
-        trace.count,
-    );
 }
 
-// A name of no letters is shown in quotes.
-fn fail_name(rt: &HostRuntime, path: &[u8], failure: io::Error) {
-    if path.len() == 0 {
-        fail(rt, b"''", failure);
-        return;
+fn write_rest(rt: &HostRuntime, lines: &mut Lines) {
+    if let Err(e) = lines.flush(rt) {
+        fail(rt, b"standard output", e);
     }
-    fail(rt, path, failure);
+}
+
+// A failure is told before another can take its place, and the lines that are left are written out.
+fn replay_open<R: Read>(rt: &HostRuntime, input: &mut R, name: &[u8], counting: bool) {
+    let mut replay = Replay {
+        areas: Areas::new(),
+        hand: Hand::new(),
+        lines: Lines::new(),
+    };
+    match replay.run(input, rt, counting) {
+        Ok(end) => {
+            write_rest(rt, &mut replay.lines);
+            replay.tell(&rt.stderr(), end, name);
+        }
+        Err(Failure::Unread(e)) => {
+            fail(rt, name, e);
+            write_rest(rt, &mut replay.lines);
+        }
+        Err(Failure::Unwritten(e)) => fail(rt, b"standard output", e),
+    }
 }
 
 // std takes the name of a file as text alone, so no other name can be opened.
@@ -616,10 +241,12 @@ fn open_file(rt: &HostRuntime, path: &[u8]) -> io::Result<File> {
     }
 }
 
+// A name of no letters is shown in quotes.
 fn replay_file(rt: &HostRuntime, path: &[u8], counting: bool) {
     match open_file(rt, path) {
         Ok(mut file) => replay_open(rt, &mut file, path, counting),
-        Err(failure) => fail_name(rt, path, failure),
+        Err(e) if path.is_empty() => fail(rt, b"''", e),
+        Err(e) => fail(rt, path, e),
     }
 }
 
@@ -628,6 +255,7 @@ const EINVAL: i32 = 22;
 
 const ENAMETOOLONG: i32 = 36;
 
+// Both types are the library's, so this cannot be a From.
 fn word_failure(e: FillError) -> io::Error {
     match e {
         FillError::NotPresent => io::Error::from_raw_os_error(EINVAL),
@@ -643,26 +271,30 @@ fn replay_argument(rt: &HostRuntime, i: usize, counting: bool) {
     }
 }
 
+// A word of the command line: no path is longer.
+pub fn word_buffer() -> [u8; 4096]
+    ensures { 4096 ≡ length result }
+{
+    [0; 4096]
+}
+
+// Word i of the command line is put at the start of `word`, and is so long. None if it is missing or has no room there.
+pub fn word_at(rt: &HostRuntime, i: usize, word: &mut [u8]) -> Option<usize>
+    ensures { IfSome result (λ n. IsPrefixLen n word.new) }
+{
+    rt.arg(i, word).ok()
+}
+
 // Whether two words are the same.
 #[tactic(auto, using(crate::proofs::Sames::sames))]
 pub fn same(a: &[u8], b: &[u8]) -> bool
     ensures { result ≡ same_bytes a.now b.now }
 {
-    if a.len() != b.len() {
-        return false;
-    }
-    let mut i = 0;
-    while i < a.len() {
-        if a[i] != b[i] {
-            return false;
-        }
-        i += 1;
-    }
-    true
+    a == b
 }
 
 // What a word of the command line is.
-#[derive(Drop)]
+#[derive(Clone, Copy, PartialEq, Eq, Debug)]
 enum Word {
     Counters,
     // `-`, or an option that there is not.
@@ -672,136 +304,103 @@ enum Word {
 }
 
 fn kind(w: &[u8]) -> Word {
-    if w.len() == 0 {
-        return Word::File;
-    }
-    if w[0] != b'-' {
-        return Word::File;
-    }
-    if w.len() == 1 {
-        return Word::Input;
-    }
-    if same(w, b"--counters") {
-        return Word::Counters;
-    }
-    Word::Unknown
-}
-
-// How many words the command line has, the program's name among them.
-fn word_count(rt: &HostRuntime) -> usize {
-    let mut word = word_buffer();
-    for i in 0..usize::MAX {
-        if let Err(FillError::NotPresent) = rt.arg(i, &mut word) {
-            return i;
-        }
-    }
-    usize::MAX
-}
-
-// Word i of the command line is put at the start of `word`, and is so long: 0 if it is missing or has no room there.
-pub fn word_at(rt: &HostRuntime, i: usize, word: &mut [u8]) -> usize
-    ensures { IsPrefixLen result word.new }
-{
-    match rt.arg(i, word) {
-        Ok(length) => length,
-        Err(_) => 0,
+    match w {
+        [b'-'] => Word::Input,
+        [b'-', ..] if same(w, b"--counters") => Word::Counters,
+        [b'-', ..] => Word::Unknown,
+        _ => Word::File,
     }
 }
 
-fn argument(rt: &HostRuntime, i: usize) -> Word {
+// None behind the last word. A word that is too long names a file that cannot be opened.
+fn argument(rt: &HostRuntime, i: usize) -> Option<Word> {
     let mut w = word_buffer();
-    let length = word_at(rt, i, &mut w);
-    kind(&w[..length])
+    match rt.arg(i, &mut w) {
+        Ok(length) => Some(kind(&w[..length])),
+        Err(FillError::TooLong) => Some(Word::File),
+        Err(FillError::NotPresent) => None,
+    }
 }
 
-// What the words ask for: the file's place among them (0: standard input), how many name one, the counters, and whether
-// all are understood.
-#[derive(Clone, Copy)]
+// What the words ask for: the place among them of the file's name, none for standard input, and the counters.
+#[derive(Clone, Copy, PartialEq, Eq, Debug)]
 struct Asked {
-    file: usize,
-    named: usize,
+    file: Option<usize>,
     counting: bool,
-    known: bool,
 }
 
-fn asked_also(rt: &HostRuntime, a: Asked, i: usize) -> Asked {
-    let mut next = a;
-    match argument(rt, i) {
-        Word::Counters => next.counting = true,
-        Word::Unknown => next.known = false,
-        Word::Input => next.named = std::num::wrapping_add_usize(a.named, 1),
-        Word::File => {
-            next.file = i;
-            next.named = std::num::wrapping_add_usize(a.named, 1);
+// None for an option that there is not, and for a second file.
+fn asked_from(rt: &HostRuntime, first: usize) -> Option<Asked> {
+    let mut asked = Asked {
+        file: None,
+        counting: false,
+    };
+    // A flag beside the file, since `-` is named and no file: an Option in an Option is no plainer.
+    let mut named = false;
+    for i in first..usize::MAX {
+        let Some(word) = argument(rt, i) else {
+            break;
+        };
+        match word {
+            Word::Counters => asked.counting = true,
+            Word::Unknown => return None,
+            _ if named => return None,
+            Word::Input => named = true,
+            Word::File => {
+                named = true;
+                asked.file = Some(i);
+            }
         }
     }
-    next
-}
-
-fn asked_from(rt: &HostRuntime, first: usize) -> Asked {
-    let n = word_count(rt);
-    let mut a = Asked {
-        file: 0,
-        named: 0,
-        counting: false,
-        known: true,
-    };
-    for i in first..n {
-        a = asked_also(rt, a, i);
-    }
-    a
+    Some(asked)
 }
 
 // Replays what the words from the first on ask for.
-fn replay_from(rt: &HostRuntime, first: usize, usage: &[u8]) {
-    let a = asked_from(rt, first);
-    if !a.known | (1 < a.named) {
-        put(&rt.stderr(), usage);
+fn replay_from(rt: &HostRuntime, first: usize, usage: &str) {
+    let Some(Asked { file, counting }) = asked_from(rt, first) else {
+        let _ = eprintln!(rt; "usage: {usage} [--counters] [FILE]");
         return;
+    };
+    match file {
+        Some(i) => replay_argument(rt, i, counting),
+        None => replay_open(rt, &mut rt.stdin(), b"standard input", counting),
     }
-    if a.file == 0 {
-        replay_open(rt, &mut rt.stdin(), b"standard input", a.counting);
-        return;
-    }
-    replay_argument(rt, a.file, a.counting);
 }
 
 // The program replay.
 pub fn run(rt: &HostRuntime) {
-    replay_from(rt, 1, b"usage: replay [--counters] [FILE]\n");
+    replay_from(rt, 1, "replay");
 }
 
 // The subcommand replay: its words are behind it.
 pub fn run_subcommand(rt: &HostRuntime) {
-    replay_from(rt, 2, b"usage: pursethistle replay [--counters] [FILE]\n");
+    replay_from(rt, 2, "pursethistle replay");
 }
 
+// A name need not be text.
 fn write_name(rt: &HostRuntime, i: usize) {
     let mut path = word_buffer();
-    let length = word_at(rt, i, &mut path);
-    put(rt, &path[..length]);
-    put(rt, b"\n");
-}
-
-// A file by its name, or the word that asks for counters from there on.
-fn each(rt: &HostRuntime, i: usize, counting: bool) -> bool {
-    match argument(rt, i) {
-        Word::Counters => true,
-        Word::Unknown => counting,
-        Word::Input => counting,
-        Word::File => {
-            write_name(rt, i);
-            replay_argument(rt, i, counting);
-            counting
-        }
+    if let Some(length) = word_at(rt, i, &mut path) {
+        let _ = rt.write_all(&path[..length]);
     }
+    let _ = println!(rt);
 }
 
-// Replays each file that an argument names, after a line with the name: for the cases of the gate.
+// Replays each file that an argument names, after a line with the name, with counters from the word on that asks for
+// them: for the cases of the gate.
 pub fn run_each(rt: &HostRuntime) {
-    let n = word_count(rt);
     let mut counting = false;
-    for i in 1..n {
-        counting = each(rt, i, counting);
+    for i in 1..usize::MAX {
+        let Some(word) = argument(rt, i) else {
+            break;
+        };
+        match word {
+            Word::Counters => counting = true,
+            Word::Unknown | Word::Input => {}
+            Word::File => {
+                write_name(rt, i);
+                replay_argument(rt, i, counting);
+            }
+        }
     }
 }

@@ -1,4 +1,5 @@
--- Any two outcomes that the promise of a line or a part of one allows coincide, here and in lines and tally: 01, "Each proof's duty". Assumes nothing.
+-- Any two outcomes that the promise of a line or a part of one allows coincide, here and in lines and tally: 01, "Each
+-- proof's duty". Assumes nothing.
 use mathlib.Core.Path.{◌≡◌}
 use mathlib.Core.List.{List}
 use Prim.Native.Nat.{ℕ}

@@ -1,21 +1,20 @@
 -- What the code of tail.rt does at each return, as laws over plain values. Assumes nothing.
 use mathlib.Core.Path.{◌≡◌, refl, sym, ◌∙◌, ap}
 use mathlib.Core.List.{List, [], ◌∷◌, ◌++◌, map, map-append, append_assoc, append-nil}
-use Prim.Native.Nat.{ℕ, ◌+◌, ◌*◌, ◌<◌, ◌≤◌}
+use Prim.Native.Nat.{ℕ, ◌+◌, ◌<◌, ◌≤◌}
 use native.Mathlib.Numerals.{add-one}
 use native.Mathlib.Omega.{arith}
 use borrow.Author.Rules.{rules}
-use lib.Dec.{T, leb, leb→le}
-use lib.IntN.{ℤ}
 use lib.ListN.{length, get_or, take}
-use lib.Seq.{take-suc}
+use lib.Seq.{take-suc, take_all}
+use Rattle.std.proofs.lemmas.List.Sums.{sum_by_more, sum_by_more_le}
 use Rattle.text.specs.Put.{put_ended, put_of}
 use Rattle.text.proofs.Puts.{put-cursor, put_then, puts, put-none}
-use Rattle.intervals.specs.declared.rates.Rate.{Rate}
-use Rattle.intervals.specs.declared.rates.Rate.TheVariants.{Unknown, PerSecond}
-use Rattle.head.specs.Paper.{Value, whole, plain}
-use Rattle.feedback.specs.Paper.{rate_value}
+use Rattle.head.specs.Paper.{Value}
 use Rattle.shapes.specs.Shapes.{value_bytes, spaced, closed}
+use Rattle.shapes.specs.Inner.{value_of, width_of, widths_of}
+use Rattle.shapes.specs.declared.part.Value as parts
+use Rattle.shapes.specs.declared.part.Value.TheVariants.{Dash}
 
 spaced-join : (us vs : List Value) → spaced (us ++ vs) ≡ spaced us ++ spaced vs
 unfolding spaced
@@ -26,93 +25,60 @@ closed-join : (us vs : List Value) → spaced us ++ closed vs ≡ closed (us ++ 
 unfolding closed
 closed-join us vs = sym (append_assoc (spaced us) (spaced vs) (10 ∷ [])) ∙ ap (λ (l : List ℕ). l ++ (10 ∷ [])) (sym (spaced-join us vs))
 
--- some values and then the rest, where there is room
-module _ (out : List ℕ) (at m k : ℕ) (us : List Value) {p : ℕ} {out₁ : List ℕ}
-    (e : put_ended p out₁ ≡ put_of out at (spaced us)) (w : p ≤ at + m) (h : at + k ≤ length out) (t : T (leb m k)) where
-  fits : at + length (spaced us) ≤ length out
-  fits = let a = put-cursor out at (spaced us) e in let b = leb→le m k t in omega arith
-
-  then-closed : (vs : List Value) {r : ℕ} {out₂ : List ℕ} → put_ended r out₂ ≡ put_of out₁ p (closed vs) → put_ended r out₂ ≡ put_of out at (closed (us ++ vs))
-  then-closed vs f = put_then out at (spaced us) (closed vs) e f fits ∙ ap (put_of out at) (closed-join us vs)
-
-  then-spaced : (vs : List Value) {r : ℕ} {out₂ : List ℕ} → put_ended r out₂ ≡ put_of out₁ p (spaced vs) → put_ended r out₂ ≡ put_of out at (spaced (us ++ vs))
-  then-spaced vs f = put_then out at (spaced us) (spaced vs) e f fits ∙ ap (put_of out at) (sym (spaced-join us vs))
-
-pub one-closed : (out : List ℕ) (at m k : ℕ) (v : Value) (vs : List Value) {p r : ℕ} {out₁ out₂ : List ℕ}
-    → put_ended p out₁ ≡ put_of out at (spaced (v ∷ [])) → p ≤ at + m → at + k ≤ length out → T (leb m k)
-    → put_ended r out₂ ≡ put_of out₁ p (closed vs) → put_ended r out₂ ≡ put_of out at (closed (v ∷ vs))
-one-closed out at m k v vs e w h t f = then-closed out at m k (v ∷ []) e w h t vs f
-
-pub sign-closed : (out : List ℕ) (at m k : ℕ) (z : ℤ) (vs : List Value) {z₁ : ℤ} {p r : ℕ} {out₁ out₂ : List ℕ}
-    → z₁ ≡ z → put_ended p out₁ ≡ put_of out at (spaced (whole z₁ ∷ [])) → p ≤ at + m → at + k ≤ length out → T (leb m k)
-    → put_ended r out₂ ≡ put_of out₁ p (closed vs) → put_ended r out₂ ≡ put_of out at (closed (whole z ∷ vs))
-sign-closed out at m k z vs q e w h t f =
-    then-closed out at m k (whole z ∷ []) (e ∙ ap (λ (x : ℤ). put_of out at (spaced (whole x ∷ []))) q) w h t vs f
-
-pub two-closed : (out : List ℕ) (at m k : ℕ) (u v : Value) (vs : List Value) {p r : ℕ} {out₁ out₂ : List ℕ}
-    → put_ended p out₁ ≡ put_of out at (spaced (u ∷ v ∷ [])) → p ≤ at + m → at + k ≤ length out → T (leb m k)
-    → put_ended r out₂ ≡ put_of out₁ p (closed vs) → put_ended r out₂ ≡ put_of out at (closed (u ∷ v ∷ vs))
-two-closed out at m k u v vs e w h t f = then-closed out at m k (u ∷ v ∷ []) e w h t vs f
-
-pub two-sign : (out : List ℕ) (at m k : ℕ) (u v : Value) (z : ℤ) {z₁ : ℤ} {p r : ℕ} {out₁ out₂ : List ℕ}
-    → z₁ ≡ z → put_ended p out₁ ≡ put_of out at (spaced (u ∷ v ∷ [])) → p ≤ at + m → at + k ≤ length out → T (leb m k)
-    → put_ended r out₂ ≡ put_of out₁ p (closed (whole z₁ ∷ [])) → put_ended r out₂ ≡ put_of out at (closed (u ∷ v ∷ whole z ∷ []))
-two-sign out at m k u v z {p = p} {out₁ = out₁} q e w h t f =
-    then-closed out at m k (u ∷ v ∷ []) e w h t (whole z ∷ []) (f ∙ ap (λ (x : ℤ). put_of out₁ p (closed (whole x ∷ []))) q)
-
-pub pair-spaced : (out : List ℕ) (at m k : ℕ) (u v : Value) {p r : ℕ} {out₁ out₂ : List ℕ}
-    → put_ended p out₁ ≡ put_of out at (spaced (u ∷ [])) → p ≤ at + m → at + k ≤ length out → T (leb m k)
-    → put_ended r out₂ ≡ put_of out₁ p (spaced (v ∷ [])) → put_ended r out₂ ≡ put_of out at (spaced (u ∷ v ∷ []))
-pair-spaced out at m k u v e w h t f = then-spaced out at m k (u ∷ []) e w h t (v ∷ []) f
-
--- rates
-module _ (out : List ℕ) (at : ℕ) {r : ℕ} {out₁ : List ℕ} where
-  pub no-rate : (a : Rate) → a ≡ Unknown → put_ended r out₁ ≡ put_of out at (32 ∷ 45 ∷ []) → put_ended r out₁ ≡ put_of out at (spaced (rate_value a ∷ []))
+-- values of any sort, each by itself, up to the i-th
+module _ {A : Type 0} (f : A → Value) (out₀ : List ℕ) (at : ℕ) (list : List A) where
+  pub items-start : put_ended at out₀ ≡ put_of out₀ at (spaced (map f (take 0 list)))
   unfolding spaced
-  no-rate a h e = rw h e
+  items-start = puts out₀ at [] (omega arith) (put-none out₀ at)
 
-  pub no-rate-within : put_ended r out₁ ≡ put_of out at (32 ∷ 45 ∷ []) → r ≤ at + 21
-  no-rate-within e = omega (arith, put-cursor out at (32 ∷ 45 ∷ []) e)
+  map_more : (i : ℕ) (d : A) → i < length list → map f (take (i + 1) list) ≡ map f (take i list) ++ (f (get_or list i d) ∷ [])
+  map_more i d h = rw (add-one i, take-suc list i d h) (map-append f (take i list) (get_or list i d ∷ []))
 
-  pub some-rate : (a : Rate) {n : ℕ} → a ≡ PerSecond n → put_ended r out₁ ≡ put_of out at (spaced (plain n ∷ [])) → put_ended r out₁ ≡ put_of out at (spaced (rate_value a ∷ []))
-  some-rate a h e = rw h e
+  pub items-again : (i : ℕ) (d : A) {cursor p : ℕ} {out out₁ : List ℕ}
+      → put_ended cursor out ≡ put_of out₀ at (spaced (map f (take i list)))
+      → put_ended p out₁ ≡ put_of out cursor (spaced (f (get_or list i d) ∷ [])) → i < length list → cursor ≤ length out₀
+      → put_ended p out₁ ≡ put_of out₀ at (spaced (map f (take (i + 1) list)))
+  items-again i d {cursor} {p} {out} {out₁} e g h w =
+      let us = map f (take i list) in
+      let a = put-cursor out₀ at (spaced us) e in
+      rw (map_more i d h)
+      (put_then out₀ at (spaced us) (spaced (f (get_or list i d) ∷ [])) e g (omega arith)
+      ∙ ap (put_of out₀ at) (sym (spaced-join us (f (get_or list i d) ∷ []))))
 
--- the words of a report
-map_more : (list : List ℕ) (i : ℕ) → i < length list → map plain (take (i + 1) list) ≡ map plain (take i list) ++ (plain (get_or list i 0) ∷ [])
-map_more list i h = rw (add-one i, take-suc list i 0 h) (map-append plain (take i list) (get_or list i 0 ∷ []))
+  pub items-done : (i : ℕ) {cursor : ℕ} {out : List ℕ}
+      → put_ended cursor out ≡ put_of out₀ at (spaced (map f (take i list))) → length list ≤ i
+      → put_ended cursor out ≡ put_of out₀ at (spaced (map f list))
+  items-done i e h = e ∙ ap (λ (l : List A). put_of out₀ at (spaced (map f l))) (take_all i list h)
 
-module _ (out₀ : List ℕ) (at : ℕ) (list : List ℕ) (n : ℕ) (all : n ≤ length list) where
-  pub words-start : put_ended at out₀ ≡ put_of out₀ at (spaced (map plain (take 0 list)))
+-- a value's bytes are within the room of all, and those so far within theirs
+module _ (list : List parts.Value) (at : ℕ) where
+  pub widths-room : (i : ℕ) (d : parts.Value) (n : ℕ) {cursor : ℕ}
+      → cursor ≤ at + widths_of (take i list) → at + widths_of list ≤ n → i < length list → cursor + width_of (get_or list i d) ≤ n
+  widths-room i d n e h k = omega (arith, sum_by_more_le width_of list i d k)
+
+  pub widths-again : (i : ℕ) (d : parts.Value) {cursor p : ℕ}
+      → cursor ≤ at + widths_of (take i list) → p ≤ cursor + width_of (get_or list i d) → i < length list → p ≤ at + widths_of (take (i + 1) list)
+  widths-again i d e g k = omega (arith, sum_by_more width_of list i d k)
+
+  pub widths-done : (i : ℕ) {cursor : ℕ} → cursor ≤ at + widths_of (take i list) → length list ≤ i → cursor ≤ at + widths_of list
+  widths-done i e h = rw (take_all i list h) at e
+
+-- and the line's end
+pub items-closed : (out₀ : List ℕ) (at m : ℕ) (us : List Value) {p r : ℕ} {out₁ out₂ : List ℕ}
+    → put_ended p out₁ ≡ put_of out₀ at (spaced us) → p ≤ at + m → at + (m + 1) ≤ length out₀
+    → put_ended r out₂ ≡ put_of out₁ p (closed []) → put_ended r out₂ ≡ put_of out₀ at (closed us)
+items-closed out₀ at m us e w h f =
+    let a = put-cursor out₀ at (spaced us) e in
+    put_then out₀ at (spaced us) (closed []) e f (omega arith)
+    ∙ ap (put_of out₀ at) (closed-join us [] ∙ ap closed (append-nil us))
+
+-- no rate
+module _ (out : List ℕ) (at : ℕ) {r : ℕ} {out₁ : List ℕ} (e : put_ended r out₁ ≡ put_of out at (32 ∷ 45 ∷ [])) where
+  pub dashed : (v : parts.Value) → v ≡ Dash → put_ended r out₁ ≡ put_of out at (spaced (value_of v ∷ []))
   unfolding spaced
-  words-start = puts out₀ at [] (omega arith) (put-none out₀ at)
+  dashed v h = rw h e
 
-  pub words-again : (i : ℕ) {cursor p x : ℕ} {out out₁ : List ℕ}
-      → put_ended cursor out ≡ put_of out₀ at (spaced (map plain (take i list))) → x ≡ get_or list i 0
-      → put_ended p out₁ ≡ put_of out cursor (spaced (plain x ∷ [])) → i < n → cursor ≤ at + 21 * i → at + 21 * n ≤ length out₀
-      → put_ended p out₁ ≡ put_of out₀ at (spaced (map plain (take (i + 1) list)))
-  words-again i {cursor} {p} {x} {out} {out₁} e q f h w room =
-      let us = map plain (take i list) in
-      let a = put-cursor out₀ at (spaced us) e in
-      rw (map_more list i (omega arith))
-      (put_then out₀ at (spaced us) (spaced (plain (get_or list i 0) ∷ [])) e (f ∙ ap (λ (y : ℕ). put_of out cursor (spaced (plain y ∷ []))) q) (omega arith)
-      ∙ ap (put_of out₀ at) (sym (spaced-join us (plain (get_or list i 0) ∷ []))))
+  pub dashed-within : (v : parts.Value) → v ≡ Dash → r ≤ at + width_of v
+  dashed-within v h = rw h (omega (arith, put-cursor out at (32 ∷ 45 ∷ []) e))
 
-  pub words-done : (i : ℕ) {cursor : ℕ} {out : List ℕ}
-      → put_ended cursor out ≡ put_of out₀ at (spaced (map plain (take i list))) → i ≤ n → n ≤ i
-      → put_ended cursor out ≡ put_of out₀ at (spaced (map plain (take n list)))
-  words-done i e h k =
-      let q : i ≡ n = omega arith in
-      e ∙ ap (λ (m : ℕ). put_of out₀ at (spaced (map plain (take m list)))) q
-
-  pub report-closed : {p r : ℕ} {out₁ out₂ : List ℕ}
-      → put_ended p out₁ ≡ put_of out₀ at (spaced (map plain (take n list))) → p ≤ at + 21 * n → at + (21 * n + 1) ≤ length out₀
-      → put_ended r out₂ ≡ put_of out₁ p (closed []) → put_ended r out₂ ≡ put_of out₀ at (closed (map plain (take n list)))
-  report-closed e w h f =
-      let us = map plain (take n list) in
-      let a = put-cursor out₀ at (spaced us) e in
-      put_then out₀ at (spaced us) (closed []) e f (omega arith)
-      ∙ ap (put_of out₀ at) (closed-join us [] ∙ ap closed (append-nil us))
-
-pub ruleset tails = (one-closed, sign-closed, two-closed, two-sign, pair-spaced, no-rate, no-rate-within, some-rate, rules)
-
-pub ruleset wording = (words-start, words-again, words-done, report-closed, rules)
+pub ruleset tails = (items-start, items-again, items-done, items-closed, widths-room, widths-again, widths-done, dashed, dashed-within, rules)

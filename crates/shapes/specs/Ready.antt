@@ -2,8 +2,8 @@
 use Rattle.std.specs.Prelude.{◌≡◌, List, ℕ, ◌+◌, ◌≤◌, length}
 use Rattle.text.specs.Put.{put_ended, put_of}
 
--- Bytes were put, and they are no more than `most`. The equation says which; the bound is that of the types, since the equation has numbers of any
--- size, and whoever keeps the cursor within the output needs it.
+-- Bytes were put, and they are no more than `most`. The equation says which; the bound is that of the types, since the
+-- equation has numbers of any size, and whoever keeps the cursor within the output needs it.
 pub record Wrote (out : List ℕ) (at : ℕ) (bs : List ℕ) (most r : ℕ) (out₁ : List ℕ) : Type 0 where
   pub bytes : put_ended r out₁ ≡ put_of out at bs
   pub within : r ≤ at + most

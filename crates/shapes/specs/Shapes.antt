@@ -1,5 +1,5 @@
--- A line of the trace as bytes, whatever its word: 01, "Trace, mark DLT", "After the record's number (from 1) a line has ..", and how numbers
--- and line ends are written (A70, A75).
+-- A line of the trace as bytes, whatever its word: 01, "Trace, mark DLT", "After the record's number (from 1) a line
+-- has ..", and how numbers and line ends are written (A70, A75).
 use Rattle.std.specs.Prelude.{List, [], ◌∷◌, ◌++◌, ℕ}
 use Rattle.text.specs.Bytes.{bytes}
 use Rattle.text.specs.Decimal.{decimal, signed_decimal}

@@ -2,18 +2,80 @@
 ghost use Rattle.std.specs.Prelude.{◌≡◌, [], ◌∷◌, ◌++◌, ◌+◌, ◌≤◌, length};
 ghost use Rattle.text.specs.Decimal.{decimal};
 ghost use Rattle.text.specs.Put.{put_ended, put_of};
-ghost use Rattle.head.specs.Paper.{whole as Paper·whole, plain};
+ghost use Rattle.head.specs.Paper.{whole as Paper·whole, plain, flag};
 ghost use Rattle.shapes.specs.Shapes.{spaced, closed};
-ghost use Rattle.shapes.specs.Inner.{one_if};
+ghost use Rattle.feedback.specs.Paper.{rate_value};
+ghost use Rattle.shapes.specs.Inner.{value_of};
 ghost use Rattle.shapes.specs.Ready.{Wrote};
 
-pub fn flag(b: bool) -> u64
-    ensures { result ≡ one_if b }
-{
-    if b {
-        return 1;
+// A value of a line: a number, one that may be below zero, or `-`.
+#[derive(Clone, Copy, PartialEq, Eq, Debug)]
+pub enum Value {
+    Plain(u64),
+    Whole(i64),
+    Dash,
+}
+
+// `-` for no rate.
+impl From<Option<u32>> for Value {
+    ghost from_gives = { λ rate v. value_of v ≡ rate_value rate };
+
+    fn from(rate: Option<u32>) -> Value {
+        match rate {
+            Some(n) => Value::Plain(n as u64),
+            None => Value::Dash,
+        }
     }
-    0
+}
+
+// 1 if it holds, else 0.
+impl From<bool> for Value {
+    ghost from_gives = { λ b v. value_of v ≡ flag b };
+
+    fn from(b: bool) -> Value {
+        Value::Plain(u64::from(b))
+    }
+}
+
+// A number stands as it is, and one of a signed type as one that may be below zero.
+impl From<u32> for Value {
+    ghost from_gives = { λ n v. value_of v ≡ plain n };
+
+    fn from(n: u32) -> Value {
+        Value::Plain(n as u64)
+    }
+}
+
+impl From<u64> for Value {
+    ghost from_gives = { λ n v. value_of v ≡ plain n };
+
+    fn from(n: u64) -> Value {
+        Value::Plain(n)
+    }
+}
+
+impl From<usize> for Value {
+    ghost from_gives = { λ n v. value_of v ≡ plain n };
+
+    fn from(n: usize) -> Value {
+        Value::Plain(n as u64)
+    }
+}
+
+impl From<i32> for Value {
+    ghost from_gives = { λ z v. value_of v ≡ Paper·whole z };
+
+    fn from(z: i32) -> Value {
+        Value::Whole(i64::from(z))
+    }
+}
+
+impl From<i64> for Value {
+    ghost from_gives = { λ z v. value_of v ≡ Paper·whole z };
+
+    fn from(z: i64) -> Value {
+        Value::Whole(z)
+    }
 }
 
 // A number after a space.

@@ -32,7 +32,7 @@ field : (w c m lo v hi : ℕ) → w ≡ (hi * m + v) * c + lo → lo < c → v <
 field w c m lo v hi e hl hv = rw e (rw (digits_div (hi * m + v) hl) (digits_mod hi hv))
 
 -- an entry's words hold the entry
-entry-words : (e : Entry) → Fit e → entry_of (words_of e).a (words_of e).b (words_of e).c ≡ e
+entry-words : (e : Entry) → Fit e → entry_of (get_or (words_of e) 0 0) (get_or (words_of e) 1 0) (get_or (words_of e) 2 0) ≡ e
 unfolding entry_of
 entry-words (Lost k f) h =
     let a : k % 2 ^ 16 ≡ k = omega arith in
@@ -85,8 +85,8 @@ module _ (ws : List ℕ) (s : ℕ) where
       let n02 : (3 * s ≡ 3 * s + 2 → ⊥) = omega arith in
       let n12 : (3 * s + 1 ≡ 3 * s + 2 → ⊥) = omega arith in
       let i0 : 3 * s < length ws = omega arith in
-      let i1 : 3 * s + 1 < length (set ws (3 * s) (words_of e).a) = simp length-set (omega arith) in
-      let i2 : 3 * s + 2 < length (set (set ws (3 * s) (words_of e).a) (3 * s + 1) (words_of e).b) = simp length-set (omega arith) in
+      let i1 : 3 * s + 1 < length (set ws (3 * s) (get_or (words_of e) 0 0)) = simp length-set (omega arith) in
+      let i2 : 3 * s + 2 < length (set (set ws (3 * s) (get_or (words_of e) 0 0)) (3 * s + 1) (get_or (words_of e) 1 0)) = simp length-set (omega arith) in
       simp (get_or-set_same, get_or-set_other) (entry-words e f)
 
   -- a report of a lost entry: the same entry, with the new k and feedback time

@@ -13,7 +13,6 @@ use Rattle.slots.specs.Ring.{slot_of}
 use Rattle.slots.specs.Inner.{next_slot}
 use Rattle.slots.specs.declared.entry.Entry.{Entry}
 use Rattle.slots.specs.declared.entry.Entry.TheVariants.{Lost, Received, GivenUp}
-use Rattle.slots.specs.declared.entry.Words.{Words}
 
 -- unpack
 module _ (a b c : ℕ) where
@@ -46,7 +45,7 @@ unfolding entry_at
 reads ws s p = p
 
 -- write_at, write_report
-pub writes : (ws : List ℕ) (s : ℕ) (e : Entry) {w : Words} → w ≡ words_of e → set (set (set ws (3 * s) w.a) (3 * s + 1) w.b) (3 * s + 2) w.c ≡ write_at ws s e
+pub writes : (ws : List ℕ) (s : ℕ) (e : Entry) {w : List ℕ} → w ≡ words_of e → set (set (set ws (3 * s) (get_or w 0 0)) (3 * s + 1) (get_or w 1 0)) (3 * s + 2) (get_or w 2 0) ≡ write_at ws s e
 unfolding write_at
 writes ws s e p = rw p
 

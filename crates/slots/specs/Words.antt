@@ -1,8 +1,7 @@
 -- An entry of the window and the three words that hold it: 01, "Head and lent areas".
-use Rattle.std.specs.Prelude.{Bool, true, false, cond, List, ℕ, ◌+◌, ◌*◌, ◌/◌, ◌%◌, ◌^◌, min, eqb, leb, get_or, set}
+use Rattle.std.specs.Prelude.{Bool, true, false, cond, List, [], ◌∷◌, ℕ, ◌+◌, ◌*◌, ◌/◌, ◌%◌, ◌^◌, min, eqb, leb, get_or, set}
 use Rattle.slots.specs.declared.entry.Entry.{Entry}
 use Rattle.slots.specs.declared.entry.Entry.TheVariants.{Lost, Received, GivenUp}
-use Rattle.slots.specs.declared.entry.Words.{Words}
 
 -- word 0: bits 0-1 mark; bits 2-12 length, above 1,456 read as 1,456; bits 13-14 location; bits 15-40 message number
 abbrev pub mark_of : ℕ → ℕ
@@ -30,10 +29,10 @@ entry_of a b c =
     GivenUp)
 
 -- written: given up as 2, word 2 as 0 if received, unused bits as 0
-abbrev pub words_of : Entry → Words
-words_of (Lost k f) = record { a = 0; b = k; c = f }
-words_of (Received n l m t) = record { a = 1 + 4 * n + 8192 * l + 32768 * m; b = t; c = 0 }
-words_of GivenUp = record { a = 2; b = 0; c = 0 }
+abbrev pub words_of : Entry → List ℕ
+words_of (Lost k f) = 0 ∷ k ∷ f ∷ []
+words_of (Received n l m t) = (1 + 4 * n + 8192 * l + 32768 * m) ∷ t ∷ 0 ∷ []
+words_of GivenUp = 2 ∷ 0 ∷ 0 ∷ []
 
 abbrev pub is_lost : Entry → Bool
 is_lost (Lost k f) = true
@@ -50,7 +49,7 @@ unfoldable pub entry_at : List ℕ → ℕ → Entry
 entry_at ws s = entry_of (get_or ws (3 * s) 0) (get_or ws (3 * s + 1) 0) (get_or ws (3 * s + 2) 0)
 
 unfoldable pub write_at : List ℕ → ℕ → Entry → List ℕ
-write_at ws s e = set (set (set ws (3 * s) (words_of e).a) (3 * s + 1) (words_of e).b) (3 * s + 2) (words_of e).c
+write_at ws s e = set (set (set ws (3 * s) (get_or (words_of e) 0 0)) (3 * s + 1) (get_or (words_of e) 1 0)) (3 * s + 2) (get_or (words_of e) 2 0)
 
 -- a report names words 1 and 2 only
 unfoldable pub write_report : List ℕ → ℕ → ℕ → ℕ → List ℕ

@@ -1,9 +1,10 @@
-// An entry of the window as three words of a lent slice: 01, "Head and lent areas".
+// An entry of the window as three words of a lent slice: 01, "Head and lent areas". That a slot lies in the slice is
+// required at each: the slice is the caller's, and no type of this crate's can hold for its length.
 ghost use Rattle.std.specs.Prelude.{◌≡◌, ◌+◌, ◌*◌, ◌<◌, ◌≤◌, length};
 ghost use Rattle.slots.specs.Words.{is_lost, is_received, entry_of, entry_at, write_at, write_report, words_of, length_read, length_in, stamp_in, message_in, is_first, is_last, in_message};
 ghost use Rattle.slots.specs.Ready.{Fit};
 
-#[derive(Clone, Copy)]
+#[derive(Clone, Copy, PartialEq, Eq, Debug)]
 pub enum Entry {
     Lost {
         k: u32,
@@ -18,48 +19,23 @@ pub enum Entry {
     GivenUp,
 }
 
-#[derive(Drop)]
-pub struct Words {
-    pub a: u64,
-    pub b: u64,
-    pub c: u64,
-}
-
 pub fn is_lost(e: Entry) -> bool
     ensures { result ≡ is_lost e }
 {
-    match e {
-        Entry::Lost { k: _, feedback: _ } => true,
-        Entry::Received {
-            length: _,
-            location: _,
-            message: _,
-            stamp: _,
-        } => false,
-        Entry::GivenUp => false,
-    }
+    matches!(e, Entry::Lost { .. })
 }
 
 pub fn is_received(e: Entry) -> bool
     ensures { result ≡ is_received e }
 {
-    match e {
-        Entry::Lost { k: _, feedback: _ } => false,
-        Entry::Received {
-            length: _,
-            location: _,
-            message: _,
-            stamp: _,
-        } => true,
-        Entry::GivenUp => false,
-    }
+    matches!(e, Entry::Received { .. })
 }
 
 // A length above 1,456 is read as 1,456.
 fn read_length(n: usize) -> usize
     ensures { result ≡ length_read n }
 {
-    if n < 1456 { n } else { 1456 }
+    n.min(1456)
 }
 
 // The entry that three words hold.
@@ -85,27 +61,23 @@ fn unpack(a: u64, b: u64, c: u64) -> Entry
 }
 
 // The words of an entry; unused bits are 0.
-fn pack(e: Entry) -> Words
+fn pack(e: Entry) -> [u64; 3]
     requires { Fit e }
     ensures { result ≡ words_of e }
 {
     match e {
-        Entry::Lost { k, feedback } => Words {
-            a: 0,
-            b: k as u64,
-            c: feedback,
-        },
+        Entry::Lost { k, feedback } => [0, u64::from(k), feedback],
         Entry::Received {
             length,
             location,
             message,
             stamp,
-        } => Words {
-            a: 1 + 4 * (length as u64) + 8192 * (location as u64) + 32768 * (message as u64),
-            b: stamp as u64,
-            c: 0,
-        },
-        Entry::GivenUp => Words { a: 2, b: 0, c: 0 },
+        } => [
+            1 + 4 * (length as u64) + 8192 * u64::from(location) + 32768 * u64::from(message),
+            u64::from(stamp),
+            0,
+        ],
+        Entry::GivenUp => [2, 0, 0],
     }
 }
 
@@ -124,10 +96,10 @@ pub fn write_at(words: &mut [u64], s: usize, e: Entry)
     ensures { words.new ≡ write_at words.old s e }
 {
     let i = 3 * s;
-    let w = pack(e);
-    words[i] = w.a;
-    words[i + 1] = w.b;
-    words[i + 2] = w.c;
+    let [a, b, c] = pack(e);
+    words[i] = a;
+    words[i + 1] = b;
+    words[i + 2] = c;
 }
 
 // Puts k and the feedback time of a reported entry into slot s; its first word stays, since no rule names it.
@@ -136,23 +108,18 @@ pub fn write_report(words: &mut [u64], s: usize, k: u32, feedback: u64)
     ensures { words.new ≡ write_report words.old s k feedback }
 {
     let i = 3 * s;
-    words[i + 1] = k as u64;
+    words[i + 1] = u64::from(k);
     words[i + 2] = feedback;
 }
 
-// What an entry holds, if it is received.
+// What an entry holds, if it is received, else 0: 01's rules ask these of received entries alone, whose test comes
+// first, so that an Option would be tested twice.
 pub fn length_in(e: Entry) -> usize
     ensures { result ≡ length_in e }
 {
     match e {
-        Entry::Lost { k: _, feedback: _ } => 0,
-        Entry::Received {
-            length,
-            location: _,
-            message: _,
-            stamp: _,
-        } => length,
-        Entry::GivenUp => 0,
+        Entry::Received { length, .. } => length,
+        _ => 0,
     }
 }
 
@@ -160,14 +127,8 @@ pub fn stamp_in(e: Entry) -> u32
     ensures { result ≡ stamp_in e }
 {
     match e {
-        Entry::Lost { k: _, feedback: _ } => 0,
-        Entry::Received {
-            length: _,
-            location: _,
-            message: _,
-            stamp,
-        } => stamp,
-        Entry::GivenUp => 0,
+        Entry::Received { stamp, .. } => stamp,
+        _ => 0,
     }
 }
 
@@ -175,58 +136,25 @@ pub fn message_in(e: Entry) -> u32
     ensures { result ≡ message_in e }
 {
     match e {
-        Entry::Lost { k: _, feedback: _ } => 0,
-        Entry::Received {
-            length: _,
-            location: _,
-            message,
-            stamp: _,
-        } => message,
-        Entry::GivenUp => 0,
+        Entry::Received { message, .. } => message,
+        _ => 0,
     }
 }
 
 pub fn is_first(e: Entry) -> bool
     ensures { result ≡ is_first e }
 {
-    match e {
-        Entry::Lost { k: _, feedback: _ } => false,
-        Entry::Received {
-            length: _,
-            location,
-            message: _,
-            stamp: _,
-        } => 2 <= location,
-        Entry::GivenUp => false,
-    }
+    matches!(e, Entry::Received { location, .. } if 2 <= location)
 }
 
 pub fn is_last(e: Entry) -> bool
     ensures { result ≡ is_last e }
 {
-    match e {
-        Entry::Lost { k: _, feedback: _ } => false,
-        Entry::Received {
-            length: _,
-            location,
-            message: _,
-            stamp: _,
-        } => location % 2 == 1,
-        Entry::GivenUp => false,
-    }
+    matches!(e, Entry::Received { location, .. } if location % 2 == 1)
 }
 
 pub fn in_message(number: u32, e: Entry) -> bool
     ensures { result ≡ in_message number e }
 {
-    match e {
-        Entry::Lost { k: _, feedback: _ } => false,
-        Entry::Received {
-            length: _,
-            location: _,
-            message,
-            stamp: _,
-        } => message == number,
-        Entry::GivenUp => false,
-    }
+    matches!(e, Entry::Received { message, .. } if message == number)
 }

@@ -25,11 +25,9 @@ fn bits(ws: &[u64; 79], at: usize) -> u64
     requires { at ≤ 63 }
     ensures { result ≡ bits_to ws.now at 16 }
 {
-    let mut all: u64 = 0;
-    let mut i: usize = 0;
-    while i < 16 {
-        all = all | ws[at + i];
-        i += 1;
+    let mut all = 0;
+    for i in 0..16 {
+        all |= ws[at + i];
     }
     all
 }
@@ -38,11 +36,9 @@ fn bits(ws: &[u64; 79], at: usize) -> u64
 fn raised_bits(ws: &[u64; 79]) -> u64
     ensures { result ≡ raised_to ws.now 16 }
 {
-    let mut all: u64 = 0;
-    let mut i: usize = 0;
-    while i < 16 {
-        all = all | (ws[34 + i] % 2048 + 591);
-        i += 1;
+    let mut all = 0;
+    for i in 0..16 {
+        all |= ws[34 + i] % 2048 + 591;
     }
     all
 }
@@ -58,7 +54,8 @@ fn sizes_small(ws: &[u64; 79]) -> bool
     (together < 2048) & (raised_bits(ws) < 2048)
 }
 
-// Whether every interval is in its range, in a window or not: so it is of every head that calls have left, and so are the sizes.
+// Whether every interval is in its range, in a window or not: so it is of every head that calls have left, and so are
+// the sizes.
 fn intervals_small(ws: &[u64; 79]) -> bool
     ensures { result ≡ intervals_small ws.now }
 {
@@ -123,18 +120,14 @@ fn quickly(ws: &[u64; 79]) -> bool
     few_bits(ws) & beside_all(ws) & finite(ws) & window_small(ws) & counts_small(ws)
 }
 
-// Only the intervals in a window have to be in range, and a time may lie before 0: a head that is not found in range quickly is unpacked and asked. The sizes come last,
-// since their second pass would keep the registers of all that is read before it.
+// Only the intervals in a window have to be in range, and a time may lie before 0: a head that is not found in range
+// quickly is unpacked and asked. The sizes come last, since their second pass would keep the registers of all that is
+// read before it.
 pub fn sound(ws: &[u64; 79]) -> bool
     ensures { result ≡ head_ok (unpack_of ws.now) }
 {
-    if intervals_small(ws) {
-        if quickly(ws) {
-            if sizes_small(ws) {
-                return true;
-            }
-        }
+    if intervals_small(ws) && quickly(ws) && sizes_small(ws) {
+        return true;
     }
-    let h = unpack::unpack(ws);
-    h.in_range()
+    unpack::unpack(ws).in_range()
 }

@@ -5,22 +5,16 @@ use mathlib.Core.List.{List, []}
 use Prim.Native.Nat.{ℕ}
 use borrow.Author.Rules.{rules}
 use lib.IntN.{ℤ}
+use Rattle.std.specs.Prelude.{Result}
 use Rattle.window.specs.declared.push.Packet.{Packet}
+use Rattle.head.specs.declared.refusal.Refusal.{Refusal}
 use Rattle.head.specs.declared.state.Head.{Head}
-use Rattle.feedback.specs.Acking.{FullAckOutcome, full_ack_ended, Ack2Outcome, ack2_ended, ack2_call_of, full_ack_call_of}
-use Rattle.receiver.specs.Data.{DataOutcome, data_ended, packet, data_call_of}
-use Rattle.feedback.specs.Loss.{LossOutcome, loss_ended, report_call_of}
-use Rattle.receiver.specs.Message.{MessageOutcome, message_ended, pop_call_of}
-use Rattle.upkeep.specs.Request.{DropOutcome, drop_ended, drop_call_of, ClearOutcome, clear_ended, clear_call_of}
-use Rattle.feedback.specs.Sync.{ClockOutcome, clock_ended, clock_call_of}
-use Rattle.feedback.specs.declared.acking.FullAcked.{FullAcked}
-use Rattle.feedback.specs.declared.acking.Ack2ed.{Ack2ed}
-use Rattle.receiver.specs.declared.data.Handled.{Handled}
-use Rattle.feedback.specs.declared.loss.Reported.{Reported}
-use Rattle.receiver.specs.declared.message.Given.{Given}
-use Rattle.upkeep.specs.declared.request.DropAnswer.{DropAnswer}
-use Rattle.upkeep.specs.declared.request.Cleared.{Cleared}
-use Rattle.feedback.specs.declared.sync.Clocked.{Clocked}
+use Rattle.feedback.specs.Acking.{Ack2ed, FullAcked, FullAckOutcome, full_ack_ended, Ack2Outcome, ack2_ended, ack2_call_of, full_ack_call_of}
+use Rattle.receiver.specs.Data.{Handled, DataOutcome, data_ended, packet, data_call_of}
+use Rattle.feedback.specs.Loss.{Reported, LossOutcome, loss_ended, report_call_of}
+use Rattle.receiver.specs.Message.{Given, MessageOutcome, message_ended, pop_call_of}
+use Rattle.upkeep.specs.Request.{Cleared, DropOutcome, drop_ended, drop_call_of, ClearOutcome, clear_ended, clear_call_of}
+use Rattle.feedback.specs.Sync.{Clocked, ClockOutcome, clock_ended, clock_call_of}
 use Rattle.step.specs.Step.{CallLeft, call_left, PopLeft, pop_call_left, stepped, ended, state_of, lent_for, data_left, pop_left, report_left, full_ack_left, ack2_left, drop_left, clock_left, clear_left, step_of}
 use Rattle.step.specs.declared.Call.{Call}
 use Rattle.step.specs.declared.Call.TheVariants as calls
@@ -53,7 +47,7 @@ pub ack2-call-left : (h : Head) (a : List ℕ) (now : ℤ) (number : ℕ) {r : A
     → ack2_ended r ≡ ack2_call_of h a n number → n ≡ now → call_left (stepped r.head (answers.Ack2 r.answer)) [] [] ≡ ack2_left h a now number
 ack2-call-left h a now number e q = ap (λ (o : Ack2Outcome). call_left (stepped o.acked2.head (answers.Ack2 o.acked2.answer)) [] []) e ∙ rw q
 
-pub drop-call-left : (h : Head) (ws : List ℕ) (first last : ℕ) {a : DropAnswer} {ws₁ : List ℕ}
+pub drop-call-left : (h : Head) (ws : List ℕ) (first last : ℕ) {a : Result ℕ Refusal} {ws₁ : List ℕ}
     → drop_ended a ws₁ ≡ drop_call_of h ws first last → call_left (stepped h (answers.Drop a)) ws₁ [] ≡ drop_left h ws first last
 drop-call-left h ws first last e = ap (λ (o : DropOutcome). call_left (stepped h (answers.Drop o.answer)) o.slots []) e
 

@@ -1,21 +1,23 @@
-// One call of the receiver and its answer as values, so that a list of calls can be spoken of and a trace replayed: 01, "Trace, mark DLT".
+// One call of the receiver and its answer as values, so that a list of calls can be spoken of and a trace replayed:
+// 01, "Trace, mark DLT".
 #![tactic(auto)]
 
 ghost use Rattle.std.specs.Prelude.{◌≡◌, []};
-ghost use Rattle.receiver.specs.Data.{packet};
 ghost use Rattle.step.specs.Step.{call_left, pop_call_left, data_left, pop_left, report_left, full_ack_left, ack2_left, drop_left, clock_left, clear_left, state_of, lent_for, ended, step_of};
 
-use feedback::acking::{FullAckAnswer, RttAnswer};
-use feedback::loss::LossAnswer;
+use acks::rtt::Rtt;
+use feedback::acking::FullAck;
 use feedback::sync::ClockAnswer;
+use head::refusal::Refusal;
 use head::state::Head;
 use receiver::data::DataAnswer;
 use receiver::message::MessageAnswer;
-use upkeep::request::{ClearAnswer, DropAnswer};
+use window::push::Packet;
 
 // A call with its numbers, one case a record of the trace. A data packet's payload is lent beside it.
-#[derive(Drop)]
+#[derive(Clone, Copy, PartialEq, Eq, Debug)]
 pub enum Call {
+    // The numbers stand apart, no Packet: the ledger's `Sent`, `early_by` and `number_in` take this case by them.
     Data {
         time: i64,
         number: u32,
@@ -48,58 +50,49 @@ pub enum Call {
 }
 
 // What it answered, one case a call.
-#[derive(Clone, Copy)]
+#[derive(Clone, Copy, PartialEq, Debug)]
 pub enum Answer {
-    Data(DataAnswer),
-    Pop(MessageAnswer),
-    Report(LossAnswer),
-    FullAck(FullAckAnswer),
-    Ack2(RttAnswer),
-    Drop(DropAnswer),
-    Clock(ClockAnswer),
-    Clear(ClearAnswer),
+    Data(Result<DataAnswer, Refusal>),
+    Pop(Result<MessageAnswer, Refusal>),
+    Report(Result<Option<usize>, Refusal>),
+    FullAck(Result<Option<FullAck>, Refusal>),
+    Ack2(Result<Option<Rtt>, Refusal>),
+    Drop(Result<usize, Refusal>),
+    Clock(Result<ClockAnswer, Refusal>),
+    Clear(Result<(), Refusal>),
 }
 
-#[derive(Drop)]
+#[derive(Clone, Copy)]
 pub struct Stepped {
     pub head: Head,
     pub answer: Answer,
 }
 
-// Each call with its answer as a case of Answer. A pop reads two of its three areas; it is lent them to write so that `step` lends alike.
+// Each call with its answer as a case of Answer.
 fn data(
     h: Head,
     words: &mut [u64],
     bytes: &mut [u8],
     time: i64,
-    number: u32,
-    message: u32,
-    location: u32,
-    stamp: u32,
+    p: Packet,
     payload: &[u8],
 ) -> Stepped
-    ensures { call_left result words.new bytes.new ≡ data_left h words.old bytes.old time (packet number message location stamp) payload.now }
+    ensures { call_left result words.new bytes.new ≡ data_left h words.old bytes.old time p payload.now }
 {
-    let r = receiver::data::handle_data_packet(
-        h, words, bytes, time, number, message, location, stamp, payload,
-    );
-    let head = r.head;
-    let answer = r.answer;
+    let r = receiver::data::handle_data_packet(h, words, bytes, time, p, payload);
     Stepped {
-        head,
-        answer: Answer::Data(answer),
+        head: r.head,
+        answer: Answer::Data(r.answer),
     }
 }
 
-fn pop(h: Head, words: &mut [u64], bytes: &mut [u8], out: &mut [u8], time: i64) -> Stepped
-    ensures { pop_call_left result words.new bytes.new out.new ≡ pop_left h words.old bytes.old out.old time }
+fn pop(h: Head, words: &[u64], bytes: &[u8], out: &mut [u8], time: i64) -> Stepped
+    ensures { pop_call_left result words.now bytes.now out.new ≡ pop_left h words.now bytes.now out.old time }
 {
     let r = receiver::message::pop_next_message(h, words, bytes, out, time);
-    let head = r.head;
-    let answer = r.answer;
     Stepped {
-        head,
-        answer: Answer::Pop(answer),
+        head: r.head,
+        answer: Answer::Pop(r.answer),
     }
 }
 
@@ -107,11 +100,9 @@ fn report(h: Head, words: &mut [u64], list: &mut [u32], time: i64) -> Stepped
     ensures { call_left result words.new list.new ≡ report_left h words.old list.old time }
 {
     let r = feedback::loss::on_nak_event(h, words, list, time);
-    let head = r.head;
-    let answer = r.answer;
     Stepped {
-        head,
-        answer: Answer::Report(answer),
+        head: r.head,
+        answer: Answer::Report(r.answer),
     }
 }
 
@@ -119,11 +110,9 @@ fn full_ack(h: Head, area: &mut [u64], time: i64) -> Stepped
     ensures { call_left result area.new [] ≡ full_ack_left h area.old time }
 {
     let r = feedback::acking::on_full_ack_event(h, area, time);
-    let head = r.head;
-    let answer = r.answer;
     Stepped {
-        head,
-        answer: Answer::FullAck(answer),
+        head: r.head,
+        answer: Answer::FullAck(r.answer),
     }
 }
 
@@ -131,11 +120,9 @@ fn ack2(h: Head, area: &[u64], time: i64, number: u32) -> Stepped
     ensures { call_left result [] [] ≡ ack2_left h area.now time number }
 {
     let r = feedback::acking::handle_ack2_packet(h, area, time, number);
-    let head = r.head;
-    let answer = r.answer;
     Stepped {
-        head,
-        answer: Answer::Ack2(answer),
+        head: r.head,
+        answer: Answer::Ack2(r.answer),
     }
 }
 
@@ -153,11 +140,9 @@ fn clock(h: Head, time: i64, stamp: u32) -> Stepped
     ensures { call_left result [] [] ≡ clock_left h time stamp }
 {
     let r = feedback::sync::synchronize_clock(h, time, stamp);
-    let head = r.head;
-    let answer = r.answer;
     Stepped {
-        head,
-        answer: Answer::Clock(answer),
+        head: r.head,
+        answer: Answer::Clock(r.answer),
     }
 }
 
@@ -165,13 +150,12 @@ fn clear(h: Head) -> Stepped
     ensures { call_left result [] [] ≡ clear_left h }
 {
     let r = upkeep::request::clear(h);
-    let head = r.head;
-    let answer = r.answer;
     Stepped {
-        head,
-        answer: Answer::Clear(answer),
+        head: r.head,
+        answer: Answer::Clear(r.answer),
     }
 }
+
 // Any call, on a head and its areas; each call takes only what it needs.
 pub fn step(
     h: Head,
@@ -192,9 +176,15 @@ pub fn step(
             message,
             location,
             stamp,
-        } => data(
-            h, words, bytes, time, number, message, location, stamp, payload,
-        ),
+        } => {
+            let p = Packet {
+                number,
+                message,
+                location,
+                stamp,
+            };
+            data(h, words, bytes, time, p, payload)
+        }
         Call::Pop { time } => pop(h, words, bytes, out, time),
         Call::Report { time } => report(h, words, list, time),
         Call::FullAck { time } => full_ack(h, area, time),

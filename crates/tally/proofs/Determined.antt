@@ -2,12 +2,13 @@
 use mathlib.Core.Path.{◌≡◌, sym, ◌∙◌}
 use mathlib.Core.Bool.{Bool}
 use Prim.Native.Nat.{ℕ}
+use Rattle.std.specs.Prelude.{Option}
+use Rattle.counts.specs.declared.Counters.{Counters}
 use Rattle.step.specs.declared.Answer.{Answer}
 use Rattle.tally.specs.Tally.{fresh_tally, tallied}
-use Rattle.tally.specs.declared.Tally.{Tally}
 
-pub fresh-determined : (asked : Bool) (r s : Tally) → r ≡ fresh_tally asked → s ≡ fresh_tally asked → r ≡ s
+pub fresh-determined : (asked : Bool) (r s : Option Counters) → r ≡ fresh_tally asked → s ≡ fresh_tally asked → r ≡ s
 fresh-determined asked r s p q = p ∙ sym q
 
-pub after-determined : (t : Tally) (size : ℕ) (a : Answer) (r s : Tally) → r ≡ tallied t size a → s ≡ tallied t size a → r ≡ s
+pub after-determined : (t : Option Counters) (size : ℕ) (a : Answer) (r s : Option Counters) → r ≡ tallied t size a → s ≡ tallied t size a → r ≡ s
 after-determined t size a r s p q = p ∙ sym q

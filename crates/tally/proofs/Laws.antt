@@ -1,6 +1,5 @@
 -- What the code of lib.rt does at each return, as laws over plain values. Assumes nothing.
 use mathlib.Core.Path.{◌≡◌, ◌∙◌, ap}
-use mathlib.Core.Bool.{Bool, true, false}
 use mathlib.Core.List.{List, [], ◌∷◌, ◌++◌, append_assoc}
 use Prim.Native.Nat.{ℕ, ◌+◌, ◌^◌, ◌<◌, ◌≤◌}
 use native.Mathlib.Omega.{arith}
@@ -12,27 +11,8 @@ use Rattle.text.specs.Put.{put_ended, put_of}
 use Rattle.text.proofs.Numerals.{decimal-short}
 use Rattle.text.proofs.Puts.{put-cursor, put_then, puts, put-none, put-room}
 use Rattle.shapes.specs.Ready.{Wrote}
-use Rattle.counts.specs.Counts.{fresh}
 use Rattle.counts.specs.declared.Counters.{Counters}
-use Rattle.step.specs.declared.Answer.{Answer}
-use Rattle.tally.specs.Tally.{fresh_tally, counted_of, tally_of, tallied, named, packet_bytes, loss_bytes, other_bytes, all_bytes, counters_bytes, tally_bytes}
-use Rattle.tally.specs.declared.Tally.{Tally}
-
--- fresh, counted, after
-pub fresh-is : (asked : Bool) {c : Counters} → c ≡ fresh → tally_of asked c ≡ fresh_tally asked
-fresh-is asked e = rw e
-
-pub counted-case : (c : Counters) (size : ℕ) (a b : Answer) {x : Counters} → a ≡ b → x ≡ counted_of c size b → x ≡ counted_of c size a
-counted-case c size a b h e = rw h e
-
-module _ (t : Tally) (size : ℕ) (a : Answer) where
-  pub after-asked : {c : Counters} → t.asked ≡ true → c ≡ counted_of t.counters size a → tally_of true c ≡ tallied t size a
-  unfolding tallied
-  after-asked h e = rw (h, e)
-
-  pub after-not : t.asked ≡ false → t ≡ tallied t size a
-  unfolding tallied
-  after-not h = rw h
+use Rattle.tally.specs.Tally.{named, packet_bytes, loss_bytes, other_bytes, all_bytes, counters_bytes}
 
 -- one put after the other
 two-puts : (out : List ℕ) (at : ℕ) (a b : List ℕ) {p q : ℕ} {o₁ o₂ : List ℕ}
@@ -121,17 +101,12 @@ module _ (out : List ℕ) (at : ℕ) (c : Counters) where
   counters-wrote room e f g =
       wrote_then out at _ _ 428 1 (wrote_then out at _ _ 8 420 e f (omega arith)) (wrote_of _ _ (10 ∷ []) 1 g (omega arith)) (omega arith)
 
-module _ (out : List ℕ) (at : ℕ) (t : Tally) where
-  pub line-asked : {r : ℕ} {o₁ : List ℕ} → t.asked ≡ true → Wrote out at (counters_bytes t.counters) 429 r o₁ → Wrote out at (tally_bytes t) 429 r o₁
-  unfolding tally_bytes
-  line-asked h e = rw h e
+-- no line where the counters are not asked for
+pub wrote-none : (out : List ℕ) (at : ℕ) → at + 429 ≤ length out → Wrote out at [] 429 at out
+wrote-none out at room = wrote_of out at [] 429 (puts out at [] (omega arith) (put-none out at)) (omega arith)
 
-  pub line-not : t.asked ≡ false → Wrote out at (tally_bytes t) 429 at out
-  unfolding tally_bytes
-  line-not h = rw h (wrote_of out at [] 429 (puts out at [] (omega arith) (put-none out at)) (omega arith))
-
-pub ruleset tallies = (fresh-is, counted-case, after-asked, after-not, rules)
+pub ruleset tallies = (wrote-none, rules)
 
 pub ruleset names = (name-room, equals-room, count_room, named-bytes, named-within, after-byte, rules)
 
-pub ruleset rows = (packets-wrote, losses-wrote, others-wrote, all-wrote, counters-wrote, line-asked, line-not, rules)
+pub ruleset rows = (packets-wrote, losses-wrote, others-wrote, all-wrote, counters-wrote, rules)

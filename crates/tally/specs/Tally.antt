@@ -1,13 +1,12 @@
 -- What the answers of a replay count together, and the line that is written of it behind the end line if it is asked for: `counters`, then the ten
 -- of 003 by name. 01, "Counters follow 003".
-use Rattle.std.specs.Prelude.{Bool, cond, true, List, [], ◌++◌, ℕ}
+use Rattle.std.specs.Prelude.{Bool, cond, Option, Some, None, List, [], ◌++◌, ℕ}
 use Rattle.text.specs.Bytes.{bytes}
 use Rattle.text.specs.Decimal.{decimal}
 use Rattle.counts.specs.Counts.{fresh, data_counts, ack2_counts, drop_counts, clock_counts}
 use Rattle.counts.specs.declared.Counters.{Counters}
 use Rattle.step.specs.declared.Answer.{Answer}
 use Rattle.step.specs.declared.Answer.TheVariants as answers
-use Rattle.tally.specs.declared.Tally.{Tally}
 
 -- what an answer raises; size is the length of a data packet's payload
 abbrev pub counted_of : Counters → ℕ → Answer → Counters
@@ -20,15 +19,13 @@ counted_of c size (answers.Drop a) = drop_counts c a
 counted_of c size (answers.Clock a) = clock_counts c a
 counted_of c size (answers.Clear a) = c
 
-abbrev pub tally_of : Bool → Counters → Tally
-tally_of asked c = record { asked = asked; counters = c }
+-- the counters, if they are asked for
+abbrev pub fresh_tally : Bool → Option Counters
+fresh_tally asked = cond asked (Some fresh) None
 
-abbrev pub fresh_tally : Bool → Tally
-fresh_tally asked = tally_of asked fresh
-
--- only if they are asked for
-unfoldable pub tallied : Tally → ℕ → Answer → Tally
-tallied t size a = cond t.asked (tally_of true (counted_of t.counters size a)) t
+unfoldable pub tallied : Option Counters → ℕ → Answer → Option Counters
+tallied None size a = None
+tallied (Some c) size a = Some (counted_of c size a)
 
 -- a space, a name, `=` and its count
 unfoldable pub named : List ℕ → ℕ → List ℕ
@@ -50,5 +47,7 @@ all_bytes c = packet_bytes c ++ loss_bytes c ++ other_bytes c
 unfoldable pub counters_bytes : Counters → List ℕ
 counters_bytes c = bytes "counters" ++ all_bytes c ++ bytes "\n"
 
-unfoldable pub tally_bytes : Tally → List ℕ
-tally_bytes t = cond t.asked (counters_bytes t.counters) []
+-- only if they are asked for
+unfoldable pub tally_bytes : Option Counters → List ℕ
+tally_bytes None = []
+tally_bytes (Some c) = counters_bytes c

@@ -1,4 +1,5 @@
-// The counters of a replay: what the answer of a step raises, and the line that `--counters` adds behind the end line. 01, "Counters follow 003".
+// The counters of a replay: what the answer of a step raises, and the line that `--counters` adds behind the end line.
+// 01, "Counters follow 003".
 #![tactic(auto)]
 
 ghost use Rattle.std.specs.Prelude.{◌≡◌, ◌+◌, ◌≤◌, length};
@@ -9,20 +10,11 @@ use counts::Counters;
 use counts::after::{after_ack2, after_clock, after_data, after_drop};
 use step::Answer;
 
-// The counters, and whether they are asked for: if not, nothing is counted and no line written.
-#[derive(Clone, Copy)]
-pub struct Tally {
-    pub asked: bool,
-    pub counters: Counters,
-}
-
-pub fn fresh(asked: bool) -> Tally
+// The counters, if they are asked for: without them nothing is counted and no line written.
+pub fn fresh(asked: bool) -> Option<Counters>
     ensures { result ≡ fresh_tally asked }
 {
-    Tally {
-        asked,
-        counters: Counters::new(),
-    }
+    asked.then(Counters::new)
 }
 
 // By the answer; `size` is the length of a data packet's payload.
@@ -31,30 +23,22 @@ fn counted(c: Counters, size: usize, answer: Answer) -> Counters
 {
     match answer {
         Answer::Data(a) => after_data(c, size, a),
-        Answer::Pop(_) => c,
-        Answer::Report(_) => c,
-        Answer::FullAck(_) => c,
         Answer::Ack2(a) => after_ack2(c, a),
         Answer::Drop(a) => after_drop(c, a),
         Answer::Clock(a) => after_clock(c, a),
-        Answer::Clear(_) => c,
+        Answer::Pop(_) | Answer::Report(_) | Answer::FullAck(_) | Answer::Clear(_) => c,
     }
 }
 
-pub fn after(t: Tally, size: usize, answer: Answer) -> Tally
+#[tactic(auto, unfolding(crate::specs::Tally::tallied))]
+pub fn after(t: Option<Counters>, size: usize, answer: Answer) -> Option<Counters>
     ensures { result ≡ tallied t size answer }
 {
-    if t.asked {
-        let c = t.counters;
-        return Tally {
-            asked: true,
-            counters: counted(c, size, answer),
-        };
-    }
-    t
+    Some(counted(t?, size, answer))
 }
 
-// A name and its count, after a space.
+// A name and its count, after a space. Rows are chains of these: a loop over a table of names would have to require how
+// long each name is, which is no plainer.
 fn put_named(out: &mut [u8], at: usize, name: &[u8], n: u64) -> usize
     requires at_in_bounds { at + 42 ≤ length out.old }
     requires name_len_bound { length name.now ≤ 20 }
@@ -112,14 +96,14 @@ fn put_counters(out: &mut [u8], at: usize, c: Counters) -> usize
     text::put_byte(out, q, 10)
 }
 
-// The line, if it is asked for.
-pub fn line(out: &mut [u8], at: usize, t: Tally) -> usize
+// The line, if the counters are asked for.
+#[tactic(auto, using(crate::proofs::Laws::tallies), unfolding(crate::specs::Tally::tally_bytes))]
+pub fn line(out: &mut [u8], at: usize, t: Option<Counters>) -> usize
     requires { at + 429 ≤ length out.old }
     ensures { Wrote out.old at (tally_bytes t) 429 result out.new }
 {
-    if t.asked {
-        let c = t.counters;
-        return put_counters(out, at, c);
+    match t {
+        Some(c) => put_counters(out, at, c),
+        None => at,
     }
-    at
 }

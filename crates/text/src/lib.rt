@@ -1,5 +1,6 @@
-// Writing the lines of a trace as bytes, piece by piece, into a lent output at a cursor: 01, "Trace, mark DLT". Each function needs room
-// for what it writes, writes nothing else, and answers the cursor behind it.
+// Writing the lines of a trace as bytes, piece by piece, into a lent output at a cursor: 01, "Trace, mark DLT". Each
+// function needs room for what it writes, writes nothing else, and answers the cursor behind it. Output and cursor come
+// apart: in a contract a struct of a lent slice and its cursor is read as nested pairs, which is no plainer.
 #![tactic(auto)]
 
 ghost use Rattle.std.specs.Prelude.{◌≡◌, [], ◌∷◌, ◌+◌, ◌<◌, ◌≤◌, length, drop};
@@ -22,7 +23,8 @@ pub fn put_bytes(out: &mut [u8], at: usize, text: &[u8]) -> usize
     at + text.len()
 }
 
-// The digits of n at the end of an area that holds any u64; answers where they start.
+// The digits of n at the end of an area that holds any u64; answers where they start. Its index counts digits from the
+// end and goes over no data, and a `for` over the area from behind would count it as well, so a `while` is the plainer.
 fn spell(area: &mut [u8], n: u64) -> usize
     requires { length area.old ≡ 20 }
     ensures { (result ≤ 20) × (length area.new ≡ 20) × (drop result area.new ≡ decimal n) }
@@ -52,7 +54,7 @@ pub fn put_signed(out: &mut [u8], at: usize, z: i64) -> usize
     requires { at + 21 ≤ length out.old }
     ensures { put_ended result out.new ≡ put_of out.old at (signed_decimal z) }
 {
-    let n = numbers::instant::size(z);
+    let n = z.unsigned_abs();
     if 0 <= z {
         return put_decimal(out, at, n);
     }

@@ -4,13 +4,16 @@ use mathlib.Core.Path.{◌≡◌, refl, ap, sym, ◌∙◌, subst}
 use mathlib.Core.Bool.{cond}
 use mathlib.Core.List.{List, [], ◌∷◌}
 use Prim.Native.Nat.{ℕ}
+use native.Mathlib.Omega.{arith}
 use borrow.Author.Tests.{eqb-false}
 use lib.Dec.{eqb}
 use lib.IntN.{ℤ}
 use lib.ListN.{length}
+use Rattle.std.specs.Prelude.{Result, Ok, Err}
 use Rattle.numbers.proofs.Flags.{by_bool}
 use Rattle.head.specs.Head.{made_of}
 use Rattle.head.specs.Paper.{Line}
+use Rattle.head.specs.declared.refusal.Refusal.{Refusal}
 use Rattle.head.specs.declared.state.Head.{Head}
 use Rattle.receiver.specs.Data.{packet, data_call_of}
 use Rattle.receiver.specs.Message.{MessageOutcome, pop_call_of}
@@ -29,12 +32,13 @@ use Rattle.tally.specs.Tally.{counted_of}
 use Rattle.packing.specs.Packed.{unpack_of}
 use Rattle.packing.specs.Tally.{counters_words, counters_of}
 use Rattle.cells.specs.Cells.{cells_of}
-use Rattle.exports.specs.Calls.{Left, new_of, data_export_of, message_export_of, loss_export_of, full_ack_export_of, ack2_export_of, drop_export_of, clock_export_of, clear_export_of, data_counted_of, ack2_counted_of, drop_counted_of, clock_counted_of}
+use Rattle.exports.specs.Calls.{Left, left, from_made, new_of, data_export_of, message_export_of, loss_export_of, full_ack_export_of, ack2_export_of, drop_export_of, clock_export_of, clear_export_of, data_counted_of, ack2_counted_of, drop_counted_of, clock_counted_of}
 use Rattle.step.specs.Step.{State, state_of, Lent, step_of}
 use Rattle.step.specs.declared.Call.{Call}
 use Rattle.step.specs.declared.Call.TheVariants as calls
 use Rattle.ledger.specs.Runs.{Desk, opening, book_after, Fresh, Known, Empty, NoneClear}
 use Rattle.ledger.specs.Claims.{Demanded}
+use Rattle.ledger.proofs.Moves.{number-some}
 use Rattle.ledger.proofs.Theorem.{ledger-theorem, stretch-theorem, clear-empty}
 use Rattle.thm_collector.specs.Collector.{desk_at, Kept, state_in, Back, Started, Form, plain, counted, Promised, PromisedCounted, Gives, Turn, events, kept_after, Ran, Same, run_of, AllSame, raised_by, counters_after, Collected}
 
@@ -231,14 +235,23 @@ module _ (first : ℕ) (d : Desk) (x : Kept) where
   collected : (n : Counters) (us : List Turn) → Ran x us → x.counts ≡ counters_words n → Demanded step_of (opening first d (state_in x)) (events us) → Collected first d x n us
   collected n us g z q = record { demanded = q; receiver = run-state us g; same = run-same us g; counters = run-counts n us g z }
 
+-- pt_new returned 0, so making gave the head that the words say
+made-head : (before ws : List ℕ) (cells : List ℤ) (m : Result Head Refusal) → left 0 ws cells [] ≡ from_made before m → m ≡ Ok (unpack_of ws)
+made-head before ws cells (Ok h) e = ap (λ (g : Head). Ok g) (sym (ap says_in e))
+made-head before ws cells (Err f) e = absurd (omega (arith, ap returned_in e, number-some f))
+
 module _ (first : ℕ) (x : Kept) where
   -- what pt_new makes is fresh
   pub new-fresh : Started first x → Fresh first (state_in x)
   unfolding new_of
   new-fresh s =
-      let m = made_of s.start s.latency s.dropping first s.capacity in
-      let u : m.refusal ≡ 0 = sym (ap returned_in s.made) in
-      record { start = s.start; latency = s.latency; dropping = s.dropping; capacity = s.capacity; made = u; head = ap says_in s.made ∙ rw u }
+      record {
+        start = s.start;
+        latency = s.latency;
+        dropping = s.dropping;
+        capacity = s.capacity;
+        made = made-head s.before x.words s.cells (made_of s.start s.latency s.dropping first s.capacity) s.made;
+      }
 
   -- so demand 3 holds of any calls but clear, plain or counted, on what pt_new made
   pub collects : (s : Started first x) (us : List Turn) → NoneClear (events us) → Ran x us → Collected first (desk_at s) x counting.fresh us

@@ -6,6 +6,7 @@ use Prim.Native.Nat.{ℕ}
 use native.Mathlib.Omega.{arith}
 use lib.IntN.{ℤ, pos, nat_abs}
 use lib.ListN.{length, get_or, replicate}
+use Rattle.std.specs.Prelude.{Result, Ok, Err}
 use Rattle.numbers.specs.Circular.{sum}
 use Rattle.clock.specs.Base as bases
 use Rattle.clock.specs.Ranges as clocks
@@ -16,8 +17,10 @@ use Rattle.acks.specs.Rtt as rtts
 use Rattle.intervals.specs.Rates as rates
 use Rattle.window_pop.specs.Pop as pops
 use Rattle.head.specs.Head as heads
-use Rattle.head.specs.Head.{made_of}
-use Rattle.head.specs.Rules as rules
+use Rattle.head.specs.Head.{fresh_head, made_of}
+use Rattle.head.specs.declared.refusal.Refusal.{Refusal}
+use Rattle.head.specs.declared.refusal.Refusal.TheVariants.{HeadBad, AreaShort, ClockRange, ClockBack, BadNumber, PayloadLong, BufferFull, PacketTooEarly, PacketTooLate, DiscardedDuplicate, OutShort, ListShort, FasnWorn, DriftRange, BadSetting}
+use Rattle.head.specs.declared.state.Head.{Head}
 use Rattle.receiver.specs.Data.{packet, data_call_of}
 use Rattle.receiver.specs.Message.{taken_of, pop_call_of}
 use Rattle.receiver.specs.Paper.{data_line}
@@ -35,29 +38,47 @@ use Rattle.thm_collector.proofs.Collects.{either-call, either-counts}
 abbrev at_start : List ℕ → Kept
 at_start ws = record { words = ws; slots = replicate 3 0; payloads = replicate 1456 0; history = []; counts = replicate 10 0 }
 
-pop-moves : (out : List ℕ) → (pop_call_of (made_of (pos 0) 0 true 0 1).head (replicate 3 0) (replicate 1456 0) out (pos 1)).given.head.latest ≡ pos 1
-unfolding pop_call_of taken_of heads.head_ok heads.fresh_head made_of rules.then_of bases.fresh_base clocks.clock_ok samples.no_samples syncs.fresh_clock histories.fresh_history histories.history_ok rtts.fresh_rtt rtts.rtt_ok rates.fresh_arrivals rates.fresh_links rates.arrivals_ok rates.links_ok rates.all_under rates.window_of pops.pop_of pops.late_of pops.discarded pops.walk_from pops.limit_of
+pop-moves : (out : List ℕ) → (pop_call_of (fresh_head (pos 0) 0 true 0 1) (replicate 3 0) (replicate 1456 0) out (pos 1)).given.head.latest ≡ pos 1
+unfolding pop_call_of taken_of heads.head_ok heads.fresh_head bases.fresh_base clocks.clock_ok samples.no_samples syncs.fresh_clock histories.fresh_history histories.history_ok rtts.fresh_rtt rtts.rtt_ok rates.fresh_arrivals rates.fresh_links rates.arrivals_ok rates.links_ok rates.all_under rates.window_of pops.pop_of pops.late_of pops.discarded pops.walk_from pops.limit_of
 pop-moves out = refl
 
-starts-at-zero : (made_of (pos 0) 0 true 0 1).head.latest ≡ pos 0
-unfolding made_of heads.fresh_head rules.then_of
+starts-at-zero : (fresh_head (pos 0) 0 true 0 1).latest ≡ pos 0
+unfolding fresh_head
 starts-at-zero = refl
 
-pub old-words : (ws : List ℕ) (t : Lent) (r : Back) → unpack_of ws ≡ (made_of (pos 0) 0 true 0 1).head → Gives (at_start ws) t r plain (calls.Pop (pos 1)) → r.kept.words ≡ ws → ⊥
+-- the head that making gives
+made-so : {h : Head} → made_of (pos 0) 0 true 0 1 ≡ Ok h → h ≡ fresh_head (pos 0) 0 true 0 1
+unfolding made_of
+made-so e = cc
+
+pub old-words : (ws : List ℕ) (t : Lent) (r : Back) → made_of (pos 0) 0 true 0 1 ≡ Ok (unpack_of ws) → Gives (at_start ws) t r plain (calls.Pop (pos 1)) → r.kept.words ≡ ws → ⊥
 old-words ws t r made g old =
     let a = ap (λ (s : State). s.head.latest) (either-call (at_start ws) t r plain (calls.Pop (pos 1)) g).state in
-    let b = rw (old, made, pop-moves t.output, starts-at-zero) at a in
+    let b = rw (old, made-so made, pop-moves t.output, starts-at-zero) at a in
     let z : ◌≡◌ {A = ℕ} 0 1 = ap nat_abs b in
     omega arith
 
 -- it counts with the words of before though a duplicate was handed in: 7 to 10 still count
-counts-duplicate : (a : DataAnswer) (size : ℕ) → (data_line a).refusal ≡ 10 → get_or (counters_words (counting.data_counts counting.fresh size a)) 0 0 ≡ 1
+counts-duplicate : (a : Result DataAnswer Refusal) (size : ℕ) → (data_line a).refusal ≡ 10 → get_or (counters_words (counting.data_counts counting.fresh size a)) 0 0 ≡ 1
 unfolding counting.raised sum
-counts-duplicate (datas.Got lrsn recovered) size e = absurd (omega arith)
-counts-duplicate (datas.Light lrsn recovered) size e = absurd (omega arith)
-counts-duplicate (datas.Loss first last) size e = absurd (omega arith)
-counts-duplicate (datas.Refused n) size e = rw e
-counts-duplicate (datas.PacketTooEarly room need) size e = absurd (omega arith)
+counts-duplicate (Ok (datas.Got lrsn recovered)) size e = absurd (omega arith)
+counts-duplicate (Ok (datas.Light lrsn recovered)) size e = absurd (omega arith)
+counts-duplicate (Ok (datas.Loss first last)) size e = absurd (omega arith)
+counts-duplicate (Err HeadBad) size e = absurd (omega arith)
+counts-duplicate (Err AreaShort) size e = absurd (omega arith)
+counts-duplicate (Err ClockRange) size e = absurd (omega arith)
+counts-duplicate (Err ClockBack) size e = absurd (omega arith)
+counts-duplicate (Err BadNumber) size e = absurd (omega arith)
+counts-duplicate (Err PayloadLong) size e = absurd (omega arith)
+counts-duplicate (Err BufferFull) size e = absurd (omega arith)
+counts-duplicate (Err (PacketTooEarly room need)) size e = absurd (omega arith)
+counts-duplicate (Err PacketTooLate) size e = absurd (omega arith)
+counts-duplicate (Err DiscardedDuplicate) size e = refl
+counts-duplicate (Err OutShort) size e = absurd (omega arith)
+counts-duplicate (Err ListShort) size e = absurd (omega arith)
+counts-duplicate (Err FasnWorn) size e = absurd (omega arith)
+counts-duplicate (Err DriftRange) size e = absurd (omega arith)
+counts-duplicate (Err BadSetting) size e = absurd (omega arith)
 
 pub duplicate-uncounted : (x : Kept) (t : Lent) (r : Back) (time : ℤ) (number message location stamp : ℕ)
     → Gives x t r counted (calls.Data time number message location stamp) → r.returned ≡ 10 → x.counts ≡ replicate 10 0 → r.kept.counts ≡ replicate 10 0 → ⊥

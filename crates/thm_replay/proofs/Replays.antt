@@ -1,31 +1,35 @@
--- A replay of a trace is a run of the ledger's theorem, and its output is the lines of that run's answers. Assumes nothing.
+-- A replay of a trace is a run of the ledger's theorem, and its output is the lines of that run's answers. Assumes
+-- nothing.
 use mathlib.Core.Path.{◌≡◌, refl, sym, ◌∙◌, ap, subst}
-use mathlib.Core.Bool.{Bool, true, false, ◌&&◌, not, cond}
+use mathlib.Core.Bool.{Bool, true, false, cond}
 use mathlib.Core.List.{List, ◌++◌, append_assoc}
 use Prim.Native.Nat.{ℕ, zero, suc, ◌+◌, ◌<◌, ◌≤◌}
 use native.Mathlib.Numerals.{add-one}
 use native.Mathlib.Omega.{arith}
-use borrow.Author.Tests.{eqb-true, eqb-false, leb-true, not-true, not-false}
+use borrow.Author.Tests.{leb-true, not-true, not-false}
 use lib.Dec.{eqb, leb}
 use lib.ListN.{length, length-drop}
 use lib.Seq.{get_or-drop}
 use Rattle.numbers.specs.Circular.{sum}
 use Rattle.numbers.proofs.Circle.{sum-sum}
-use Rattle.numbers.proofs.Flags.{by_bool, by-test, and_left, and_right, impossible}
-use Rattle.head.specs.Head.{fresh_head, made_of}
+use Rattle.numbers.proofs.Flags.{by_bool, impossible}
+use Rattle.head.specs.Head.{fresh_head, made_of, head_made}
 use Rattle.head.specs.Rules.{first_refusal, make_rules}
 use Rattle.head.specs.declared.state.Head.{Head}
-use Rattle.head.specs.declared.state.Made.{Made}
+use Rattle.head.specs.declared.refusal.Refusal.{Refusal}
+use Rattle.head.proofs.Gates.{by-refusal}
+use Rattle.counts.specs.declared.Counters.{Counters}
 use Rattle.dlt.specs.Record.{record_of, size_of}
-use Rattle.dlt.specs.declared.record.RecordRead.{RecordRead}
-use Rattle.dlt.specs.declared.record.RecordRead.TheVariants as records
+use Rattle.std.specs.Prelude.{Option, Result, Ok, Err}
+use Rattle.dlt.specs.declared.Unread.{Unread}
+use Rattle.dlt.specs.declared.record.Record.{Record}
+use Rattle.dlt.specs.declared.record.Record.TheVariants as records
 use Rattle.dlt.proofs.Laws.{AreBytes, RecordFit, record-fits, size-within}
 use Rattle.lines.specs.Lines.{line_bytes, end_bytes, bad_bytes}
 use Rattle.step.specs.Step.{State, Lent, lent_for, Ended, step_of}
 use Rattle.step.specs.declared.Call.{Call}
 use Rattle.tally.specs.Tally.{tallied, tally_bytes}
-use Rattle.tally.specs.declared.Tally.{Tally}
-use Rattle.trace.specs.Trace.{Areas, Replay, call_in, called, line_of, closing, lines_of, fresh_replay, output_of}
+use Rattle.trace.specs.Trace.{Areas, Replay, call_in, called, line_of, closing, lines_of, is_refused, fresh_replay, output_of}
 use Rattle.trace.specs.Lends.{most_capacity, AreasLent, areas_made}
 use Rattle.trace.proofs.Laws.{made_in, lines-record, lines-close}
 use Rattle.ledger.specs.Seen.{NotClear}
@@ -45,10 +49,10 @@ one-step : {s s₁ : State} {out out₁ list list₁ : List ℕ} (payload : List
 one-step payload c e f g = cc
 
 -- and a last line of equal parts
-abbrev last_line : ℕ → State → ℕ → Tally → ℕ → List ℕ
+abbrev last_line : ℕ → State → ℕ → Option Counters → ℕ → List ℕ
 last_line long s count y offset = cond (eqb long 0) (end_bytes count s.head.window.lrsn s.head.window.seqno0 s.head.window.held ++ tally_bytes y) (bad_bytes offset)
 
-last-same : (long : ℕ) {s s₁ : State} {count count₁ : ℕ} {y y₁ : Tally} {offset offset₁ : ℕ} → s ≡ s₁ → count ≡ count₁ → y ≡ y₁ → offset ≡ offset₁
+last-same : (long : ℕ) {s s₁ : State} {count count₁ : ℕ} {y y₁ : Option Counters} {offset offset₁ : ℕ} → s ≡ s₁ → count ≡ count₁ → y ≡ y₁ → offset ≡ offset₁
     → last_line long s count y offset ≡ last_line long s₁ count₁ y₁ offset₁
 last-same long e f g i = rw (e, f, g, i)
 
@@ -78,7 +82,7 @@ module _ (counting : Bool) (a : Areas) (file : List ℕ) (first : ℕ) (d : Desk
         list = ap (λ (e : Ended). e.list) m;
         count = ap (λ (k : ℕ). sum 64 k 1) r.count ∙ sum-sum 64 0 n 1 ∙ ap (λ (k : ℕ). sum 64 0 k) (add-one n);
         offset = ap (λ (k : ℕ). sum 64 k size) r.offset ∙ sum-sum 64 0 (offset_of file n) size;
-        tally = ap (λ (e : Ended). tallied (at n).tally long e.answer) m ∙ ap (λ (y : Tally). tallied y long (answer_at a file first d h n).answer) r.tally;
+        tally = ap (λ (e : Ended). tallied (at n).tally long e.answer) m ∙ ap (λ (y : Option Counters). tallied y long (answer_at a file first d h n).answer) r.tally;
       }
 
   -- the line of a record is that of the run's answer
@@ -122,17 +126,16 @@ rest-bytes file (suc n) small i =
     let size = size_of (record_at file n) in
     rw (get_or-drop size (rest_after file n) i 0) (rest-bytes file n small (size + i))
 
-not-clear : (r : RecordRead) → is_sound r ≡ true → is_clear r ≡ false → RecordFit r → NotClear (call_in r)
-not-clear records.Short s c f = impossible (sym s)
-not-clear records.Bad s c f = impossible (sym s)
-not-clear (records.Data time number message location stamp n) s c f = f.4
-not-clear (records.Pop time) s c f = tt
-not-clear (records.Report time) s c f = tt
-not-clear (records.FullAck time) s c f = tt
-not-clear (records.Ack2 time number) s c f = tt
-not-clear (records.Drop first last) s c f = tt
-not-clear (records.Clock time stamp) s c f = tt
-not-clear records.Clear s c f = impossible c
+not-clear : (r : Result Record Unread) → is_sound r ≡ true → is_clear r ≡ false → RecordFit r → NotClear (call_in r)
+not-clear (Err e) s c f = impossible (sym s)
+not-clear (Ok (records.Data time number message location stamp n)) s c f = f.4
+not-clear (Ok (records.Pop time)) s c f = tt
+not-clear (Ok (records.Report time)) s c f = tt
+not-clear (Ok (records.FullAck time)) s c f = tt
+not-clear (Ok (records.Ack2 time number)) s c f = tt
+not-clear (Ok (records.Drop first last)) s c f = tt
+not-clear (Ok (records.Clock time stamp)) s c f = tt
+not-clear (Ok records.Clear) s c f = impossible c
 
 none-clear : (a : Areas) (file : List ℕ) (first : ℕ) (d : Desk) (h : Head) → AreBytes file → (n : ℕ) → SoundTo file n → NoClearTo file n → NoneClear (events_of a file first d h n)
 unfolding events_of
@@ -147,7 +150,8 @@ stretch-clear a file first d h small n (suc m) c =
     let k = later n m in
     (not-clear (record_at file k) c.0 c.1 (record-fits (rest_after file k) (rest-bytes file k small)), stretch-clear a file first d h small n m c.2)
 
--- a stretch: any m records without a clear, from a moment at which the receiver holds nothing and has acknowledged all; a clear at such a moment leaves such a moment
+-- a stretch: any m records without a clear, from a moment at which the receiver holds nothing and has acknowledged all;
+-- a clear at such a moment leaves such a moment
 module _ (a : Areas) (file : List ℕ) (first : ℕ) (d : Desk) (h : Head) (f n : ℕ) (k : Desk) (e : Empty f (state_after a file first d h n)) (q : Known k (state_after a file first d h n)) where
   abbrev begins : State
   begins = state_after a file first d h n
@@ -163,11 +167,16 @@ module _ (a : Areas) (file : List ℕ) (first : ℕ) (d : Desk) (h : Head) (f n 
   replays-on small m c =
       record { state = stretch-state m; demanded = stretch-theorem f k begins e q (stretch_of a file first d h n m) (stretch-clear a file first d h small n m c) }
 
-  pub clears-on : record_at file n ≡ records.Clear → Empty f (state_after a file first d h (suc n)) × Known k (state_after a file first d h (suc n))
+  pub clears-on : record_at file n ≡ Ok records.Clear → Empty f (state_after a file first d h (suc n)) × Known k (state_after a file first d h (suc n))
   unfolding book_after events_of
   clears-on r =
       let lent = (event_of a file first d h n (events_of a file first d h n)).lent in
       subst (λ (c : Call). Empty f (step_of begins lent c).state × Known k (step_of begins lent c).state) (sym (ap call_in r)) (clear-empty f k begins lent e q)
+
+-- settings that are not refused make a head
+taken-made : (m : Result Head Refusal) (capacity : ℕ) → is_refused m capacity ≡ false → m ≡ Ok (head_made m)
+taken-made (Ok h) capacity e = refl
+taken-made (Err f) capacity e = impossible e
 
 -- a file whose header is accepted
 module _ (counting : Bool) (a : Areas) (file : List ℕ) (s : Accepted file) where
@@ -188,7 +197,8 @@ module _ (counting : Bool) (a : Areas) (file : List ℕ) (s : Accepted file) whe
       ∙ ap (λ (l : List ℕ). lines n ++ l) (more ∙ ap (λ (l : List ℕ). l ++ left (suc n)) (line_same counting a file s.first (desk_in a s) (head_in s) n))
       ∙ sym (append_assoc (lines n) (line_at a file s.first (desk_in a s) (head_in s) n) (left (suc n)))
 
-  -- all that the file gives, clears or not: it has some number of sound records, the lines of their answers, and the last line
+  -- all that the file gives, clears or not: it has some number of sound records, the lines of their answers, and the
+  -- last line
   pub writes-run : (n : ℕ) × SoundTo file n × (is_sound (record_at file n) ≡ false) × IsAll counting a file s.first (desk_in a s) (head_in s) n
   writes-run =
       let c = sound-count file in
@@ -201,15 +211,12 @@ module _ (counting : Bool) (a : Areas) (file : List ℕ) (s : Accepted file) whe
   -- the receiver that the header makes is fresh
   pub header-fresh : Fresh s.first (start_of a file s.first (desk_in a s) (head_in s))
   header-fresh =
-      let m = made_of s.start s.latency s.dropping s.first s.capacity in
-      let ok : (eqb m.refusal 0 && leb s.capacity 32) ≡ true = not-false (eqb m.refusal 0 && leb s.capacity 32) s.taken in
       record {
         start = s.start;
         latency = s.latency;
         dropping = s.dropping;
         capacity = s.capacity;
-        made = eqb-true m.refusal 0 (and_left (eqb m.refusal 0) (leb s.capacity 32) ok);
-        head = refl;
+        made = taken-made (made_of s.start s.latency s.dropping s.first s.capacity) s.capacity s.taken;
       }
 
   -- so demand 3 holds of a replay, after each n records of which none is a clear
@@ -236,14 +243,11 @@ module _ (counting : Bool) (a : Areas) (file : List ℕ) (s : Accepted file) whe
   starts-small : (head_in s).window.capacity ≤ most_capacity
   unfolding made_of fresh_head
   starts-small =
-      let m = made_of s.start s.latency s.dropping s.first s.capacity in
-      let ok : (eqb m.refusal 0 && leb s.capacity 32) ≡ true = not-false (eqb m.refusal 0 && leb s.capacity 32) s.taken in
-      let most = leb-true s.capacity 32 (and_right (eqb m.refusal 0) (leb s.capacity 32) ok) in
-      let e = eqb-true m.refusal 0 (and_left (eqb m.refusal 0) (leb s.capacity 32) ok) in
-      by-test (λ (x : Made). x.refusal ≡ 0 → x.head.window.capacity ≤ most_capacity) (eqb (first_refusal (make_rules s.start s.latency s.first s.capacity)) 0) _ _
-      (λ t z. most)
-      (λ t z. absurd (eqb-false (first_refusal (make_rules s.start s.latency s.first s.capacity)) 0 t z))
-      e
+      by-refusal (λ (x : Result Head Refusal). is_refused x s.capacity ≡ false → (head_made x).window.capacity ≤ most_capacity)
+      (first_refusal (make_rules s.start s.latency s.first s.capacity)) _ _
+      (λ x z e. leb-true s.capacity 32 (not-false (leb s.capacity 32) e))
+      (λ f z e. impossible e)
+      s.taken
 
   stays_lent : AreasLent a → (n : ℕ) → ((state n).head.window.capacity ≤ most_capacity) × AreasLent (lent_in (state n) (lent n))
   unfolding book_after events_of

@@ -1,19 +1,19 @@
 -- The calls that a file's records are, as events of the ledger's runs, and what a replay of the file is to be: 01,
 -- "Trace, mark DLT", and demand 3. A record's call and payload are read from the bytes; the output and the list that
 -- are lent for it are those that the call before it left.
-use Rattle.std.specs.Prelude.{◌≡◌, Bool, true, false, not, cond, List, [], ◌∷◌, ◌++◌, ℕ, zero, suc, ◌+◌, eqb, ℤ, length, drop}
+use Rattle.std.specs.Prelude.{◌≡◌, Bool, true, false, not, cond, List, [], ◌∷◌, ◌++◌, ℕ, zero, suc, ◌+◌, eqb, ℤ, length, drop, Option, Result, Ok, Err}
 use Rattle.numbers.specs.Circular.{sum}
-use Rattle.head.specs.Head.{made_of}
+use Rattle.head.specs.Head.{made_of, head_made}
 use Rattle.head.specs.declared.state.Head.{Head}
+use Rattle.counts.specs.declared.Counters.{Counters}
 use Rattle.dlt.specs.Header.{header_of}
-use Rattle.dlt.specs.declared.header.HeaderRead.TheVariants as headers
+use Rattle.dlt.specs.declared.Unread.{Unread}
 use Rattle.dlt.specs.Record.{record_of, size_of}
-use Rattle.dlt.specs.declared.record.RecordRead.{RecordRead}
-use Rattle.dlt.specs.declared.record.RecordRead.TheVariants as records
+use Rattle.dlt.specs.declared.record.Record.{Record}
+use Rattle.dlt.specs.declared.record.Record.TheVariants as records
 use Rattle.lines.specs.Lines.{line_bytes, end_bytes, bad_bytes}
 use Rattle.step.specs.Step.{State, state_of, lent_for, Ended, step_of}
 use Rattle.tally.specs.Tally.{fresh_tally, tallied, tally_bytes}
-use Rattle.tally.specs.declared.Tally.{Tally}
 use Rattle.trace.specs.Trace.{Areas, Replay, call_in, payload_in, called, replayed}
 use Rattle.trace.specs.Trace.{is_refused, fresh_replay, lines_of, output_of}
 use Rattle.ledger.specs.Runs.{Event, Desk, Book, opening, answered, book_after}
@@ -26,11 +26,11 @@ pub record Accepted (file : List ℕ) : Type 0 where
   pub dropping : Bool
   pub first : ℕ
   pub capacity : ℕ
-  pub header : header_of file ≡ headers.Header start latency dropping first capacity
+  pub header : header_of file ≡ Ok (record { start = start; latency = latency; dropping = dropping; first = first; capacity = capacity })
   pub taken : is_refused (made_of start latency dropping first capacity) capacity ≡ false
 
 abbrev pub head_in : {file : List ℕ} → Accepted file → Head
-head_in s = (made_of s.start s.latency s.dropping s.first s.capacity).head
+head_in s = head_made (made_of s.start s.latency s.dropping s.first s.capacity)
 
 -- what the station knows of it: the header's settings, and the lengths of the areas that it lends
 abbrev pub desk_in : Areas → {file : List ℕ} → Accepted file → Desk
@@ -52,7 +52,7 @@ module _ (file : List ℕ) where
   rest_after (suc n) = drop (size_of (record_of (rest_after n))) (rest_after n)
 
   -- the record after these n, and its payload
-  abbrev pub record_at : ℕ → RecordRead
+  abbrev pub record_at : ℕ → Result Record Unread
   record_at n = record_of (rest_after n)
 
   abbrev pub payload_at : ℕ → List ℕ
@@ -71,20 +71,19 @@ module _ (file : List ℕ) where
       replayed r (payload_at n) (size_of (record_at n)) (called r (call_in (record_at n)) (payload_at n))
 
 -- a sound record: not cut, of a known kind, and its payload not too long
-abbrev pub is_sound : RecordRead → Bool
+abbrev pub is_sound : Result Record Unread → Bool
 is_sound r = not (eqb (size_of r) 0)
 
-abbrev pub is_clear : RecordRead → Bool
-is_clear records.Short = false
-is_clear records.Bad = false
-is_clear (records.Data time number message location stamp n) = false
-is_clear (records.Pop time) = false
-is_clear (records.Report time) = false
-is_clear (records.FullAck time) = false
-is_clear (records.Ack2 time number) = false
-is_clear (records.Drop first last) = false
-is_clear (records.Clock time stamp) = false
-is_clear records.Clear = true
+abbrev pub is_clear : Result Record Unread → Bool
+is_clear (Err e) = false
+is_clear (Ok (records.Data time number message location stamp n)) = false
+is_clear (Ok (records.Pop time)) = false
+is_clear (Ok (records.Report time)) = false
+is_clear (Ok (records.FullAck time)) = false
+is_clear (Ok (records.Ack2 time number)) = false
+is_clear (Ok (records.Drop first last)) = false
+is_clear (Ok (records.Clock time stamp)) = false
+is_clear (Ok records.Clear) = true
 
 -- the first n records are sound; and none of them is a clear
 abbrev pub SoundTo : List ℕ → ℕ → Type 0
@@ -105,7 +104,8 @@ CallsFrom file n zero = Unit
 CallsFrom file n (suc m) =
     (is_sound (record_at file (later n m)) ≡ true) × (is_clear (record_at file (later n m)) ≡ false) × CallsFrom file n m
 
--- the run: the receiver that the header made, of this first number, with what the station knows of it and the lent areas
+-- the run: the receiver that the header made, of this first number, with what the station knows of it and the lent
+-- areas
 module _ (a : Areas) (file : List ℕ) (first : ℕ) (d : Desk) (h : Head) where
   abbrev pub start_of : State
   start_of = state_of h a.slots a.payloads a.history
@@ -153,7 +153,7 @@ module _ (a : Areas) (file : List ℕ) (first : ℕ) (d : Desk) (h : Head) where
   lines_to (suc n) = lines_to n ++ line_at n
 
   -- what the first n answers count, if it is asked for
-  unfoldable pub tally_after : Bool → ℕ → Tally
+  unfoldable pub tally_after : Bool → ℕ → Option Counters
   tally_after counting zero = fresh_tally counting
   tally_after counting (suc n) = tallied (tally_after counting n) (length (payload_at file n)) (answer_at n).answer
 

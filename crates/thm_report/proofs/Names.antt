@@ -1,7 +1,7 @@
 -- What a loss report names, read back from its words, is exactly the numbers of the due entries, in order: 01, "Window".
 -- The laws of one entry take any test of which entries are due. Assumes nothing.
 use mathlib.Core.Path.{◌≡◌, refl, sym, ◌∙◌, ap}
-use mathlib.Core.Bool.{Bool, true, false, cond}
+use mathlib.Core.Bool.{Bool, true, false}
 use mathlib.Core.List.{List, [], ◌∷◌, ◌++◌, append-nil, append_assoc}
 use Prim.Native.Nat.{ℕ, zero, suc, ◌+◌, ◌-◌, ◌^◌, ◌<◌, ◌≤◌}
 use native.Mathlib.Numerals.{add-one}
@@ -11,6 +11,7 @@ use lib.Dec.{ltb, eqb}
 use lib.IntN.{ℤ}
 use lib.ListN.{length, take, set, length-set}
 use lib.Seq.{take-suc-set}
+use Rattle.std.specs.Prelude.{Option, Some, None, Ok}
 use Rattle.numbers.specs.Circular.{distance}
 use Rattle.numbers.proofs.Both.{seq-distance}
 use Rattle.numbers.proofs.Circle.{sum_below, sum-zero, sum-sum}
@@ -19,10 +20,9 @@ use Rattle.window.specs.Ready.{InWindow}
 use Rattle.window.specs.Window.{number_in}
 use Rattle.window.specs.declared.Window.{Window}
 use Rattle.window_report.specs.Inner.{Within}
-use Rattle.window_report.specs.Report.{run_words, closed, runs_after, run_put, due_at, runs_to, list_to, needed, list_all, ReportOutcome, report_of}
+use Rattle.window_report.specs.Report.{run_words, first_at, closed, runs_after, run_put, due_at, runs_to, list_to, needed, list_all, ReportOutcome, report_of}
 use Rattle.window_report.specs.declared.report.Runs.{Runs}
-use Rattle.window_report.specs.declared.report.ReportAnswer.TheVariants as answers
-use Rattle.window_report.proofs.ReportLaws.{runs-within, words-rise, length-list}
+use Rattle.window_report.proofs.ReportLaws.{began, runs-within, words-rise, length-list}
 use Rattle.thm_report.specs.Named.{numbers_from, through, numbers_after, numbers_in, due_numbers}
 
 -- words that name these numbers, whatever follows them
@@ -87,7 +87,7 @@ take-two l n a b h =
 
 -- the entry before which all is written: the first of the run that goes on, else the next
 abbrev written_to : Runs → ℕ → ℕ
-written_to r i = cond r.going r.first i
+written_to r i = first_at r.first i
 
 module _ (w : Window) (due : ℕ → Bool) where
   -- after i entries: the words name the due ones before the run that goes on, and that run is all the others
@@ -96,7 +96,7 @@ module _ (w : Window) (due : ℕ → Bool) where
     words : Says (take r.words list) (due_numbers w due (written_to r i))
     rest : due_numbers w due i ≡ due_numbers w due (written_to r i) ++ numbers_from (number_in w (written_to r i)) (i - written_to r i)
 
-  said-start : (list : List ℕ) → Said 0 list (record { words = 0; going = false; first = 0 })
+  said-start : (list : List ℕ) → Said 0 list (record { words = 0; first = None })
   unfolding due_numbers numbers_from
   said-start list = record { before = omega arith; words = record { read = λ ys. refl }; rest = refl }
 
@@ -119,27 +119,28 @@ module _ (w : Window) (due : ℕ → Bool) where
   module _ (i : ℕ) (list : List ℕ) (r : Runs) (most : i ≤ 2 ^ 31) (room : r.words + run_words r i ≤ length list) (h : Within r i) (s : Said i list r) where
     said-closed : Says (take (closed r i).words (run_put w list r i)) (due_numbers w due i)
     unfolding run_put
-    said-closed =
-        by_bool r.going
-        (λ t.
-        let b = h.before t in
-        let before = rw t at s.words in
-        let rest = rw t at s.rest in
-        by_bool (eqb (r.first + 1) i)
-        (λ u.
-        let k : r.words + 1 ≤ length list = omega (arith, rw (t, u) at room) in
-        let f = eqb-true (r.first + 1) i u in
-        let one : i - r.first ≡ 1 = omega arith in
-        rw (t, u, take-one list r.words (number_in w r.first) k, rest, one, one_number w r.first)
-        (says_both before (says-one (number_in w r.first) (sum_below 31 w.seqno0 r.first))))
-        (λ u.
-        let k : r.words + 2 ≤ length list = omega (arith, rw (t, u) at room) in
-        rw (t, u, take-two list r.words (2 ^ 31 + number_in w r.first) (number_in w (i - 1)) k, rest, ← more_numbers w r.first i b most)
-        (says_both before (says-run (number_in w r.first) (number_in w (i - 1))))))
-        (λ t.
-        let before = rw t at s.words in
-        let z : r.words + 0 ≡ r.words = omega arith in
-        rw (t, z) before)
+    said-closed = go r.first refl
+      where
+        go : (o : Option ℕ) → r.first ≡ o → Says (take (closed r i).words (run_put w list r i)) (due_numbers w due i)
+        go (Some f) t =
+            let b : f < i = began h t in
+            let before = rw t at s.words in
+            let rest = rw t at s.rest in
+            by_bool (eqb (f + 1) i)
+            (λ u.
+            let k : r.words + 1 ≤ length list = omega (arith, rw (t, u) at room) in
+            let e = eqb-true (f + 1) i u in
+            let one : i - f ≡ 1 = omega arith in
+            rw (t, u, take-one list r.words (number_in w f) k, rest, one, one_number w f)
+            (says_both before (says-one (number_in w f) (sum_below 31 w.seqno0 f))))
+            (λ u.
+            let k : r.words + 2 ≤ length list = omega (arith, rw (t, u) at room) in
+            rw (t, u, take-two list r.words (2 ^ 31 + number_in w f) (number_in w (i - 1)) k, rest, ← more_numbers w f i b most)
+            (says_both before (says-run (number_in w f) (number_in w (i - 1)))))
+        go None t =
+            let before = rw t at s.words in
+            let z : r.words + 0 ≡ r.words = omega arith in
+            rw (t, z) before
 
     -- an entry that is not due
     said-not : due i ≡ false → Said (suc i) (run_put w list r i) (closed r i)
@@ -178,27 +179,27 @@ module _ (w : Window) (ws : List ℕ) (time : ℤ) (mean : ℕ) (list : List ℕ
   abbrev outcome : ReportOutcome
   outcome = report_of w ws time mean list
 
-  pub report-names : {n : ℕ} → outcome.answer ≡ answers.Report n → numbers_in (take n outcome.list) ≡ due_numbers w (due_at w ws time mean) w.held
+  pub report-names : {n : ℕ} → outcome.answer ≡ Ok (Some n) → numbers_in (take n outcome.list) ≡ due_numbers w (due_at w ws time mean) w.held
   unfolding report_of
   report-names {n} =
-      by-test (λ (x : ReportOutcome). x.answer ≡ answers.Report n → numbers_in (take n x.list) ≡ due_numbers w (due_at w ws time mean) w.held) (eqb (needed w ws time mean) 0) _ _
+      by-test (λ (x : ReportOutcome). x.answer ≡ Ok (Some n) → numbers_in (take n x.list) ≡ due_numbers w (due_at w ws time mean) w.held) (eqb (needed w ws time mean) 0) _ _
       (λ t e. absurd (let z : ◌≡◌ {A = ℕ} 0 1 = cc in omega arith))
       (λ t.
-      by-test (λ (x : ReportOutcome). x.answer ≡ answers.Report n → numbers_in (take n x.list) ≡ due_numbers w (due_at w ws time mean) w.held) (ltb (length list) (needed w ws time mean)) _ _
+      by-test (λ (x : ReportOutcome). x.answer ≡ Ok (Some n) → numbers_in (take n x.list) ≡ due_numbers w (due_at w ws time mean) w.held) (ltb (length list) (needed w ws time mean)) _ _
       (λ u e. absurd (let z : ◌≡◌ {A = ℕ} 0 1 = cc in omega arith))
       (λ u e.
       let m : needed w ws time mean ≡ n = cc in
       rw (← m) (all_named w ws time mean list (ltb-false _ _ u) few)))
 
-  pub none_named : outcome.answer ≡ answers.Nothing → due_numbers w (due_at w ws time mean) w.held ≡ []
+  pub none_named : outcome.answer ≡ Ok None → due_numbers w (due_at w ws time mean) w.held ≡ []
   unfolding report_of numbers_after
   none_named =
-      by-test (λ (x : ReportOutcome). x.answer ≡ answers.Nothing → due_numbers w (due_at w ws time mean) w.held ≡ []) (eqb (needed w ws time mean) 0) _ _
+      by-test (λ (x : ReportOutcome). x.answer ≡ Ok None → due_numbers w (due_at w ws time mean) w.held ≡ []) (eqb (needed w ws time mean) 0) _ _
       (λ t e.
       let z = eqb-true (needed w ws time mean) 0 t in
       let k : needed w ws time mean ≤ length list = omega arith in
       sym (rw z at (all_named w ws time mean list k few)))
       (λ t.
-      by-test (λ (x : ReportOutcome). x.answer ≡ answers.Nothing → due_numbers w (due_at w ws time mean) w.held ≡ []) (ltb (length list) (needed w ws time mean)) _ _
+      by-test (λ (x : ReportOutcome). x.answer ≡ Ok None → due_numbers w (due_at w ws time mean) w.held ≡ []) (ltb (length list) (needed w ws time mean)) _ _
       (λ u e. absurd (let z : ◌≡◌ {A = ℕ} 0 1 = cc in omega arith))
       (λ u e. absurd (let z : ◌≡◌ {A = ℕ} 0 1 = cc in omega arith)))

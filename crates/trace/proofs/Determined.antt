@@ -2,11 +2,12 @@
 use Rattle.std.proofs.Common.{◌≡◌, ℕ, Bool, List, sym, ap, ◌∙◌}
 use Rattle.trace.specs.Trace.{Areas}
 use Rattle.trace.specs.Turn.{begin_of, TurnLeft, turn_left, turned, turn_of}
-use Rattle.trace.specs.declared.Begun.{Begun}
+use Rattle.std.specs.Prelude.{Result}
+use Rattle.dlt.specs.declared.Unread.{Unread}
 use Rattle.trace.specs.declared.Trace.{Trace}
 use Rattle.trace.specs.declared.Turned.{Turned}
 
-pub begin-determined : (piece : List ℕ) (counting : Bool) (r s : Begun) → r ≡ begin_of piece counting → s ≡ begin_of piece counting → r ≡ s
+pub begin-determined : (piece : List ℕ) (counting : Bool) (r s : Result Trace Unread) → r ≡ begin_of piece counting → s ≡ begin_of piece counting → r ≡ s
 begin-determined piece counting r s p q = p ∙ sym q
 
 -- what a turn returns, from its outcome

@@ -1,16 +1,18 @@
--- What a reader of a file piece by piece may lean on: a piece that has the whole record is enough, and the turns of any division into pieces
--- write, joined, what the whole file gives. Assumes nothing.
+-- What a reader of a file piece by piece may lean on: a piece that has the whole record is enough, and the turns of any
+-- division into pieces write, joined, what the whole file gives. Assumes nothing.
 use Rattle.std.proofs.Common.{◌≡◌, ℕ, zero, suc, ◌+◌, ◌<◌, ◌≤◌, Bool, true, false, not, ◌&&◌, eqb, leb, List, [], ◌∷◌, ◌++◌, length, take, drop, replicate, sym, refl, ap, ◌∙◌, subst, append-nil, arith, length-append, length-drop, take_at, lt-ltb, ne_eqb, le-leb}
 use mathlib.Core.Bool.{and-true}
 use lib.ListN.{length-replicate}
 use lib.Seq.{drop-append-le, take-append-le}
 use Rattle.numbers.proofs.Flags.{by-test, by_bool, by-order, impossible}
 use Rattle.dlt.specs.Record.{record_of, size_of, least_size}
-use Rattle.dlt.specs.declared.record.RecordRead.{RecordRead}
-use Rattle.dlt.specs.declared.record.RecordRead.TheVariants as records
+use Rattle.dlt.specs.declared.record.Record.{Record}
+use Rattle.dlt.specs.declared.record.Record.TheVariants as records
 use Rattle.dlt.specs.Header.{header_of}
-use Rattle.dlt.specs.declared.header.HeaderRead.{HeaderRead}
-use Rattle.dlt.specs.declared.header.HeaderRead.TheVariants as headers
+use Rattle.std.specs.Prelude.{Result, Ok, Err}
+use Rattle.dlt.specs.declared.Unread.{Unread}
+use Rattle.dlt.specs.declared.Unread.TheVariants as unread
+use Rattle.dlt.specs.declared.header.Header.{Header}
 use Rattle.head.specs.Head.{made_of}
 use Rattle.lines.specs.Lines.{bad_bytes}
 use Rattle.dlt.proofs.Laws.{header-behind, record-behind, size-within}
@@ -20,49 +22,39 @@ use Rattle.trace.proofs.Steps.{come-not}
 use Rattle.trace.specs.Trace.{Areas, Replay, call_in, payload_in, called, replayed, line_of, closing, lines_of, is_refused, by_header, output_of}
 use Rattle.trace.specs.Turn.{begin_of, begun_by, replay_in, TurnOutcome, is_short, line_need, stays, ends_with, TurnLeft, turn_left, advances, turn_of}
 use Rattle.trace.specs.Loop.{Moves, wrote_in, Writes, record-line, end_line, bad-line, Replays, cut, refused, ready}
-use Rattle.trace.specs.declared.Opened.{Opened}
-use Rattle.trace.specs.declared.Opened.TheVariants as opened
 use Rattle.trace.specs.declared.Status.{Status}
 use Rattle.trace.specs.declared.Status.TheVariants as status
 use Rattle.trace.specs.declared.Trace.{Trace}
 
 -- a piece is enough
-payload-behind : (r : RecordRead) (xs ys : List ℕ) → size_of r ≤ length xs → payload_in (xs ++ ys) r ≡ payload_in xs r
-payload-behind records.Short xs ys h = refl
-payload-behind records.Bad xs ys h = refl
-payload-behind (records.Data time number message location stamp n) xs ys h =
+payload-behind : (r : Result Record Unread) (xs ys : List ℕ) → size_of r ≤ length xs → payload_in (xs ++ ys) r ≡ payload_in xs r
+payload-behind (Err e) xs ys h = refl
+payload-behind (Ok (records.Data time number message location stamp n)) xs ys h =
     let a : 24 ≤ length xs = omega arith in
     let b : n ≤ length (drop 24 xs) = rw (length-drop 24 xs) (omega arith) in
     rw (drop-append-le 24 xs ys a, take-append-le n (drop 24 xs) ys b)
-payload-behind (records.Pop time) xs ys h = refl
-payload-behind (records.Report time) xs ys h = refl
-payload-behind (records.FullAck time) xs ys h = refl
-payload-behind (records.Ack2 time number) xs ys h = refl
-payload-behind (records.Drop first last) xs ys h = refl
-payload-behind (records.Clock time stamp) xs ys h = refl
-payload-behind records.Clear xs ys h = refl
+payload-behind (Ok (records.Pop time)) xs ys h = refl
+payload-behind (Ok (records.Report time)) xs ys h = refl
+payload-behind (Ok (records.FullAck time)) xs ys h = refl
+payload-behind (Ok (records.Ack2 time number)) xs ys h = refl
+payload-behind (Ok (records.Drop first last)) xs ys h = refl
+payload-behind (Ok (records.Clock time stamp)) xs ys h = refl
+payload-behind (Ok records.Clear) xs ys h = refl
 
-not_short : (r : RecordRead) → (r ≡ records.Short → ⊥) → is_short r ≡ false
-not_short records.Short h = absurd (h refl)
-not_short records.Bad h = refl
-not_short (records.Data time number message location stamp n) h = refl
-not_short (records.Pop time) h = refl
-not_short (records.Report time) h = refl
-not_short (records.FullAck time) h = refl
-not_short (records.Ack2 time number) h = refl
-not_short (records.Drop first last) h = refl
-not_short (records.Clock time stamp) h = refl
-not_short records.Clear h = refl
+not_short : (r : Result Record Unread) → (r ≡ Err unread.Short → ⊥) → is_short r ≡ false
+not_short (Err unread.Short) h = absurd (h refl)
+not_short (Err unread.Bad) h = refl
+not_short (Ok r) h = refl
 
-none-short : record_of [] ≡ records.Short
+none-short : record_of [] ≡ Err unread.Short
 unfolding record_of least_size
 none-short = refl
 
-whole-some : (xs : List ℕ) → (record_of xs ≡ records.Short → ⊥) → 0 < length xs
+whole-some : (xs : List ℕ) → (record_of xs ≡ Err unread.Short → ⊥) → 0 < length xs
 whole-some [] h = absurd (h none-short)
 whole-some (x ∷ xs) h = omega arith
 
-pub piece-enough : (t : Trace) (a : Areas) (xs ys : List ℕ) (last last₁ : Bool) (line : List ℕ) → (record_of xs ≡ records.Short → ⊥)
+pub piece-enough : (t : Trace) (a : Areas) (xs ys : List ℕ) (last last₁ : Bool) (line : List ℕ) → (record_of xs ≡ Err unread.Short → ⊥)
     → turn_of t a (xs ++ ys) last₁ line ≡ turn_of t a xs last line
 unfolding turn_of
 piece-enough t a xs ys last last₁ line h =
@@ -109,7 +101,7 @@ lines-enough (suc n) (suc m) t rest h k =
 pub lines-record : (t : Replay) (rest : List ℕ) → eqb (size_of (record_of rest)) 0 ≡ false
     → let left = drop (size_of (record_of rest)) rest in lines_of (length rest) t rest ≡ line_of t (made_in t rest) ++ lines_of (length left) (behind t rest) left
 unfolding lines_of
-lines-record t [] e = impossible (sym (ap (λ (r : RecordRead). eqb (size_of r) 0) none-short) ∙ e)
+lines-record t [] e = impossible (sym (ap (λ (r : Result Record Unread). eqb (size_of r) 0) none-short) ∙ e)
 lines-record t (x ∷ xs) e =
     let r = record_of (x ∷ xs) in
     let some = positive (size_of r) e in
@@ -164,7 +156,7 @@ module _ (t : Trace) (a : Areas) (hand more : List ℕ) (last : Bool) (line : Li
   unfolding advances
   step_line out e ih =
       let r = record_of hand in
-      let full : record_of (hand ++ more) ≡ r = record-behind hand more (λ q. impossible (sym (ap (λ (z : RecordRead). eqb (size_of z) 0) q) ∙ e)) in
+      let full : record_of (hand ++ more) ≡ r = record-behind hand more (λ q. impossible (sym (ap (λ (z : Result Record Unread). eqb (size_of z) 0) q) ∙ e)) in
       let paid = payload-behind r hand more (size-within hand) in
       let cut = drop-append-le (size_of r) hand more (size-within hand) in
       rw (wrote line (line_of whole (made_in whole hand)), lines-record whole (hand ++ more) (rw full e), full, paid, cut) (ap (λ (l : List ℕ). line_of whole (made_in whole hand) ++ l) ih)
@@ -178,7 +170,7 @@ module _ (t : Trace) (a : Areas) (hand more : List ℕ) (last : Bool) (line : Li
       (λ l. rw (told l, append-nil hand) (sym (lines-close whole hand e)))
       (λ l.
       let cut : is_short (record_of hand) ≡ false = sym (and-true (is_short (record_of hand))) ∙ rw l at m in
-      let some : record_of hand ≡ records.Short → ⊥ = λ q. impossible (sym (ap is_short q) ∙ cut) in
+      let some : record_of hand ≡ Err unread.Short → ⊥ = λ q. impossible (sym (ap is_short q) ∙ cut) in
       let long = whole-some hand some in
       let longer : 0 < length (hand ++ more) = rw (length-append hand more) (omega arith) in
       rw (lines-close whole (hand ++ more) (rw (record-behind hand more some) e), ne_eqb (length hand) 0 (λ q. omega arith), ne_eqb (length (hand ++ more)) 0 (λ q. omega arith)))
@@ -209,28 +201,33 @@ loop-writes _ _ _ _ (end_line t a hand more last line x told e s) = turn-close t
 loop-writes _ _ _ _ (bad-line t a hand more last line x told e s) = turn-close t a hand more last line told e (rw s (omega arith)) (rw s (omega arith))
 
 -- the header
-abbrev mark : Opened → ℕ
-mark opened.Short = 0
-mark opened.Bad = 1
-mark opened.Ready = 2
+abbrev mark : Result Trace Unread → ℕ
+mark (Err unread.Short) = 0
+mark (Err unread.Bad) = 1
+mark (Ok t) = 2
 
-pub unlike : {P : Type 0} {o u : Opened} → o ≡ u → (mark o ≡ mark u → ⊥) → P
+pub unlike : {P : Type 0} {x y : Result Trace Unread} → x ≡ y → (mark x ≡ mark y → ⊥) → P
 unlike e h = absurd (h (ap mark e))
 
 module _ (c : Bool) (a : Areas) (rest : List ℕ) where
-  bad-by : (h : HeaderRead) → mark (begun_by h c).opened ≤ 1 → bad_bytes 0 ≡ by_header c a h rest
-  bad-by headers.Short e = refl
-  bad-by headers.Bad e = refl
-  bad-by (headers.Header start latency dropping first capacity) e =
-      by_bool (is_refused (made_of start latency dropping first capacity) capacity) (λ b. rw b) (λ b. absurd (let k = rw b at e in omega arith))
+  bad-by : (h : Result Header Unread) → mark (begun_by h c) ≤ 1 → bad_bytes 0 ≡ by_header c a h rest
+  bad-by (Err u) e = refl
+  bad-by (Ok h) e =
+      by_bool (is_refused (made_of h.start h.latency h.dropping h.first h.capacity) h.capacity) (λ b. rw b) (λ b. absurd (let k = rw b at e in omega arith))
 
-  ready_by : (h : HeaderRead) (out : List ℕ) → (begun_by h c).opened ≡ opened.Ready → out ≡ lines_of (length rest) (replay_in (begun_by h c).trace a) rest → out ≡ by_header c a h rest
-  ready_by headers.Short out e w = unlike e (λ k. omega arith)
-  ready_by headers.Bad out e w = unlike e (λ k. omega arith)
-  ready_by (headers.Header start latency dropping first capacity) out e w =
-      by_bool (is_refused (made_of start latency dropping first capacity) capacity) (λ b. unlike (rw b at e) (λ k. omega arith)) (λ b. rw b w)
+  abbrev Gives : List ℕ → Result Trace Unread → Type 0
+  Gives out (Err u) = Unit {0}
+  Gives out (Ok t) = out ≡ lines_of (length rest) (replay_in t a) rest
 
-header-long : (xs : List ℕ) → (header_of xs ≡ headers.Short → ⊥) → 24 ≤ length xs
+  ready_by : (h : Result Header Unread) (out : List ℕ) (t : Trace) → begun_by h c ≡ Ok t → out ≡ lines_of (length rest) (replay_in t a) rest → out ≡ by_header c a h rest
+  ready_by (Err unread.Short) out t e w = unlike e (λ k. omega arith)
+  ready_by (Err unread.Bad) out t e w = unlike e (λ k. omega arith)
+  ready_by (Ok h) out t e w =
+      by_bool (is_refused (made_of h.start h.latency h.dropping h.first h.capacity) h.capacity)
+      (λ b. unlike (rw b at e) (λ k. omega arith))
+      (λ b. rw b (subst (Gives out) (sym (rw b at e)) w))
+
+header-long : (xs : List ℕ) → (header_of xs ≡ Err unread.Short → ⊥) → 24 ≤ length xs
 unfolding header_of
 header-long xs h = by-order (length xs) 24 (λ l. absurd (h (rw (lt-ltb _ _ l)))) (λ l. l)
 
@@ -239,12 +236,12 @@ pub loop-whole : (c : Bool) (a : Areas) (file out : List ℕ) → Replays c a fi
 unfolding output_of
 loop-whole _ _ _ _ (cut c a file e) = bad-by c a (drop 24 file) (header_of file) (rw e (omega arith))
 loop-whole _ _ _ _ (refused c a hand more e) =
-    let whole : header_of hand ≡ headers.Short → ⊥ = λ q. unlike (sym (ap (λ (h : HeaderRead). (begun_by h c).opened) q) ∙ e) (λ k. omega arith) in
+    let whole : header_of hand ≡ Err unread.Short → ⊥ = λ q. unlike (sym (ap (λ (h : Result Header Unread). begun_by h c) q) ∙ e) (λ k. omega arith) in
     rw (header-behind hand more whole) (bad-by c a (drop 24 (hand ++ more)) (header_of hand) (rw e (omega arith)))
-loop-whole _ _ _ _ (ready c a hand more out e w) =
-    let whole : header_of hand ≡ headers.Short → ⊥ = λ q. unlike (sym (ap (λ (h : HeaderRead). (begun_by h c).opened) q) ∙ e) (λ k. omega arith) in
+loop-whole _ _ _ _ (ready c a hand more out t e w) =
+    let whole : header_of hand ≡ Err unread.Short → ⊥ = λ q. unlike (sym (ap (λ (h : Result Header Unread). begun_by h c) q) ∙ e) (λ k. omega arith) in
     rw (header-behind hand more whole, drop-append-le 24 hand more (header-long hand whole))
-    (ready_by c a (drop 24 hand ++ more) (header_of hand) out e (loop-writes (begin_of hand c).trace a (drop 24 hand ++ more) out w))
+    (ready_by c a (drop 24 hand ++ more) (header_of hand) out t e (loop-writes t a (drop 24 hand ++ more) out w))
 
 pub turn-moves : (t : Trace) (a : Areas) (hand : List ℕ) (last : Bool) (line : List ℕ) → Moves hand (turn_of t a hand last line)
 unfolding advances
@@ -255,7 +252,8 @@ turn-moves t a hand last line =
     (λ f m s. by_bool (eqb (length hand) 0) (λ b. other (rw b at s) (λ k. omega arith)) (λ b. other (rw b at s) (λ k. omega arith)))
     (λ f s. (positive (size_of (record_of hand)) f, size-within hand))
 
--- there is such a run for every file: with a line that is long enough each turn gives a record's line or the last one, and each record has a byte at least
+-- there is such a run for every file: with a line that is long enough each turn gives a record's line or the last one,
+-- and each record has a byte at least
 module _ (t : Trace) (a : Areas) (rest : List ℕ) where
   abbrev pub long : List ℕ
   long = replicate (line_need a.list) 0
@@ -298,14 +296,13 @@ writes-all (suc n) t a rest h =
 
 pub replays-all : (c : Bool) (a : Areas) (file : List ℕ) → Replays c a file (output_of c a file)
 unfolding output_of
-replays-all c a file = by-opened (begin_of file c).opened refl
+replays-all c a file = by-begun (begin_of file c) refl
   where
-    by-opened : (o : Opened) → (begin_of file c).opened ≡ o → Replays c a file (by_header c a (header_of file) (drop 24 file))
-    by-opened opened.Short e = subst (Replays c a file) (bad-by c a (drop 24 file) (header_of file) (rw e (omega arith))) (cut c a file e)
-    by-opened opened.Bad e = subst (Replays c a file) (bad-by c a (drop 24 file) (header_of file) (rw e (omega arith))) (rw (append-nil file) at (refused c a file [] e))
-    by-opened opened.Ready e =
-        let t = (begin_of file c).trace in
+    by-begun : (x : Result Trace Unread) → begin_of file c ≡ x → Replays c a file (by_header c a (header_of file) (drop 24 file))
+    by-begun (Err unread.Short) e = subst (Replays c a file) (bad-by c a (drop 24 file) (header_of file) (rw e (omega arith))) (cut c a file e)
+    by-begun (Err unread.Bad) e = subst (Replays c a file) (bad-by c a (drop 24 file) (header_of file) (rw e (omega arith))) (rw (append-nil file) at (refused c a file [] e))
+    by-begun (Ok t) e =
         let w = writes-all (length (drop 24 file)) t a (drop 24 file) (omega arith) in
         let v : Writes t a (drop 24 file ++ []) (lines_of (length (drop 24 file)) (replay_in t a) (drop 24 file)) = subst (λ (l : List ℕ). Writes t a (drop 24 file ++ []) (lines_of (length l) (replay_in t a) l)) (append-nil (drop 24 file)) w in
-        subst (Replays c a file) (ready_by c a (drop 24 file) (header_of file) _ e refl)
-        (subst (λ (f : List ℕ). Replays c a f (lines_of (length (drop 24 file)) (replay_in t a) (drop 24 file))) (append-nil file) (ready c a file [] _ e v))
+        subst (Replays c a file) (ready_by c a (drop 24 file) (header_of file) _ t e refl)
+        (subst (λ (f : List ℕ). Replays c a f (lines_of (length (drop 24 file)) (replay_in t a) (drop 24 file))) (append-nil file) (ready c a file [] _ t e v))

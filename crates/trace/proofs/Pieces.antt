@@ -1,21 +1,20 @@
--- A loop that reads a file in any pieces comes to its end and has written what the whole file gives; it never needs to hold more than the longest record.
--- Assumes nothing.
-use Rattle.std.proofs.Common.{◌≡◌, ℕ, zero, suc, ◌+◌, ◌<◌, Bool, true, false, cond, not, ◌&&◌, eqb, List, [], ◌∷◌, ◌++◌, length, drop, sym, refl, ◌∙◌, subst, append_assoc, append-nil, arith, length-append, length-drop}
+-- A loop that reads a file in any pieces comes to its end and has written what the whole file gives; it never needs to
+-- hold more than the longest record. Assumes nothing.
+use Rattle.std.proofs.Common.{◌≡◌, ℕ, zero, suc, ◌+◌, ◌<◌, Bool, true, false, cond, not, ◌&&◌, eqb, List, [], ◌∷◌, ◌++◌, length, drop, sym, refl, subst, append_assoc, append-nil, arith, length-append, length-drop}
 use Rattle.numbers.proofs.Flags.{by_bool, and_left, and_right, impossible}
 use Rattle.dlt.specs.Header.{header_of}
-use Rattle.dlt.specs.Record.{record_of, size_of, longest_record}
-use Rattle.dlt.specs.declared.header.HeaderRead.{HeaderRead}
-use Rattle.dlt.specs.declared.header.HeaderRead.TheVariants as headers
-use Rattle.dlt.specs.declared.record.RecordRead.{RecordRead}
-use Rattle.dlt.specs.declared.record.RecordRead.TheVariants as records
+use Rattle.dlt.specs.Record.{record_of, size_of}
+use Rattle.std.specs.Prelude.{Result, Ok, Err}
+use Rattle.dlt.specs.declared.Unread.{Unread}
+use Rattle.dlt.specs.declared.Unread.TheVariants as unread
+use Rattle.dlt.specs.declared.header.Header.{Header}
+use Rattle.dlt.specs.declared.record.Record.{Record}
 use Rattle.dlt.proofs.Laws.{header-cut, record-cut, size-within}
 use Rattle.head.specs.Head.{made_of}
 use Rattle.lines.specs.Lines.{bad_bytes}
 use Rattle.trace.specs.Trace.{Areas, call_in, payload_in, is_refused, output_of}
-use Rattle.trace.specs.Turn.{begin_of, begun_by, is_short, stays, ends_with, TurnLeft, turn_left, advances, turn_of}
+use Rattle.trace.specs.Turn.{begin_of, begun_by, is_short, stays, ends_with, turn_left, advances, turn_of}
 use Rattle.trace.specs.Loop.{wrote_in, Writes, record-line, end_line, bad-line, Replays, cut, refused, ready, joined, Turns, asks, learns, flushes, goes_on, ends, fails, Loops, asks-header, cut-header, bad-header, turns}
-use Rattle.trace.specs.declared.Opened.{Opened}
-use Rattle.trace.specs.declared.Opened.TheVariants as opened
 use Rattle.trace.specs.declared.Status.TheVariants as status
 use Rattle.trace.specs.declared.Trace.{Trace}
 use Rattle.trace.proofs.Laws.{positive, unlike, long, roomy, loop-whole}
@@ -37,23 +36,16 @@ loops-replay _ _ _ _ _ (asks-header c a hand piece pieces out e h w) =
     subst (λ (l : List ℕ). Replays c a l out) (append_assoc hand piece (joined pieces)) (loops-replay _ _ _ _ _ w)
 loops-replay _ _ _ _ _ (cut-header c a hand e) = cut c a (hand ++ []) (rw (append-nil hand) e)
 loops-replay _ _ _ _ _ (bad-header c a hand pieces e) = refused c a hand (joined pieces) e
-loops-replay _ _ _ _ _ (turns c a hand pieces out e w) = ready c a hand (joined pieces) out e (turns-write _ _ _ _ _ _ (λ q. impossible (sym q)) w)
+loops-replay _ _ _ _ _ (turns c a hand pieces out t e w) = ready c a hand (joined pieces) out t e (turns-write _ _ _ _ _ _ (λ q. impossible (sym q)) w)
 
 pub loops-whole : (c : Bool) (a : Areas) (pieces : List (List ℕ)) (out : List ℕ) → Loops c a [] pieces out → out ≡ output_of c a (joined pieces)
 loops-whole c a pieces out w = loop-whole c a (joined pieces) out (loops-replay c a [] pieces out w)
 
 -- a turn that has room: it asks for more, closes, or gives a line
-is-short : (r : RecordRead) → is_short r ≡ true → r ≡ records.Short
-is-short records.Short e = refl
-is-short records.Bad e = impossible (sym e)
-is-short (records.Data time number message location stamp n) e = impossible (sym e)
-is-short (records.Pop time) e = impossible (sym e)
-is-short (records.Report time) e = impossible (sym e)
-is-short (records.FullAck time) e = impossible (sym e)
-is-short (records.Ack2 time number) e = impossible (sym e)
-is-short (records.Drop first last) e = impossible (sym e)
-is-short (records.Clock time stamp) e = impossible (sym e)
-is-short records.Clear e = impossible (sym e)
+is-short : (r : Result Record Unread) → is_short r ≡ true → r ≡ Err unread.Short
+is-short (Err unread.Short) e = refl
+is-short (Err unread.Bad) e = impossible (sym e)
+is-short (Ok r) e = impossible (sym e)
 
 module _ (t : Trace) (a : Areas) (hand : List ℕ) (last : Bool) where
   turn-asks : eqb (size_of (record_of hand)) 0 ≡ true → (is_short (record_of hand) && not last) ≡ true → turn_of t a hand last (long t a hand) ≡ turn_left (stays t (long t a hand) status.More) a
@@ -121,31 +113,31 @@ turns-some (suc n) t a hand pieces last h =
     (closes-off t a hand pieces last e))
     (gives-on n (turns-some n) t a hand pieces last h)
 
-short-by : (c : Bool) (h : HeaderRead) → (begun_by h c).opened ≡ opened.Short → h ≡ headers.Short
-short-by c headers.Short e = refl
-short-by c headers.Bad e = unlike e (λ k. omega arith)
-short-by c (headers.Header start latency dropping first capacity) e =
-    by_bool (is_refused (made_of start latency dropping first capacity) capacity) (λ b. unlike (rw b at e) (λ k. omega arith)) (λ b. unlike (rw b at e) (λ k. omega arith))
+short-by : (c : Bool) (h : Result Header Unread) → begun_by h c ≡ Err unread.Short → h ≡ Err unread.Short
+short-by c (Err unread.Short) e = refl
+short-by c (Err unread.Bad) e = unlike e (λ k. omega arith)
+short-by c (Ok h) e =
+    by_bool (is_refused (made_of h.start h.latency h.dropping h.first h.capacity) h.capacity) (λ b. unlike (rw b at e) (λ k. omega arith)) (λ b. unlike (rw b at e) (λ k. omega arith))
 
 abbrev Looping : Bool → Areas → List ℕ → List (List ℕ) → Type 0
 Looping c a hand pieces = (out : List ℕ) × Loops c a hand pieces out
 
-loops-by : (c : Bool) (a : Areas) (hand : List ℕ) (pieces : List (List ℕ)) → ((begin_of hand c).opened ≡ opened.Short → Looping c a hand pieces)
-    → (o : Opened) → (begin_of hand c).opened ≡ o → Looping c a hand pieces
-loops-by c a hand pieces short opened.Short e = short e
-loops-by c a hand pieces short opened.Bad e = (bad_bytes 0, bad-header c a hand pieces e)
-loops-by c a hand pieces short opened.Ready e =
-    let w = turns-some (suc (to_go (drop 24 hand) pieces false)) (begin_of hand c).trace a (drop 24 hand) pieces false (omega arith) in
-    (w.0, turns c a hand pieces w.0 e w.1)
+loops-by : (c : Bool) (a : Areas) (hand : List ℕ) (pieces : List (List ℕ)) → (begin_of hand c ≡ Err unread.Short → Looping c a hand pieces)
+    → (x : Result Trace Unread) → begin_of hand c ≡ x → Looping c a hand pieces
+loops-by c a hand pieces short (Err unread.Short) e = short e
+loops-by c a hand pieces short (Err unread.Bad) e = (bad_bytes 0, bad-header c a hand pieces e)
+loops-by c a hand pieces short (Ok t) e =
+    let w = turns-some (suc (to_go (drop 24 hand) pieces false)) t a (drop 24 hand) pieces false (omega arith) in
+    (w.0, turns c a hand pieces w.0 t e w.1)
 
 loops-some : (c : Bool) (a : Areas) (pieces : List (List ℕ)) (hand : List ℕ) → Looping c a hand pieces
-loops-some c a [] hand = loops-by c a hand [] (λ e. (bad_bytes 0, cut-header c a hand e)) (begin_of hand c).opened refl
+loops-some c a [] hand = loops-by c a hand [] (λ e. (bad_bytes 0, cut-header c a hand e)) (begin_of hand c) refl
 loops-some c a (piece ∷ pieces) hand =
     loops-by c a hand (piece ∷ pieces)
     (λ e.
     let w = loops-some c a pieces (hand ++ piece) in
     (w.0, asks-header c a hand piece pieces w.0 e (header-cut hand (short-by c (header_of hand) e)) w.1))
-    (begin_of hand c).opened
+    (begin_of hand c)
     refl
 
 -- every file in any pieces

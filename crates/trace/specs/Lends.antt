@@ -1,5 +1,6 @@
--- What a program lends for a trace, whose capacity is at most 32: 01, "Head and lent areas", asks for three words and 1,456 bytes a slot and for 2,048
--- words of history. A message has at most 32 packets, and a report at most 32 words. The theorem `replay-areas` says that this is enough.
+-- What a program lends for a trace, whose capacity is at most 32: 01, "Head and lent areas", asks for three words and
+-- 1,456 bytes a slot and for 2,048 words of history. A message has at most 32 packets, and a report at most 32 words.
+-- The theorem `replay-areas` says that this is enough.
 use Rattle.std.specs.Prelude.{◌≡◌, ℕ, length, replicate}
 use Rattle.trace.specs.Trace.{Areas}
 

@@ -1,19 +1,19 @@
 -- What a replay writes for a whole file: 01, "Trace, mark DLT".
-use Rattle.std.specs.Prelude.{ℕ, zero, suc, Bool, true, false, cond, not, ◌&&◌, List, ◌++◌, length, take, drop, ◌==◌, nat_le}
+use Rattle.std.specs.Prelude.{ℕ, zero, suc, Bool, true, false, cond, not, List, ◌++◌, length, take, drop, ◌==◌, nat_le, Option, Result, Ok, Err}
 use Rattle.numbers.specs.Circular.{sum}
-use Rattle.head.specs.Head.{made_of}
+use Rattle.head.specs.Head.{made_of, head_made}
+use Rattle.head.specs.declared.refusal.Refusal.{Refusal}
 use Rattle.head.specs.declared.state.Head.{Head}
-use Rattle.head.specs.declared.state.Made.{Made}
+use Rattle.counts.specs.declared.Counters.{Counters}
 use Rattle.dlt.specs.Header.{header_of}
 use Rattle.dlt.specs.Record.{record_of, size_of}
-use Rattle.dlt.specs.declared.header.HeaderRead.{HeaderRead}
-use Rattle.dlt.specs.declared.header.HeaderRead.TheVariants as headers
-use Rattle.dlt.specs.declared.record.RecordRead.{RecordRead}
-use Rattle.dlt.specs.declared.record.RecordRead.TheVariants as records
+use Rattle.dlt.specs.declared.Unread.{Unread}
+use Rattle.dlt.specs.declared.header.Header.{Header}
+use Rattle.dlt.specs.declared.record.Record.{Record}
+use Rattle.dlt.specs.declared.record.Record.TheVariants as records
 use Rattle.lines.specs.Lines.{line_bytes, end_bytes, bad_bytes}
 use Rattle.step.specs.Step.{state_of, lent_for, Ended, step_of}
 use Rattle.tally.specs.Tally.{fresh_tally, tallied, tally_bytes}
-use Rattle.tally.specs.declared.Tally.{Tally}
 use Rattle.step.specs.declared.Call.{Call}
 use Rattle.step.specs.declared.Call.TheVariants as calls
 
@@ -25,41 +25,40 @@ pub record Areas : Type 0 where
   pub output : List ℕ
   pub list : List ℕ
 
--- a replay between two records: how many were read, where the next begins in the file, the receiver's head, the counters, and the areas as they are
+-- a replay between two records: how many were read, where the next begins in the file, the receiver's head, the
+-- counters, and the areas as they are
 pub record Replay : Type 0 where
   pub count : ℕ
   pub offset : ℕ
   pub head : Head
-  pub tally : Tally
+  pub tally : Option Counters
   pub areas : Areas
 
 -- the record as a call; one that is cut or bad is none, and is never made, so that any call may stand for it
-abbrev pub call_in : RecordRead → Call
-call_in records.Short = calls.Clear
-call_in records.Bad = calls.Clear
-call_in (records.Data time number message location stamp n) = calls.Data time number message location stamp
-call_in (records.Pop time) = calls.Pop time
-call_in (records.Report time) = calls.Report time
-call_in (records.FullAck time) = calls.FullAck time
-call_in (records.Ack2 time number) = calls.Ack2 time number
-call_in (records.Drop first last) = calls.Drop first last
-call_in (records.Clock time stamp) = calls.Clock time stamp
-call_in records.Clear = calls.Clear
+abbrev pub call_in : Result Record Unread → Call
+call_in (Err e) = calls.Clear
+call_in (Ok (records.Data time number message location stamp n)) = calls.Data time number message location stamp
+call_in (Ok (records.Pop time)) = calls.Pop time
+call_in (Ok (records.Report time)) = calls.Report time
+call_in (Ok (records.FullAck time)) = calls.FullAck time
+call_in (Ok (records.Ack2 time number)) = calls.Ack2 time number
+call_in (Ok (records.Drop first last)) = calls.Drop first last
+call_in (Ok (records.Clock time stamp)) = calls.Clock time stamp
+call_in (Ok records.Clear) = calls.Clear
 
 -- the length of its payload, which follows the 24 bytes that every data record has
-abbrev pub length_in : RecordRead → ℕ
-length_in records.Short = 0
-length_in records.Bad = 0
-length_in (records.Data time number message location stamp n) = n
-length_in (records.Pop time) = 0
-length_in (records.Report time) = 0
-length_in (records.FullAck time) = 0
-length_in (records.Ack2 time number) = 0
-length_in (records.Drop first last) = 0
-length_in (records.Clock time stamp) = 0
-length_in records.Clear = 0
+abbrev pub length_in : Result Record Unread → ℕ
+length_in (Err e) = 0
+length_in (Ok (records.Data time number message location stamp n)) = n
+length_in (Ok (records.Pop time)) = 0
+length_in (Ok (records.Report time)) = 0
+length_in (Ok (records.FullAck time)) = 0
+length_in (Ok (records.Ack2 time number)) = 0
+length_in (Ok (records.Drop first last)) = 0
+length_in (Ok (records.Clock time stamp)) = 0
+length_in (Ok records.Clear) = 0
 
-abbrev pub payload_in : List ℕ → RecordRead → List ℕ
+abbrev pub payload_in : List ℕ → Result Record Unread → List ℕ
 payload_in rest r = take (length_in r) (drop 24 rest)
 
 -- a record's call, with its payload, on the receiver and the areas as they are
@@ -118,16 +117,16 @@ abbrev pub fresh_replay : Bool → Areas → Head → Replay
 fresh_replay counting a h = record { count = 0; offset = 24; head = h; tally = fresh_tally counting; areas = a }
 
 -- a refused setting or a capacity over 32 is bad
-abbrev pub is_refused : Made → ℕ → Bool
-is_refused m capacity = not (m.refusal == 0 && nat_le capacity 32)
+abbrev pub is_refused : Result Head Refusal → ℕ → Bool
+is_refused (Ok h) capacity = not (nat_le capacity 32)
+is_refused (Err e) capacity = true
 
 -- by its header; every record has a byte at least, so there are no more records than bytes
-abbrev pub by_header : Bool → Areas → HeaderRead → List ℕ → List ℕ
-by_header counting a headers.Short rest = bad_bytes 0
-by_header counting a headers.Bad rest = bad_bytes 0
-by_header counting a (headers.Header start latency dropping first capacity) rest =
-    let m = made_of start latency dropping first capacity in
-    or_else (is_refused m capacity) (bad_bytes 0) (λ u. lines_of (length rest) (fresh_replay counting a m.head) rest)
+abbrev pub by_header : Bool → Areas → Result Header Unread → List ℕ → List ℕ
+by_header counting a (Err e) rest = bad_bytes 0
+by_header counting a (Ok h) rest =
+    let m = made_of h.start h.latency h.dropping h.first h.capacity in
+    or_else (is_refused m h.capacity) (bad_bytes 0) (λ u. lines_of (length rest) (fresh_replay counting a (head_made m)) rest)
 
 -- the whole output for a whole file: 01's lines, with the counters behind the end line if they are asked for
 unfoldable pub output_of : Bool → Areas → List ℕ → List ℕ

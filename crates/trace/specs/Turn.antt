@@ -1,27 +1,20 @@
--- One turn of a replay, on the bytes of the file that are at hand: 01, "Trace, mark DLT". `Trace.antt` says what the whole file gives.
-use Rattle.std.specs.Prelude.{ℕ, ◌+◌, ◌*◌, Bool, true, false, cond, not, ◌&&◌, List, [], length, pos, ◌==◌, nat_le}
-use Rattle.head.specs.Head.{made_of}
-use Rattle.head.specs.declared.state.Head.{Head}
+-- One turn of a replay, on the bytes of the file that are at hand: 01, "Trace, mark DLT". `Trace.antt` says what the
+-- whole file gives.
+use Rattle.std.specs.Prelude.{ℕ, ◌+◌, ◌*◌, Bool, true, false, cond, not, ◌&&◌, List, [], length, ◌==◌, nat_le, Result, Ok, Err}
+use Rattle.head.specs.Head.{made_of, head_made}
 use Rattle.dlt.specs.Header.{header_of}
 use Rattle.dlt.specs.Record.{record_of, size_of}
-use Rattle.dlt.specs.declared.header.HeaderRead.{HeaderRead}
-use Rattle.dlt.specs.declared.header.HeaderRead.TheVariants as headers
-use Rattle.dlt.specs.declared.record.RecordRead.{RecordRead}
-use Rattle.dlt.specs.declared.record.RecordRead.TheVariants as records
+use Rattle.dlt.specs.declared.Unread.{Unread}
+use Rattle.dlt.specs.declared.Unread.TheVariants as unread
+use Rattle.dlt.specs.declared.header.Header.{Header}
+use Rattle.dlt.specs.declared.record.Record.{Record}
 use Rattle.step.specs.declared.Call.{Call}
 use Rattle.text.specs.Put.{Put, put_ended, put_of}
 use Rattle.trace.specs.Trace.{Areas, Replay, call_in, payload_in, called, replayed, line_of, end_of, bad_of, fresh_replay, is_refused}
-use Rattle.trace.specs.declared.Begun.{Begun}
-use Rattle.trace.specs.declared.Opened.{Opened}
-use Rattle.trace.specs.declared.Opened.TheVariants as opened
 use Rattle.trace.specs.declared.Status.{Status}
 use Rattle.trace.specs.declared.Status.TheVariants as status
 use Rattle.trace.specs.declared.Trace.{Trace}
 use Rattle.trace.specs.declared.Turned.{Turned}
-
--- the head of a file that is no trace: of no use
-abbrev pub no_head : Head
-no_head = (made_of (pos 0) 0 false 0 1).head
 
 abbrev pub areas_of : List ℕ → List ℕ → List ℕ → List ℕ → List ℕ → Areas
 areas_of ws bs a out list = record { slots = ws; payloads = bs; history = a; output = out; list = list }
@@ -37,18 +30,15 @@ replay_in t a = record { count = t.count; offset = t.offset; head = t.head; tall
 abbrev pub trace_in : Replay → Trace
 trace_in t = record { head = t.head; tally = t.tally; count = t.count; offset = t.offset }
 
--- counting says that the counters are asked for
-abbrev pub begun_as : Opened → Head → Bool → Begun
-begun_as o h counting = record { trace = trace_in (fresh_replay counting no_areas h); opened = o }
-
-abbrev pub begun_by : HeaderRead → Bool → Begun
-begun_by headers.Short counting = begun_as opened.Short no_head counting
-begun_by headers.Bad counting = begun_as opened.Bad no_head counting
-begun_by (headers.Header start latency dropping first capacity) counting =
-    let m = made_of start latency dropping first capacity in begun_as (cond (is_refused m capacity) opened.Bad opened.Ready) m.head counting
+-- no trace, a refused setting or a capacity over 32 is bad; counting says that the counters are asked for
+abbrev pub begun_by : Result Header Unread → Bool → Result Trace Unread
+begun_by (Err e) counting = Err e
+begun_by (Ok h) counting =
+    let m = made_of h.start h.latency h.dropping h.first h.capacity in
+    cond (is_refused m h.capacity) (Err unread.Bad) (Ok (trace_in (fresh_replay counting no_areas (head_made m))))
 
 -- the header at the start of the bytes at hand
-abbrev pub begin_of : List ℕ → Bool → Begun
+abbrev pub begin_of : List ℕ → Bool → Result Trace Unread
 begin_of piece counting = begun_by (header_of piece) counting
 
 -- what came of a turn: the trace, how many bytes of the file it used, and what it wrote at the start of the lent line
@@ -72,19 +62,13 @@ pub record TurnLeft : Type 0 where
 abbrev pub turn_left : TurnOutcome → Areas → TurnLeft
 turn_left o a = record { outcome = o; areas = a }
 
-abbrev pub is_short : RecordRead → Bool
-is_short records.Short = true
-is_short records.Bad = false
-is_short (records.Data time number message location stamp n) = false
-is_short (records.Pop time) = false
-is_short (records.Report time) = false
-is_short (records.FullAck time) = false
-is_short (records.Ack2 time number) = false
-is_short (records.Drop first last) = false
-is_short (records.Clock time stamp) = false
-is_short records.Clear = false
+abbrev pub is_short : Result Record Unread → Bool
+is_short (Err unread.Short) = true
+is_short (Err unread.Bad) = false
+is_short (Ok r) = false
 
--- room for the longest line: the end line (256 bytes at most) with the counters behind it (429), rounded up, and 21 bytes for each word of a loss report
+-- room for the longest line: the end line (256 bytes at most) with the counters behind it (429), rounded up, and 21
+-- bytes for each word of a loss report
 abbrev pub line_need : List ℕ → ℕ
 line_need list = 700 + 21 * length list
 
@@ -110,7 +94,7 @@ advances t a line call payload size =
     turn_left (turn_outcome (trace_in behind) size (put_of line 0 (line_of r e)) status.Line) behind.areas
 
 -- by the record that the bytes at hand start with; `last` says that none come behind them
-abbrev pub turn_by : Trace → Areas → List ℕ → Bool → List ℕ → RecordRead → TurnLeft
+abbrev pub turn_by : Trace → Areas → List ℕ → Bool → List ℕ → Result Record Unread → TurnLeft
 turn_by t a rest last line r =
     cond (size_of r == 0)
     (turn_left (ends_by t line (is_short r && not last) (length rest == 0)) a)

@@ -1,50 +1,34 @@
-// The trace: 01's file format read record by record, each record a call of the receiver, each answer a line. 01, "Trace, mark DLT".
-// Nothing here reads or writes a file: the bytes at hand and a line are lent.
+// The trace: 01's file format read record by record, each record a call of the receiver, each answer a line. 01,
+// "Trace, mark DLT". Nothing here reads or writes a file: the bytes at hand and a line are lent.
 #![tactic(auto)]
 
-ghost use Rattle.std.specs.Prelude.{◌≡◌, ◌≤◌, true, false, not, ◌&&◌, length, drop, if◌then◌else◌, ◌==◌, nat_le};
-ghost use Rattle.dlt.specs.Record.{record_of};
-ghost use Rattle.dlt.specs.declared.header.HeaderRead.TheVariants as headers;
+ghost use Rattle.std.specs.Prelude.{◌≡◌, ◌≤◌, true, false, not, ◌&&◌, length, drop, ◌==◌, nat_le, Ok, Err};
+ghost use Rattle.dlt.specs.Record.{record_of, size_in};
 ghost use Rattle.text.specs.Put.{put_ended, put_of};
 ghost use Rattle.lines.specs.Lines.{line_bytes};
 ghost use Rattle.step.specs.Step as steps;
 ghost use Rattle.trace.specs.Trace.{call_in, length_in, payload_in};
-ghost use Rattle.trace.specs.Turn.{no_head, begun_as, begun_by, begin_of, areas_of, turn_left, turned, is_short, line_need, ends_with, ends_by, advances, turn_by, turn_of};
+ghost use Rattle.trace.specs.Turn.{begun_by, begin_of, areas_of, turn_left, turned, is_short, line_need, ends_with, ends_by, advances, turn_by, turn_of};
 ghost use Rattle.trace.specs.Ready.{RecordHere};
-ghost use Rattle.trace.specs.declared.Opened.TheVariants as opened;
 
-use dlt::header::HeaderRead;
-use dlt::record::RecordRead;
+use counts::Counters;
+use dlt::Unread;
+use dlt::header::Header;
+use dlt::record::Record;
 use head::state::Head;
 use step::{Answer, Call};
-use tally::Tally;
 
-// A replay between two records: the receiver's head, the counters, how many records were read, and where the next begins in the file.
+// A replay between two records: the receiver's head, the counters, how many records were read, and where the next
+// begins in the file.
 #[derive(Clone, Copy)]
 pub struct Trace {
     pub head: Head,
-    pub tally: Tally,
+    pub tally: Option<Counters>,
     pub count: u64,
     pub offset: u64,
 }
 
-#[derive(Drop)]
-pub enum Opened {
-    // The bytes at hand end within the header.
-    Short,
-    // No trace, a refused setting, or a capacity over 32.
-    Bad,
-    Ready,
-}
-
-// The trace is of use only if it is ready: an enum cannot hold a head.
-#[derive(Drop)]
-pub struct Begun {
-    pub trace: Trace,
-    pub opened: Opened,
-}
-
-#[derive(Drop)]
+#[derive(Clone, Copy, PartialEq, Eq, Debug)]
 pub enum Status {
     // A record was read and its line written.
     Line,
@@ -59,7 +43,7 @@ pub enum Status {
 }
 
 // `size` bytes of the file were used, and the first `length` bytes of the lent line written.
-#[derive(Drop)]
+#[derive(Clone, Copy)]
 pub struct Turned {
     pub trace: Trace,
     pub size: usize,
@@ -67,81 +51,44 @@ pub struct Turned {
     pub status: Status,
 }
 
-fn judge(refusal: u32, capacity: usize) -> Opened
-    ensures { result ≡ (if not (refusal == 0 && nat_le capacity 32) then opened.Bad else opened.Ready) }
+// A header's settings: they are bad if the receiver refuses one, or the capacity is over 32.
+fn begun(h: Header, counting: bool) -> Result<Trace, Unread>
+    ensures { result ≡ begun_by (Ok h) counting }
 {
-    if refusal == 0 {
-        if capacity <= 32 {
-            return Opened::Ready;
-        }
+    let head = Head::new(h.start, h.latency, h.dropping, h.first, h.capacity).map_err(
+        |_| Unread::Bad,
+    )?;
+    if 32 < h.capacity {
+        return Err(Unread::Bad);
     }
-    Opened::Bad
-}
-
-fn begun_as(opened: Opened, head: Head, counting: bool) -> Begun
-    ensures { result ≡ begun_as opened head counting }
-{
-    let trace = Trace {
+    Ok(Trace {
         head,
         tally: tally::fresh(counting),
         count: 0,
         offset: 24,
-    };
-    Begun { trace, opened }
+    })
 }
 
-fn no_head() -> Head
-    ensures { result ≡ no_head }
-{
-    let made = Head::new(0, 0, false, 0, 1);
-    made.head
-}
-
-fn begun_by(
-    start: i64,
-    latency: u32,
-    dropping: bool,
-    first: u32,
-    capacity: usize,
-    counting: bool,
-) -> Begun
-    ensures { result ≡ begun_by (headers.Header start latency dropping first capacity) counting }
-{
-    let made = Head::new(start, latency, dropping, first, capacity);
-    let head = made.head;
-    begun_as(judge(made.refusal, capacity), head, counting)
-}
-
-// The header, from the bytes that the file starts with, and the receiver by its settings; `counting` asks for the counters' line behind the end line.
-pub fn begin(piece: &[u8], counting: bool) -> Begun
+// The header, from the bytes that the file starts with, and the receiver by its settings; `counting` asks for the
+// counters' line behind the end line.
+pub fn begin(piece: &[u8], counting: bool) -> Result<Trace, Unread>
     ensures { result ≡ begin_of piece.now counting }
 {
-    match dlt::header::header(piece) {
-        HeaderRead::Short => begun_as(Opened::Short, no_head(), counting),
-        HeaderRead::Bad => begun_as(Opened::Bad, no_head(), counting),
-        HeaderRead::Header {
-            start,
-            latency,
-            dropping,
-            first,
-            capacity,
-        } => begun_by(start, latency, dropping, first, capacity, counting),
-    }
+    begun(dlt::header::read(piece)?, counting)
 }
 
-fn call_of(r: RecordRead) -> Call
-    ensures { result ≡ call_in r }
+// A record is what a file has, a call what the receiver takes and the ledger speaks of; neither crate knows the other.
+fn call_of(r: Record) -> Call
+    ensures { result ≡ call_in (Ok r) }
 {
     match r {
-        RecordRead::Short => Call::Clear,
-        RecordRead::Bad => Call::Clear,
-        RecordRead::Data {
+        Record::Data {
             time,
             number,
             message,
             location,
             stamp,
-            length: _,
+            ..
         } => Call::Data {
             time,
             number,
@@ -149,62 +96,22 @@ fn call_of(r: RecordRead) -> Call
             location,
             stamp,
         },
-        RecordRead::Pop { time } => Call::Pop { time },
-        RecordRead::Report { time } => Call::Report { time },
-        RecordRead::FullAck { time } => Call::FullAck { time },
-        RecordRead::Ack2 { time, number } => Call::Ack2 { time, number },
-        RecordRead::Drop { first, last } => Call::Drop { first, last },
-        RecordRead::Clock { time, stamp } => Call::Clock { time, stamp },
-        RecordRead::Clear => Call::Clear,
+        Record::Pop { time } => Call::Pop { time },
+        Record::Report { time } => Call::Report { time },
+        Record::FullAck { time } => Call::FullAck { time },
+        Record::Ack2 { time, number } => Call::Ack2 { time, number },
+        Record::Drop { first, last } => Call::Drop { first, last },
+        Record::Clock { time, stamp } => Call::Clock { time, stamp },
+        Record::Clear => Call::Clear,
     }
 }
 
-fn length_of(r: RecordRead) -> usize
-    ensures { result ≡ length_in r }
+fn length_of(r: Record) -> usize
+    ensures { result ≡ length_in (Ok r) }
 {
     match r {
-        RecordRead::Short => 0,
-        RecordRead::Bad => 0,
-        RecordRead::Data {
-            time: _,
-            number: _,
-            message: _,
-            location: _,
-            stamp: _,
-            length,
-        } => length as usize,
-        RecordRead::Pop { time: _ } => 0,
-        RecordRead::Report { time: _ } => 0,
-        RecordRead::FullAck { time: _ } => 0,
-        RecordRead::Ack2 { time: _, number: _ } => 0,
-        RecordRead::Drop { first: _, last: _ } => 0,
-        RecordRead::Clock { time: _, stamp: _ } => 0,
-        RecordRead::Clear => 0,
-    }
-}
-
-// Whether the bytes end within the record.
-fn is_short(r: RecordRead) -> bool
-    ensures { result ≡ is_short r }
-{
-    match r {
-        RecordRead::Short => true,
-        RecordRead::Bad => false,
-        RecordRead::Data {
-            time: _,
-            number: _,
-            message: _,
-            location: _,
-            stamp: _,
-            length: _,
-        } => false,
-        RecordRead::Pop { time: _ } => false,
-        RecordRead::Report { time: _ } => false,
-        RecordRead::FullAck { time: _ } => false,
-        RecordRead::Ack2 { time: _, number: _ } => false,
-        RecordRead::Drop { first: _, last: _ } => false,
-        RecordRead::Clock { time: _, stamp: _ } => false,
-        RecordRead::Clear => false,
+        Record::Data { length, .. } => usize::from(length),
+        _ => 0,
     }
 }
 
@@ -251,17 +158,13 @@ fn advance(
     requires { line_need list.old ≤ length line.old }
     ensures { turn_left (turned result line.new) (areas_of words.new bytes.new area.new out.new list.new) ≡ advances t (areas_of words.old bytes.old area.old out.old list.old) line.old call payload.now size }
 {
-    let count = std::num::wrapping_add_u64(t.count, 1);
-    let offset = std::num::wrapping_add_u64(t.offset, size as u64);
-    let before = t.tally;
-    let head = t.head;
-    let r = step::step(head, words, bytes, area, out, list, call, payload);
-    let answer = r.answer;
-    let length = answer_line(line, count, answer, list);
-    let tally = tally::after(before, payload.len(), answer);
-    let head = r.head;
+    let count = t.count.wrapping_add(1);
+    let offset = t.offset.wrapping_add(size as u64);
+    let r = step::step(t.head, words, bytes, area, out, list, call, payload);
+    let length = answer_line(line, count, r.answer, list);
+    let tally = tally::after(t.tally, payload.len(), r.answer);
     let trace = Trace {
-        head,
+        head: r.head,
         tally,
         count,
         offset,
@@ -289,11 +192,9 @@ fn end(t: Trace, line: &mut [u8]) -> Turned
     requires { 700 ≤ length line.old }
     ensures { turned result line.new ≡ ends_with t line.old true }
 {
-    let h = t.head;
-    let w = h.window;
-    let tally = t.tally;
+    let w = t.head.window;
     let behind = lines::end_line(line, 0, t.count, w.lrsn, w.seqno0, w.held);
-    let length = tally::line(line, behind, tally);
+    let length = tally::line(line, behind, t.tally);
     Turned {
         trace: t,
         size: 0,
@@ -340,12 +241,12 @@ fn make(
     line: &mut [u8],
     piece: &[u8],
     at: usize,
-    r: RecordRead,
-    size: usize,
+    r: Record,
 ) -> Turned
-    requires { RecordHere list.old line.old piece.now at r size }
-    ensures { turn_left (turned result line.new) (areas_of words.new bytes.new area.new out.new list.new) ≡ advances t (areas_of words.old bytes.old area.old out.old list.old) line.old (call_in r) (payload_in (drop at piece.now) r) size }
+    requires { RecordHere list.old line.old piece.now at r }
+    ensures { turn_left (turned result line.new) (areas_of words.new bytes.new area.new out.new list.new) ≡ advances t (areas_of words.old bytes.old area.old out.old list.old) line.old (call_in (Ok r)) (payload_in (drop at piece.now) (Ok r)) (size_in r) }
 {
+    let size = dlt::record::size(r);
     let call = call_of(r);
     let n = length_of(r);
     let to = at + size;
@@ -364,13 +265,11 @@ fn make(
     )
 }
 
-fn may_come(r: RecordRead, last: bool) -> bool
-    ensures { result ≡ (is_short r && not last) }
+// Whether more bytes may make a record of those at hand.
+fn may_come(unread: Unread, last: bool) -> bool
+    ensures { result ≡ (is_short (Err unread) && not last) }
 {
-    if last {
-        return false;
-    }
-    is_short(r)
+    !last && unread == Unread::Short
 }
 
 fn is_empty(piece: &[u8], at: usize) -> bool
@@ -395,18 +294,15 @@ fn turn(
     requires { line_need list.old ≤ length line.old }
     ensures { turn_left (turned result line.new) (areas_of words.new bytes.new area.new out.new list.new) ≡ turn_by t (areas_of words.old bytes.old area.old out.old list.old) (drop at piece.now) last line.old (record_of (drop at piece.now)) }
 {
-    let r = dlt::record::record(piece, at);
-    let size = dlt::record::size(r);
-    if size == 0 {
-        let more = may_come(r, last);
-        let empty = is_empty(piece, at);
-        return close(t, line, more, empty);
+    match dlt::record::read(piece, at) {
+        Ok(r) => make(t, words, bytes, area, out, list, line, piece, at, r),
+        Err(unread) => { close(t, line, may_come(unread, last), is_empty(piece, at)) }
     }
-    make(t, words, bytes, area, out, list, line, piece, at, r, size)
 }
 
-// One turn, on the bytes from `at` on; `last` says that the file ends with them. Lent are the slots, payloads, history, output and loss
-// words of `step::step`, and a line of 700 bytes and 21 a loss word, at whose start the turn's line is written.
+// One turn, on the bytes from `at` on; `last` says that the file ends with them. Lent are the slots, payloads, history,
+// output and loss words of `step::step`, and a line of 700 bytes and 21 a loss word, at whose start the turn's line is
+// written.
 pub fn next(
     t: Trace,
     words: &mut [u64],

@@ -2,79 +2,53 @@
 ghost use Rattle.std.specs.Prelude.{◌≡◌};
 ghost use Rattle.upkeep.specs.Request.{drop_ended, drop_call_of, cleared_of, clear_ended, clear_call_of, room_ended, room_call_of};
 
+use head::left::Left;
+use head::refusal::Refusal;
 use head::state::Head;
+use window::Window;
 
-#[derive(Clone, Copy)]
-pub enum DropAnswer {
-    Gone(usize),
-    Refused(u32),
-}
+pub type Cleared = Left<()>;
 
-#[derive(Clone, Copy)]
-pub enum ClearAnswer {
-    Cleared,
-    Refused(u32),
-}
-
-#[derive(Clone, Copy)]
-pub struct Cleared {
-    pub head: Head,
-    pub answer: ClearAnswer,
-}
-
-#[derive(Clone, Copy)]
-pub enum RoomAnswer {
-    Room(usize),
-    Refused(u32),
-}
-
-// The head stays: a drop request changes lent words only.
-pub fn handle_drop_request(h: Head, words: &mut [u64], first: u32, last: u32) -> DropAnswer
+// How many entries are given up. The head stays: a drop request changes lent words only.
+pub fn handle_drop_request(
+    h: Head,
+    words: &mut [u64],
+    first: u32,
+    last: u32,
+) -> Result<usize, Refusal>
     ensures { drop_ended result words.new ≡ drop_call_of h words.old first last }
 {
-    let w = h.window;
-    let n = head::refuse::drop(h, words.len(), first, last);
-    if n == 0 {
-        return DropAnswer::Gone(window_report::drop_request::drop_packets(w, words, first, last));
-    }
-    DropAnswer::Refused(n)
+    head::refuse::drop(h, words.len(), first, last)?;
+    Ok(window_report::drop_request::drop_packets(h.window, words, first, last))
 }
 
 // Only held and the history's count and largest change.
 fn emptied(h: Head) -> Head
     ensures { result ≡ cleared_of h }
 {
-    let mut w = h.window;
-    let y = h.history;
-    let lrsn = w.lrsn;
-    w.held = 0;
-    let next = h.with_window(w);
-    next.with_history(y.clear(lrsn))
+    let window = Window {
+        held: 0,
+        ..h.window
+    };
+    let history = h.history.clear(window.lrsn);
+    h.with_window(window).with_history(history)
 }
 
 pub fn clear(h: Head) -> Cleared
     ensures { clear_ended result ≡ clear_call_of h }
 {
-    let n = head::refuse::head(h);
-    if n == 0 {
-        return Cleared {
+    match head::refuse::head(h) {
+        Ok(()) => Cleared {
             head: emptied(h),
-            answer: ClearAnswer::Cleared,
-        };
-    }
-    Cleared {
-        head: h,
-        answer: ClearAnswer::Refused(n),
+            answer: Ok(()),
+        },
+        Err(refusal) => Cleared::refused(h, refusal),
     }
 }
 
-pub fn buffer_available(h: Head) -> RoomAnswer
+pub fn buffer_available(h: Head) -> Result<usize, Refusal>
     ensures { room_ended result ≡ room_call_of h }
 {
-    let w = h.window;
-    let n = head::refuse::head(h);
-    if n == 0 {
-        return RoomAnswer::Room(window::room(w));
-    }
-    RoomAnswer::Refused(n)
+    head::refuse::head(h)?;
+    Ok(window::room(h.window))
 }

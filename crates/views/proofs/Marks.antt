@@ -4,6 +4,7 @@ use mathlib.Core.Bool.{Bool, true, false, ◌&&◌, cond}
 use mathlib.Core.List.{List, [], ◌∷◌, map}
 use Prim.Native.Nat.{ℕ, zero, suc, ◌+◌, ◌^◌, ◌<◌, ◌≤◌}
 use native.Mathlib.Omega.{arith}
+use Rattle.std.specs.Prelude.{Option, Some, None, Result, Ok, Err}
 use borrow.Author.Tests.{le-leb, lt-leb, lt-ltb, le-ltb}
 use lib.Dec.{ltb, leb}
 use lib.IntN.{ℤ, nat_abs}
@@ -17,8 +18,7 @@ use Rattle.window.specs.Ready.{Good}
 use Rattle.window.specs.declared.Window.{Window}
 use Rattle.window_report.specs.Report.{ReportOutcome, is_due, k_after, slots_to, report_of}
 use Rattle.window_report.specs.Drop.{drop_from, drop_to, drop_of}
-use Rattle.window_report.specs.declared.report.ReportAnswer.{ReportAnswer}
-use Rattle.window_report.specs.declared.report.ReportAnswer.TheVariants as reports
+use Rattle.window_report.specs.declared.report.ListShort.{ListShort}
 use Rattle.window_report.proofs.ReportLaws.{by-outcome, report-held}
 use Rattle.window_report.proofs.DropLaws.{drop-in, drop-before, drop-after}
 use Rattle.views.specs.Lists.{run_of, changed_in}
@@ -90,10 +90,10 @@ module _ (w : Window) (ws bs : List ℕ) (g : Good w ws) where
     pub report-right : LrsnRight w es → LrsnRight w (entries w (report_of w ws time mean list).slots bs)
     report-right l = rw report-seen (l ∙ ap (number_in w) (sym (go (report_of w ws time mean list).answer)))
       where
-        go : (a : ReportAnswer) → gap_in (after_report time mean es a) ≡ gap_in es
-        go reports.Nothing = refl
-        go (reports.Report n) = gap-reported time mean es
-        go reports.ListShort = refl
+        go : (a : Result (Option ℕ) ListShort) → gap_in (after_report time mean es a) ≡ gap_in es
+        go (Ok None) = refl
+        go (Ok (Some n)) = gap-reported time mean es
+        go (Err e) = refl
 
   module _ (first last : ℕ) where
     -- a drop request

@@ -1,19 +1,16 @@
 -- What a pop does to the list of entries, which bytes a message has, and that lrsn stays right. Assumes nothing.
-use mathlib.Core.Path.{◌≡◌, refl, ap, sym, ◌∙◌}
-use mathlib.Core.Bool.{Bool, true, ◌&&◌, cond}
+use mathlib.Core.Path.{◌≡◌, refl, ap, sym, ◌∙◌, subst}
+use mathlib.Core.Bool.{Bool, true, cond}
 use mathlib.Core.List.{List, [], ◌∷◌, ◌++◌, append_assoc, append-nil}
 use Prim.Native.Nat.{ℕ, zero, suc, ◌+◌, ◌-◌, ◌*◌, ◌<◌, ◌≤◌}
 use native.Mathlib.Omega.{arith}
-use borrow.Author.Tests.{ltb-true}
-use lib.Dec.{ltb}
 use lib.IntN.{ℤ}
 use lib.ListN.{length, get_or, take, drop, length-append, length-drop}
 use lib.Seq.{paste, take-length, take-suc, take_at, drop-append-add, drop-drop, length-take-le}
-use lib.Signed.{lt_z}
+use Rattle.std.specs.Prelude.{Option, Some, None, Ok, Err, ⊤}
 use Rattle.numbers.proofs.Flags.{impossible, by-test}
 use Rattle.numbers.proofs.Circle.{distance-sum, sum-sum}
 use Rattle.clock.specs.declared.time.SynchronizedRemoteClock.{SynchronizedRemoteClock}
-use Rattle.slots.specs.Words as words
 use Rattle.slots.specs.Words.{entry_at, length_in, is_last, in_message, message_in, is_first}
 use Rattle.slots.specs.Ring.{slot_of, payload_at}
 use Rattle.slots.specs.declared.entry.Entry.{Entry}
@@ -22,12 +19,11 @@ use Rattle.slots.proofs.Laws.{length-read, slot_lt}
 use Rattle.window.specs.Window.{slot_in, entry_in, number_in, cut, first_gap}
 use Rattle.window.specs.Ready.{Good, Bytes}
 use Rattle.window.specs.declared.Window.{Window}
-use Rattle.window_pop.specs.Pop.{PopOutcome, pop_ended, Filled, run_from, message_of, filled, due_of, discard_front, front_of, released_of, pop_of}
+use Rattle.window_pop.specs.Pop.{PopOutcome, window_after, answered, Filled, run_from, message_of, filled, discard_front, pop_of}
 use Rattle.window_pop.specs.declared.pop.Message.{Message}
-use Rattle.window_pop.specs.declared.pop.Popped.{Popped}
 use Rattle.window_pop.specs.declared.pop.PopAnswer.TheVariants as pops
-use Rattle.window_pop.proofs.Fills.{front-whole}
-use Rattle.window_pop.proofs.PopLaws.{late-cases, pop-cases}
+use Rattle.window_pop.proofs.Fills.{front-whole, front-held}
+use Rattle.window_pop.proofs.PopLaws.{pop-cases}
 use Rattle.views.specs.Lists.{run_of}
 use Rattle.views.specs.View.{Seen, given_up, seen_of, seen_at, is_received, entries_from, entries, gap_in, LrsnRight, after_pop, bytes_in, joined, Handed}
 use Rattle.views.proofs.Lists.{entries-length, entries_at, entries-cut}
@@ -40,31 +36,37 @@ in-received bs s message (Received n l m t) h = refl
 in-received bs s message GivenUp h = impossible (sym h)
 
 -- all entries of a whole message are received
-run-gap : (capacity start : ℕ) (ws bs : List ℕ) (message n i total : ℕ) → 0 < (run_from capacity start ws message i total n).packets
-    → (run_from capacity start ws message i total n).packets ≤ i + gap_in (entries_from capacity start ws bs i n)
+abbrev AllIn : ℕ → Option Message → Type 0
+AllIn n (Some m) = m.packets ≤ n
+AllIn n None = ⊤
+
+run-gap : (capacity start : ℕ) (ws bs : List ℕ) (message n i total : ℕ) → AllIn (i + gap_in (entries_from capacity start ws bs i n)) (run_from capacity start ws message i total n)
 unfolding run_from entries_from run_of
-run-gap capacity start ws bs message zero i total = λ h. absurd (omega arith)
+run-gap capacity start ws bs message zero i total = tt
 run-gap capacity start ws bs message (suc n) i total =
     let e = entry_at ws (slot_of capacity start i) in
     let more : i + 1 ≡ suc i = omega arith in
     let rest = gap_in (entries_from capacity start ws bs (suc i) n) in
     let gap = cond (is_received (seen_at ws bs (slot_of capacity start i))) (suc rest) 0 in
-    by-test (λ (m : Message). 0 < m.packets → m.packets ≤ i + gap) (in_message message e) _ _
+    let same : suc i + rest ≡ i + suc rest = omega arith in
+    by-test (AllIn (i + gap)) (in_message message e) _ _
     (λ t.
     let one : is_received (seen_at ws bs (slot_of capacity start i)) ≡ true = in-received bs (slot_of capacity start i) message e t in
     rw one
-    (by-test (λ (m : Message). 0 < m.packets → m.packets ≤ i + suc rest) (is_last e) _ _
-    (λ u h. omega arith)
-    (λ u. rw more (λ h. let r = run-gap capacity start ws bs message n (suc i) (total + length_in e) h in omega arith))))
-    (λ t h. absurd (omega arith))
+    (by-test (AllIn (i + suc rest)) (is_last e) _ _
+    (λ u. omega arith)
+    (λ u. rw (more, ← same) (run-gap capacity start ws bs message n (suc i) (total + length_in e)))))
+    (λ t. tt)
 
 -- the message in front
-front-gap : (w : Window) (ws bs : List ℕ) → 0 < (message_of w ws).packets → (message_of w ws).packets ≤ gap_in (entries w ws bs)
+front-gap : (w : Window) (ws bs : List ℕ) {m : Message} → Some m ≡ message_of w ws → m.packets ≤ gap_in (entries w ws bs)
 unfolding message_of
-front-gap w ws bs =
-    by-test (λ (m : Message). 0 < m.packets → m.packets ≤ gap_in (entries w ws bs)) (is_first (entry_in w ws 0)) _ _
-    (λ t h. let r = run-gap w.capacity w.start ws bs (message_in (entry_in w ws 0)) w.held 0 0 h in omega arith)
-    (λ t h. absurd (omega arith))
+front-gap w ws bs c =
+    let z : 0 + gap_in (entries w ws bs) ≡ gap_in (entries w ws bs) = omega arith in
+    subst (AllIn (gap_in (entries w ws bs))) (sym c)
+    (by-test (AllIn (gap_in (entries w ws bs))) (is_first (entry_in w ws 0)) _ _
+    (λ t. subst (λ (n : ℕ). AllIn n (run_from w.capacity w.start ws (message_in (entry_in w ws 0)) 0 0 w.held)) z (run-gap w.capacity w.start ws bs (message_in (entry_in w ws 0)) w.held 0 0))
+    (λ t. tt))
 
 -- the bytes of one more entry
 joined_snoc : (es : List Seen) (e : Seen) → joined (es ++ (e ∷ [])) ≡ joined es ++ bytes_in e
@@ -124,81 +126,68 @@ module _ (k : SynchronizedRemoteClock) (latency : ℕ) (late : Bool) (w : Window
   outcome = pop_of k latency late w ws now bs out
 
   -- the list, by the answer
-  pub pop-seen : entries outcome.popped.window ws bs ≡ after_pop es outcome.popped.answer
+  pub pop-seen : entries (window_after w outcome.popped) ws bs ≡ after_pop es (answered outcome.popped)
   unfolding discard_front
   pop-seen =
-      pop-cases k latency late w ws now bs out (λ (x : PopOutcome). entries x.popped.window ws bs ≡ after_pop es x.popped.answer)
+      pop-cases k latency late w ws now bs out (λ (x : PopOutcome). entries (window_after w x.popped) ws bs ≡ after_pop es (answered x.popped))
       refl
-      refl
-      (λ some held fits. entries-cut w ws bs (message_of w ws).packets held)
+      (λ m c long. refl)
+      (λ m c fits. entries-cut w ws bs m.packets (front-held w ws c))
       (λ n stamp some held. entries-cut w ws bs n held ∙ ap (λ (x : ℕ). drop x es) (sym (distance-sum 31 w.seqno0 {n = n} (omega arith))))
 
   -- lrsn
-  pub pop-right : LrsnRight w es → LrsnRight outcome.popped.window (entries outcome.popped.window ws bs)
+  pub pop-right : LrsnRight w es → LrsnRight (window_after w outcome.popped) (entries (window_after w outcome.popped) ws bs)
   unfolding discard_front
   pop-right l =
-      pop-cases k latency late w ws now bs out (λ (x : PopOutcome). LrsnRight x.popped.window (entries x.popped.window ws bs))
+      pop-cases k latency late w ws now bs out (λ (x : PopOutcome). LrsnRight (window_after w x.popped) (entries (window_after w x.popped) ws bs))
       l
+      (λ m c long. l)
+      (λ m c fits.
+      let n = m.packets in
       l
-      (λ some held fits.
-      let n = (message_of w ws).packets in
-      l
-      ∙ ap (number_in w) (sym (gap_from n es (front-gap w ws bs some)))
+      ∙ ap (number_in w) (sym (gap_from n es (front-gap w ws bs c)))
       ∙ sym (sum-sum 31 w.seqno0 n (gap_in (drop n es)))
-      ∙ ap (λ (x : List Seen). number_in (cut w n) (gap_in x)) (sym (entries-cut w ws bs n held)))
+      ∙ ap (λ (x : List Seen). number_in (cut w n) (gap_in x)) (sym (entries-cut w ws bs n (front-held w ws c))))
       (λ n stamp some held.
       let c = cut w n in
       let z : c.held - 0 ≡ c.held = omega arith in
       ap (number_in c) (ap (first_gap c.capacity c.start ws 0) z ∙ gap-found c.capacity c.start ws bs c.held 0 ∙ omega arith))
 
   -- what a message hands out
-  pub pop-handed : Bytes w bs → (time : ℤ) (bytes packets : ℕ) → outcome.popped.answer ≡ pops.Message time bytes packets → Handed w es out outcome bytes packets
+  pub pop-handed : Bytes w bs → (time : ℤ) (bytes packets : ℕ) → answered outcome.popped ≡ Ok (pops.Message time bytes packets) → Handed w es out outcome bytes packets
   pop-handed gb time bytes packets =
-      pop-cases k latency late w ws now bs out (λ (x : PopOutcome). x.popped.answer ≡ pops.Message time bytes packets → Handed w es out x bytes packets)
+      pop-cases k latency late w ws now bs out (λ (x : PopOutcome). answered x.popped ≡ Ok (pops.Message time bytes packets) → Handed w es out x bytes packets)
       (λ e. absurd (let z : ◌≡◌ {A = ℕ} 0 1 = cc in omega arith))
-      (λ e. absurd (let z : ◌≡◌ {A = ℕ} 0 1 = cc in omega arith))
-      (λ some held fits e.
-      let m = message_of w ws in
-      let f = filled-joined w ws bs out g gb m.packets held in
-      let at = (front-whole w ws bs out refl some).1 in
+      (λ m c long e. absurd (let z : ◌≡◌ {A = ℕ} 0 1 = cc in omega arith))
+      (λ m c fits e.
+      let whole = front-whole w ws bs out c in
+      let f = filled-joined w ws bs out g gb m.packets whole.held in
       let b : m.bytes ≡ bytes = cc in
       let n : m.packets ≡ packets = cc in
       record {
-        some = omega arith;
-        held = omega arith;
-        whole = omega (arith, front-gap w ws bs some);
-        long = sym b ∙ sym at ∙ f.0 ∙ ap (λ (x : ℕ). length (joined (take x es))) n;
-        output = f.1 ∙ ap (λ (x : ℕ). joined (take m.packets es) ++ drop x out) (at ∙ b) ∙ ap (λ (x : ℕ). joined (take x es) ++ drop bytes out) n;
+        some = omega (arith, whole.some);
+        held = omega (arith, whole.held);
+        whole = omega (arith, front-gap w ws bs c);
+        long = sym b ∙ sym whole.long ∙ f.0 ∙ ap (λ (x : ℕ). length (joined (take x es))) n;
+        output = f.1 ∙ ap (λ (x : ℕ). joined (take m.packets es) ++ drop x out) (whole.long ∙ b) ∙ ap (λ (x : ℕ). joined (take x es) ++ drop bytes out) n;
       })
       (λ n stamp some held e. absurd (let z : ◌≡◌ {A = ℕ} 0 1 = cc in omega arith))
 
-  -- refusal 11: the message in front is longer than the output
-  abbrev TooLong : PopOutcome → Type 0
-  TooLong x = x.popped.answer ≡ pops.OutShort → (0 < (message_of w ws).packets) × (length out < (message_of w ws).bytes)
+  -- refusal 11: there is a message in front, all of its entries received, and it is longer than the output
+  pub record TooLong : Type 0 where
+    pub message : Message
+    pub front : Some message ≡ message_of w ws
+    pub some : 0 < message.packets
+    pub whole : message.packets ≤ gap_in es
+    pub long : length out < length (joined (take message.packets es))
 
-  too_long : TooLong outcome
-  unfolding pop_of front_of released_of
-  too_long =
-      let m = message_of w ws in
-      let late = late-cases k latency late w ws now (λ (r : Popped). TooLong (pop_ended r out)) (λ e. absurd (let z : ◌≡◌ {A = ℕ} 0 1 = cc in omega arith)) (λ n stamp some held e. absurd (let z : ◌≡◌ {A = ℕ} 0 1 = cc in omega arith)) in
-      by-test TooLong (ltb 0 w.held && words.is_received (entry_in w ws 0)) _ _
-      (λ t.
-      by-test TooLong (lt_z now (due_of k.base latency (words.stamp_in (entry_in w ws 0)))) _ _
-      (λ u e. absurd (let z : ◌≡◌ {A = ℕ} 0 1 = cc in omega arith))
-      (λ u.
-      by-test TooLong (ltb 0 m.packets) _ _
-      (λ x.
-      by-test TooLong (ltb (length out) m.bytes) _ _
-      (λ y e. (ltb-true 0 m.packets x, ltb-true (length out) m.bytes y))
-      (λ y e. absurd (let z : ◌≡◌ {A = ℕ} 0 1 = cc in omega arith)))
-      (λ x. late)))
-      (λ t. late)
-
-  pub pop-short : Bytes w bs → outcome.popped.answer ≡ pops.OutShort
-      → (0 < (message_of w ws).packets) × ((message_of w ws).packets ≤ gap_in es) × (length out < length (joined (take (message_of w ws).packets es)))
-  pop-short gb e =
-      let m = message_of w ws in
-      let s = too_long e in
-      let at = (front-whole w ws bs out refl s.0).1 in
-      let f = filled-joined w ws bs out g gb m.packets (front-whole w ws bs out refl s.0).0 in
-      (s.0, front-gap w ws bs s.0, omega (arith, at, f.0, s.1))
+  pub pop-short : Bytes w bs → outcome.popped ≡ Err (record {}) → TooLong
+  pop-short gb =
+      pop-cases k latency late w ws now bs out (λ (x : PopOutcome). x.popped ≡ Err (record {}) → TooLong)
+      (λ e. absurd (let z : ◌≡◌ {A = ℕ} 0 1 = cc in omega arith))
+      (λ m c long e.
+      let whole = front-whole w ws bs out c in
+      let f = filled-joined w ws bs out g gb m.packets whole.held in
+      record { message = m; front = c; some = whole.some; whole = front-gap w ws bs c; long = omega (arith, whole.long, f.0, long) })
+      (λ m c fits e. absurd (let z : ◌≡◌ {A = ℕ} 0 1 = cc in omega arith))
+      (λ n stamp some held e. absurd (let z : ◌≡◌ {A = ℕ} 0 1 = cc in omega arith))

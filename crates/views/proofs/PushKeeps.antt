@@ -9,8 +9,8 @@ use lib.IntN.{ℤ}
 use lib.ListN.{length}
 use Rattle.numbers.specs.Circular.{distance, before, successor}
 use Rattle.numbers.specs.Order.{order}
-use Rattle.numbers.specs.declared.seq.Order.{Order}
-use Rattle.numbers.specs.declared.seq.Order.TheVariants.{Before, Equal, After}
+use Rattle.std.specs.declared.cmp.Ordering.{Ordering}
+use Rattle.std.specs.declared.cmp.Ordering.TheVariants.{Less, Equal, Greater}
 use Rattle.numbers.proofs.Flags.{by-test}
 use Rattle.numbers.proofs.Circle.{sum_below}
 use Rattle.slots.specs.Words as words
@@ -20,14 +20,14 @@ use Rattle.slots.proofs.Laws.{length-write, length-payload, slot_lt}
 use Rattle.window.specs.Window.{slot_in, entry_in, next_of, room_of, first_gap}
 use Rattle.window.specs.Ready.{Good, Bytes, PacketRight}
 use Rattle.window.specs.Push as push
-use Rattle.window.specs.Push.{PushOutcome, with_lost, moved_past, recovered_lrsn, append_next_of, append_with_loss_of, recovered_of, recover_of, push_of}
+use Rattle.window.specs.Push.{PushOutcome, window_after, with_lost, moved_past, recovered_lrsn, append_next_of, append_with_loss_of, recovered_of, recover_of, push_of}
 use Rattle.window.specs.declared.Window.{Window}
 use Rattle.window.specs.declared.push.Packet.{Packet}
 use Rattle.window.proofs.Pushes.{length-lost}
 
 module _ (w : Window) (ws bs : List ℕ) (time : ℤ) (p : Packet) (payload : List ℕ) (g : Good w ws) (gb : Bytes w bs) (r : PacketRight p payload) where
   abbrev Kept : PushOutcome → Type 0
-  Kept o = Good o.pushed.window o.slots × Bytes o.pushed.window o.payloads
+  Kept o = Good (window_after w o.pushed) o.slots × Bytes (window_after w o.pushed) o.payloads
 
   moved-lt : moved_past w.lrsn p.number < 2 ^ 31
   unfolding successor
@@ -82,7 +82,7 @@ module _ (w : Window) (ws bs : List ℕ) (time : ℤ) (p : Packet) (payload : Li
   unfolding push_of
   push_kept = go (order 31 p.number (next_of w))
     where
-      go : (o : Order) → Kept (push.by_order w ws bs time p payload o)
+      go : (o : Ordering) → Kept (push.by_order w ws bs time p payload o)
       go Equal = next-kept
-      go After = loss-kept (distance 31 p.number (next_of w))
-      go Before = recover-kept
+      go Greater = loss-kept (distance 31 p.number (next_of w))
+      go Less = recover-kept

@@ -11,8 +11,8 @@ use lib.IntN.{ℤ, nat_abs}
 use lib.ListN.{length, set, drop, replicate}
 use Rattle.numbers.specs.Circular.{distance, before, sum, successor}
 use Rattle.numbers.specs.Order.{order}
-use Rattle.numbers.specs.declared.seq.Order.{Order}
-use Rattle.numbers.specs.declared.seq.Order.TheVariants.{Before, Equal, After}
+use Rattle.std.specs.declared.cmp.Ordering.{Ordering}
+use Rattle.std.specs.declared.cmp.Ordering.TheVariants.{Less, Equal, Greater}
 use Rattle.numbers.proofs.Flags.{impossible, by-test, by-order}
 use Rattle.numbers.proofs.Circle.{sum_below, sum-sum, stepped, within, order-before, order-equal, order-after, distance-zero}
 use Rattle.numbers.proofs.Places.{place-one}
@@ -72,9 +72,9 @@ module _ (w : Window) (ws bs : List ℕ) (time : ℤ) (p : Packet) (payload : Li
 
   -- the entries after are those of the list, by the answer
   abbrev Then : PushOutcome → Type 0
-  Then o = SeenAfter w ws bs time p payload o → RightAfter o
+  Then o = SeenAfter w ws bs time p payload o → RightAfter w o
 
-  next-right : p.number ≡ next_of w → RightAfter (append_next_of w ws bs time p payload)
+  next-right : p.number ≡ next_of w → RightAfter w (append_next_of w ws bs time p payload)
   unfolding append_next_of
   next-right n =
       by-test Then (eqb w.held w.capacity) _ _
@@ -97,7 +97,7 @@ module _ (w : Window) (ws bs : List ℕ) (time : ℤ) (p : Packet) (payload : Li
       ∙ sym (stepped 31 p.number (next_of w))
       ∙ sum-sum 31 w.seqno0 w.held (distance 31 p.number (next_of w))
 
-  loss-right : order 31 p.number (next_of w) ≡ After → RightAfter (append_with_loss_of w ws bs time p payload (distance 31 p.number (next_of w)))
+  loss-right : order 31 p.number (next_of w) ≡ Greater → RightAfter w (append_with_loss_of w ws bs time p payload (distance 31 p.number (next_of w)))
   unfolding append_with_loss_of
   loss-right n =
       let gap = distance 31 p.number (next_of w) in
@@ -112,7 +112,7 @@ module _ (w : Window) (ws bs : List ℕ) (time : ℤ) (p : Packet) (payload : Li
       ∙ ap (number_in w) (sym (ap gap_in (append_assoc es (replicate gap (lost 2 (nat_abs time))) (packet_seen p payload ∷ [])) ∙ lost-behind es gap 2 (nat_abs time) (packet_seen p payload ∷ []) some))))
       (loss-seen w ws bs time p payload g gb r ht hs)
 
-  recovered-right : (i : ℕ) → i ≡ distance 31 p.number w.seqno0 → i < w.held → words.is_lost (entry_in w ws i) ≡ true → RightAfter (recovered_of w ws bs time p payload i)
+  recovered-right : (i : ℕ) → i ≡ distance 31 p.number w.seqno0 → i < w.held → words.is_lost (entry_in w ws i) ≡ true → RightAfter w (recovered_of w ws bs time p payload i)
   unfolding recovered_of
   recovered-right i d h u =
       let pk = packet_seen p payload in
@@ -142,20 +142,20 @@ module _ (w : Window) (ws bs : List ℕ) (time : ℤ) (p : Packet) (payload : Li
       not-received bs s (Received n l m t) e = impossible (sym e)
       not-received bs s GivenUp e = refl
 
-  recover-right : before 31 p.number (next_of w) ≡ true → RightAfter (recover_of w ws bs time p payload)
+  recover-right : before 31 p.number (next_of w) ≡ true → RightAfter w (recover_of w ws bs time p payload)
   unfolding recover_of
   recover-right b =
       let i = distance 31 p.number w.seqno0 in
-      by-test RightAfter (before 31 p.number w.seqno0) _ _
+      by-test (RightAfter w) (before 31 p.number w.seqno0) _ _
       (λ t. l)
-      (λ t. by-test RightAfter (words.is_lost (entry_in w ws i)) _ _ (λ u. recovered-right i refl (within 31 p.number w.seqno0 w.held b t) u) (λ u. l))
+      (λ t. by-test (RightAfter w) (words.is_lost (entry_in w ws i)) _ _ (λ u. recovered-right i refl (within 31 p.number w.seqno0 w.held b t) u) (λ u. l))
 
   -- lrsn after a push
-  pub push-right : RightAfter (push_of w ws bs time p payload)
+  pub push-right : RightAfter w (push_of w ws bs time p payload)
   unfolding push_of
   push-right = go (order 31 p.number (next_of w)) refl
     where
-      go : (o : Order) → order 31 p.number (next_of w) ≡ o → RightAfter (push.by_order w ws bs time p payload o)
+      go : (o : Ordering) → order 31 p.number (next_of w) ≡ o → RightAfter w (push.by_order w ws bs time p payload o)
       go Equal q = next-right (distance-zero 31 r.number (sum_below 31 w.seqno0 w.held) (order-equal 31 p.number (next_of w) q))
-      go After q = loss-right q
-      go Before q = recover-right (order-before 31 p.number (next_of w) q)
+      go Greater q = loss-right q
+      go Less q = recover-right (order-before 31 p.number (next_of w) q)

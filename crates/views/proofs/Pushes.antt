@@ -2,7 +2,7 @@
 use mathlib.Core.Path.{◌≡◌, refl, ap, sym, ◌∙◌}
 use mathlib.Core.Bool.{true}
 use mathlib.Core.List.{List, [], ◌∷◌, ◌++◌, append_assoc, append-nil}
-use Prim.Native.Nat.{ℕ, zero, suc, ◌+◌, ◌-◌, ◌*◌, ◌^◌, ◌<◌, ◌≤◌}
+use Prim.Native.Nat.{ℕ, zero, suc, ◌+◌, ◌*◌, ◌^◌, ◌<◌, ◌≤◌}
 use native.Mathlib.Nat.{mod-eq_of_lt}
 use native.Mathlib.Numerals.{add-one}
 use native.Mathlib.Omega.{arith}
@@ -12,8 +12,8 @@ use lib.IntN.{ℤ, nat_abs}
 use lib.ListN.{length, set, replicate, replicate-append-replicate}
 use Rattle.numbers.specs.Circular.{distance, before, sum}
 use Rattle.numbers.specs.Order.{order}
-use Rattle.numbers.specs.declared.seq.Order.{Order}
-use Rattle.numbers.specs.declared.seq.Order.TheVariants.{Before, Equal, After}
+use Rattle.std.specs.declared.cmp.Ordering.{Ordering}
+use Rattle.std.specs.declared.cmp.Ordering.TheVariants.{Less, Equal, Greater}
 use Rattle.numbers.proofs.Flags.{by-test}
 use Rattle.numbers.proofs.Circle.{stepped, within, order-before}
 use Rattle.slots.specs.Words as words
@@ -129,10 +129,10 @@ module _ (w : Window) (ws bs : List ℕ) (time : ℤ) (p : Packet) (payload : Li
   unfolding push_of
   push-seen = go (order 31 p.number (next_of w)) refl
     where
-      go : (o : Order) → order 31 p.number (next_of w) ≡ o → SeenAfter w ws bs time p payload (push.by_order w ws bs time p payload o)
+      go : (o : Ordering) → order 31 p.number (next_of w) ≡ o → SeenAfter w ws bs time p payload (push.by_order w ws bs time p payload o)
       go Equal q = next-seen
-      go After q = loss-seen
-      go Before q = recover-seen (order-before 31 p.number (next_of w) q)
+      go Greater q = loss-seen
+      go Less q = recover-seen (order-before 31 p.number (next_of w) q)
 
   -- a number is that of the place which lies its distance past the front
   pub number_is : p.number ≡ number_in w (distance 31 p.number w.seqno0)

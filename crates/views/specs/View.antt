@@ -1,22 +1,23 @@
 -- The entries of a window as a list, front first: what a reader of 01, "Window", thinks of.
-use Rattle.std.specs.Prelude.{◌≡◌, Bool, true, false, cond, List, [], ◌∷◌, ◌++◌, map, ℕ, zero, suc, ◌<◌, ◌≤◌, ℤ, nat_abs, length, set, take, drop, replicate}
+use Rattle.std.specs.Prelude.{◌≡◌, Bool, true, false, cond, List, [], ◌∷◌, ◌++◌, map, ℕ, zero, suc, ◌<◌, ◌≤◌, ℤ, nat_abs, length, set, take, drop, replicate, Option, Some, None, Result, Ok, Err}
 use Rattle.numbers.specs.Circular.{distance}
 use Rattle.slots.specs.Words.{entry_at}
 use Rattle.slots.specs.Ring.{slot_of, payload_at}
 use Rattle.slots.specs.declared.entry.Entry.{Entry}
 use Rattle.slots.specs.declared.entry.Entry.TheVariants.{Lost, Received, GivenUp}
 use Rattle.window.specs.Window.{number_in, next_of}
-use Rattle.window.specs.Push.{PushOutcome}
+use Rattle.window.specs.Push.{PushOutcome, window_after, answered}
 use Rattle.window.specs.declared.Window.{Window}
 use Rattle.window.specs.declared.push.Packet.{Packet}
 use Rattle.window.specs.declared.push.PushAnswer.{PushAnswer}
 use Rattle.window.specs.declared.push.PushAnswer.TheVariants as answers
+use Rattle.window.specs.declared.push.PushRefusal.{PushRefusal}
 use Rattle.window_pop.specs.Pop.{PopOutcome}
+use Rattle.window_pop.specs.declared.pop.OutShort.{OutShort}
 use Rattle.window_pop.specs.declared.pop.PopAnswer.{PopAnswer}
 use Rattle.window_pop.specs.declared.pop.PopAnswer.TheVariants as pops
 use Rattle.window_report.specs.Report.{is_due, k_after}
-use Rattle.window_report.specs.declared.report.ReportAnswer.{ReportAnswer}
-use Rattle.window_report.specs.declared.report.ReportAnswer.TheVariants as reports
+use Rattle.window_report.specs.declared.report.ListShort.{ListShort}
 use Rattle.views.specs.Lists.{run_of, changed_in}
 
 -- an entry with its bytes
@@ -58,29 +59,26 @@ LrsnRight w es = w.lrsn ≡ number_in w (gap_in es)
 abbrev pub packet_seen : Packet → List ℕ → Seen
 packet_seen p payload = received p.location p.message p.stamp payload
 
-abbrev pub after_push : Window → ℤ → Packet → List ℕ → List Seen → PushAnswer → List Seen
-after_push w time p payload es (answers.Got lrsn true) = set es (distance 31 p.number w.seqno0) (packet_seen p payload)
-after_push w time p payload es (answers.Got lrsn false) = es ++ (packet_seen p payload ∷ [])
-after_push w time p payload es (answers.Loss first last) = es ++ replicate (distance 31 p.number (next_of w)) (lost 2 (nat_abs time)) ++ (packet_seen p payload ∷ [])
-after_push w time p payload es answers.BufferFull = es
-after_push w time p payload es (answers.PacketTooEarly room need) = es
-after_push w time p payload es answers.PacketTooLate = es
-after_push w time p payload es answers.DiscardedDuplicate = es
+abbrev pub after_push : Window → ℤ → Packet → List ℕ → List Seen → Result PushAnswer PushRefusal → List Seen
+after_push w time p payload es (Ok (answers.Got lrsn true)) = set es (distance 31 p.number w.seqno0) (packet_seen p payload)
+after_push w time p payload es (Ok (answers.Got lrsn false)) = es ++ (packet_seen p payload ∷ [])
+after_push w time p payload es (Ok (answers.Loss first last)) = es ++ replicate (distance 31 p.number (next_of w)) (lost 2 (nat_abs time)) ++ (packet_seen p payload ∷ [])
+after_push w time p payload es (Err e) = es
 
 -- the entries after a push are that list
 abbrev pub SeenAfter : Window → List ℕ → List ℕ → ℤ → Packet → List ℕ → PushOutcome → Type 0
-SeenAfter w ws bs time p payload o = entries o.pushed.window o.slots o.payloads ≡ after_push w time p payload (entries w ws bs) o.pushed.answer
+SeenAfter w ws bs time p payload o = entries (window_after w o.pushed) o.slots o.payloads ≡ after_push w time p payload (entries w ws bs) (answered o.pushed)
 
--- lrsn is right after a push
-abbrev pub RightAfter : PushOutcome → Type 0
-RightAfter o = LrsnRight o.pushed.window (entries o.pushed.window o.slots o.payloads)
+-- lrsn is right after a push of this window
+abbrev pub RightAfter : Window → PushOutcome → Type 0
+RightAfter w o = LrsnRight (window_after w o.pushed) (entries (window_after w o.pushed) o.slots o.payloads)
 
 -- what a pop does to the list, by its answer: a message takes its packets off the front, a late drop its range
-abbrev pub after_pop : List Seen → PopAnswer → List Seen
-after_pop es pops.Nothing = es
-after_pop es (pops.Message time bytes packets) = drop packets es
-after_pop es (pops.Late first end delay) = drop (distance 31 end first) es
-after_pop es pops.OutShort = es
+abbrev pub after_pop : List Seen → Result PopAnswer OutShort → List Seen
+after_pop es (Ok pops.Nothing) = es
+after_pop es (Ok (pops.Message time bytes packets)) = drop packets es
+after_pop es (Ok (pops.Late first end delay)) = drop (distance 31 end first) es
+after_pop es (Err e) = es
 
 -- the bytes of entries, one after the other
 abbrev pub bytes_in : Seen → List ℕ
@@ -106,10 +104,10 @@ reported_seen time mean (lost k f) = cond (is_due time mean (Lost k f)) (lost (k
 reported_seen time mean (received l m t b) = received l m t b
 reported_seen time mean given_up = given_up
 
-abbrev pub after_report : ℤ → ℕ → List Seen → ReportAnswer → List Seen
-after_report time mean es reports.Nothing = es
-after_report time mean es (reports.Report words) = map (reported_seen time mean) es
-after_report time mean es reports.ListShort = es
+abbrev pub after_report : ℤ → ℕ → List Seen → Result (Option ℕ) ListShort → List Seen
+after_report time mean es (Ok None) = es
+after_report time mean es (Ok (Some words)) = map (reported_seen time mean) es
+after_report time mean es (Err e) = es
 
 -- what a drop request does to the list: lost entries in its range, counted from the front, are given up
 abbrev pub gave_up : Seen → Seen

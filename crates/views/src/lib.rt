@@ -1,2 +1,3 @@
-// The window as a list of entries: what each operation does to that list. Theorems only; the layers above cite these and open no window.
+// The window as a list of entries: what each operation does to that list. Theorems only; the layers above cite these
+// and open no window.
 #![tactic(auto)]

@@ -4,12 +4,14 @@ use mathlib.Core.Path.{◌≡◌, sym, ◌∙◌, ap}
 use mathlib.Core.List.{List}
 use Prim.Native.Nat.{ℕ}
 use denote.Ref.{Bor}
+use Rattle.std.specs.Prelude.{Result}
 use Rattle.window.specs.Push.{PushOutcome, push_ended}
 use Rattle.window.specs.Show.{PartOf}
 use Rattle.window.specs.declared.push.Pushed.{Pushed}
+use Rattle.window.specs.declared.push.PushRefusal.{PushRefusal}
 
--- the window and the answer, the slot area and the payload area
-pub push-determined : {o : PushOutcome} (r s : Pushed) (ws₁ ws₂ bs₁ bs₂ : List ℕ) → push_ended r ws₁ bs₁ ≡ o → push_ended s ws₂ bs₂ ≡ o
+-- the window and the answer or the refusal, the slot area and the payload area
+pub push-determined : {o : PushOutcome} (r s : Result Pushed PushRefusal) (ws₁ ws₂ bs₁ bs₂ : List ℕ) → push_ended r ws₁ bs₁ ≡ o → push_ended s ws₂ bs₂ ≡ o
     → (r ≡ s) × ((ws₁ ≡ ws₂) × (bs₁ ≡ bs₂))
 push-determined r s ws₁ ws₂ bs₁ bs₂ p q =
     let e = p ∙ sym q in

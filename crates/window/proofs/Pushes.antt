@@ -9,11 +9,12 @@ use borrow.Author.Rules.{rules}
 use borrow.Author.Tests.{eq-eqb, ne_eqb, lt-ltb, le-ltb}
 use lib.IntN.{ℤ, nat_abs}
 use lib.ListN.{length}
+use Rattle.std.specs.Prelude.{Ok}
 use Rattle.numbers.specs.Circular.{distance, before, sum, successor}
 use Rattle.numbers.specs.Instants.{is_reading}
 use Rattle.numbers.specs.Order.{order}
-use Rattle.numbers.specs.declared.seq.Order.{Order}
-use Rattle.numbers.specs.declared.seq.Order.TheVariants.{Before, Equal, After}
+use Rattle.std.specs.declared.cmp.Ordering.{Ordering}
+use Rattle.std.specs.declared.cmp.Ordering.TheVariants.{Less, Equal, Greater}
 use Rattle.numbers.proofs.Circle.{distance-below, before_at, before-not, within, order-before}
 use Rattle.numbers.proofs.Signs.{reading-size, reading-on}
 use Rattle.slots.specs.Words.{is_lost, entry_at, write_at}
@@ -28,6 +29,7 @@ use Rattle.window.specs.Push.{PushOutcome, push_ended, received, moved_past, los
 use Rattle.window.specs.declared.Window.{Window}
 use Rattle.window.specs.declared.push.Packet.{Packet}
 use Rattle.window.specs.declared.push.PushAnswer.TheVariants as answers
+use Rattle.window.specs.declared.push.PushRefusal.TheVariants as refusals
 use Rattle.window.proofs.Walks.{walk-slot}
 
 -- moved_past, recovered_lrsn
@@ -89,18 +91,18 @@ pub lost-ring : (w : Window) (ws : List ℕ) (gap : ℕ) {room : ℕ} → Good w
 lost-ring w ws gap g e h = omega arith
 
 module _ (w : Window) (ws bs : List ℕ) (time : ℤ) (p : Packet) (payload : List ℕ) where
-  pub full : w.held ≡ w.capacity → refused w ws bs time p payload answers.BufferFull ≡ append_next_of w ws bs time p payload
+  pub full : w.held ≡ w.capacity → refused w ws bs time p payload refusals.BufferFull ≡ append_next_of w ws bs time p payload
   unfolding append_next_of
   full h = rw (eq-eqb _ _ h)
 
   pub appended : {s lrsn : ℕ} {ws₁ bs₁ : List ℕ}
       → (w.held ≡ w.capacity → ⊥) → lrsn ≡ moved_past w.lrsn p.number → s ≡ slot_in w w.held
       → ws₁ ≡ write_at ws s (received p payload) → bs₁ ≡ with_payload bs s payload
-      → push_ended (record { window = record { capacity = w.capacity; start = w.start; held = w.held + 1; seqno0 = w.seqno0; lrsn = lrsn }; answer = answers.Got lrsn false }) ws₁ bs₁ ≡ append_next_of w ws bs time p payload
+      → push_ended (Ok (record { window = record { capacity = w.capacity; start = w.start; held = w.held + 1; seqno0 = w.seqno0; lrsn = lrsn }; answer = answers.Got lrsn false })) ws₁ bs₁ ≡ append_next_of w ws bs time p payload
   unfolding append_next_of
   appended h a b c d = rw (ne_eqb _ _ h, c, d, b, a)
 
-  pub too-early : (gap : ℕ) {room : ℕ} → room ≡ room_of w → room < gap + 1 → refused w ws bs time p payload (answers.PacketTooEarly room (gap + 1)) ≡ append_with_loss_of w ws bs time p payload gap
+  pub too-early : (gap : ℕ) {room : ℕ} → room ≡ room_of w → room < gap + 1 → refused w ws bs time p payload (refusals.PacketTooEarly room (gap + 1)) ≡ append_with_loss_of w ws bs time p payload gap
   unfolding append_with_loss_of
   too-early gap e h = rw (← e, lt-ltb _ _ h)
 
@@ -108,17 +110,17 @@ module _ (w : Window) (ws bs : List ℕ) (time : ℤ) (p : Packet) (payload : Li
       → room ≡ room_of w → gap + 1 ≤ room → lrsn ≡ moved_past w.lrsn p.number → first ≡ next_of w → last ≡ sum 31 p.number (2 ^ 31 - 1)
       → s ≡ slot_in w (w.held + gap) → ws₁ ≡ with_lost w.capacity w.start ws z w.held gap → z ≡ time
       → ws₂ ≡ write_at ws₁ s (received p payload) → bs₁ ≡ with_payload bs s payload
-      → push_ended (record { window = record { capacity = w.capacity; start = w.start; held = w.held + (gap + 1); seqno0 = w.seqno0; lrsn = lrsn }; answer = answers.Loss first last }) ws₂ bs₁ ≡ append_with_loss_of w ws bs time p payload gap
+      → push_ended (Ok (record { window = record { capacity = w.capacity; start = w.start; held = w.held + (gap + 1); seqno0 = w.seqno0; lrsn = lrsn }; answer = answers.Loss first last })) ws₂ bs₁ ≡ append_with_loss_of w ws bs time p payload gap
   unfolding append_with_loss_of
   lost gap e h a f g b c q d i = rw (← e, le-ltb _ _ h, d, c, q, i, b, a, f, g)
 
   pub recovered : (i : ℕ) {s lrsn : ℕ} {ws₁ bs₁ : List ℕ}
       → s ≡ slot_in w i → ws₁ ≡ write_at ws s (received p payload) → bs₁ ≡ with_payload bs s payload → lrsn ≡ recovered_lrsn w p.number ws₁ i
-      → push_ended (record { window = record { capacity = w.capacity; start = w.start; held = w.held; seqno0 = w.seqno0; lrsn = lrsn }; answer = answers.Got lrsn true }) ws₁ bs₁ ≡ recovered_of w ws bs time p payload i
+      → push_ended (Ok (record { window = record { capacity = w.capacity; start = w.start; held = w.held; seqno0 = w.seqno0; lrsn = lrsn }; answer = answers.Got lrsn true })) ws₁ bs₁ ≡ recovered_of w ws bs time p payload i
   unfolding recovered_of
   recovered i d j k l = rw (← d, ← j, ← k, ← l)
 
-  pub too-late : {i : ℕ} → i ≡ distance 31 p.number w.seqno0 → 2 ^ 30 ≤ i → refused w ws bs time p payload answers.PacketTooLate ≡ recover_of w ws bs time p payload
+  pub too-late : {i : ℕ} → i ≡ distance 31 p.number w.seqno0 → 2 ^ 30 ≤ i → refused w ws bs time p payload refusals.PacketTooLate ≡ recover_of w ws bs time p payload
   unfolding recover_of
   too-late c h = rw (before_at 31 p.number w.seqno0 (omega arith))
 
@@ -127,7 +129,7 @@ module _ (w : Window) (ws bs : List ℕ) (time : ℤ) (p : Packet) (payload : Li
     unfolding recover_of
     recovers h j q = rw (before-not 31 p.number w.seqno0 (omega arith), ← c, ← d, ← f, ← g, h) (j ∙ rw q)
 
-    pub duplicate : u ≡ false → refused w ws bs time p payload answers.DiscardedDuplicate ≡ recover_of w ws bs time p payload
+    pub duplicate : u ≡ false → refused w ws bs time p payload refusals.DiscardedDuplicate ≡ recover_of w ws bs time p payload
     unfolding recover_of
     duplicate h = rw (before-not 31 p.number w.seqno0 (omega arith), ← c, ← d, ← f, ← g, h)
 
@@ -143,19 +145,19 @@ module _ (w : Window) (ws bs : List ℕ) (time : ℤ) (p : Packet) (payload : Li
   pub gap_below : (n : ℕ) {gap : ℕ} → gap ≡ distance 31 p.number n → gap < 2 ^ 31
   gap_below n e = rw e (distance-below 31 p.number n)
 
-  pub push-before : {o : Order} {n : ℕ} → n ≡ next_of w → o ≡ order 31 p.number n → o ≡ Before → before 31 p.number (next_of w) ≡ true
+  pub push-before : {o : Ordering} {n : ℕ} → n ≡ next_of w → o ≡ order 31 p.number n → o ≡ Less → before 31 p.number (next_of w) ≡ true
   push-before a b e = order-before 31 p.number (next_of w) (rw (← a, ← b) e)
 
-  module _ {o : Order} {n : ℕ} {z : ℤ} {r : PushOutcome} (a : n ≡ next_of w) (b : o ≡ order 31 p.number n) where
+  module _ {o : Ordering} {n : ℕ} {z : ℤ} {r : PushOutcome} (a : n ≡ next_of w) (b : o ≡ order 31 p.number n) where
     pub push-next : o ≡ Equal → r ≡ append_next_of w ws bs z p payload → z ≡ time → r ≡ push_of w ws bs time p payload
     unfolding push_of
     push-next e f q = rw (← a, ← b, e) (f ∙ rw q)
 
-    pub push-loss : {gap : ℕ} → o ≡ After → gap ≡ distance 31 p.number n → r ≡ append_with_loss_of w ws bs z p payload gap → z ≡ time → r ≡ push_of w ws bs time p payload
+    pub push-loss : {gap : ℕ} → o ≡ Greater → gap ≡ distance 31 p.number n → r ≡ append_with_loss_of w ws bs z p payload gap → z ≡ time → r ≡ push_of w ws bs time p payload
     unfolding push_of
     push-loss e g f q = rw (← a, ← b, e, ← a, ← g) (f ∙ rw q)
 
-    pub push-recover : o ≡ Before → r ≡ recover_of w ws bs z p payload → z ≡ time → r ≡ push_of w ws bs time p payload
+    pub push-recover : o ≡ Less → r ≡ recover_of w ws bs z p payload → z ≡ time → r ≡ push_of w ws bs time p payload
     unfolding push_of
     push-recover e f q = rw (← a, ← b, e) (f ∙ rw q)
 

@@ -1,9 +1,9 @@
 -- Push: 01, "Window", from "Next expected" to "else next expected", with refusals 7 to 10.
-use Rattle.std.specs.Prelude.{true, false, cond, List, ℕ, zero, suc, ◌+◌, ◌-◌, ◌^◌, ltb, eqb, ℤ, nat_abs, length}
+use Rattle.std.specs.Prelude.{true, false, cond, List, ℕ, zero, suc, ◌+◌, ◌-◌, ◌^◌, ltb, eqb, ℤ, nat_abs, length, Result, Ok, Err}
 use Rattle.numbers.specs.Circular.{distance, before, sum, successor}
 use Rattle.numbers.specs.Order.{order}
-use Rattle.numbers.specs.declared.seq.Order.{Order}
-use Rattle.numbers.specs.declared.seq.Order.TheVariants.{Before, Equal, After}
+use Rattle.std.specs.declared.cmp.Ordering.{Ordering}
+use Rattle.std.specs.declared.cmp.Ordering.TheVariants.{Less, Equal, Greater}
 use Rattle.slots.specs.Words.{is_lost, write_at}
 use Rattle.slots.specs.Ring.{slot_of, with_payload}
 use Rattle.slots.specs.declared.entry.Entry.{Entry}
@@ -14,15 +14,27 @@ use Rattle.window.specs.declared.push.Packet.{Packet}
 use Rattle.window.specs.declared.push.Pushed.{Pushed}
 use Rattle.window.specs.declared.push.PushAnswer.{PushAnswer}
 use Rattle.window.specs.declared.push.PushAnswer.TheVariants as answers
+use Rattle.window.specs.declared.push.PushRefusal.{PushRefusal}
+use Rattle.window.specs.declared.push.PushRefusal.TheVariants as refusals
 
--- all that a push leaves: the window and the answer, the slot area and the payload area
+-- all that a push leaves: the window and the answer, or a refusal; the slot area and the payload area
 pub record PushOutcome : Type 0 where
-  pub pushed : Pushed
+  pub pushed : Result Pushed PushRefusal
   pub slots : List ℕ
   pub payloads : List ℕ
 
-abbrev pub push_ended : Pushed → List ℕ → List ℕ → PushOutcome
+abbrev pub push_ended : Result Pushed PushRefusal → List ℕ → List ℕ → PushOutcome
 push_ended r ws bs = record { pushed = r; slots = ws; payloads = bs }
+
+-- the window after it: that of a refusal is as it was
+abbrev pub window_after : Window → Result Pushed PushRefusal → Window
+window_after w (Ok r) = r.window
+window_after w (Err e) = w
+
+-- what it answers
+abbrev pub answered : Result Pushed PushRefusal → Result PushAnswer PushRefusal
+answered (Ok r) = Ok r.answer
+answered (Err e) = Err e
 
 -- the entry that a packet becomes
 abbrev pub received : Packet → List ℕ → Entry
@@ -52,16 +64,16 @@ recovered_lrsn w number ws i = cond (eqb w.lrsn number) (lrsn_from w ws i) w.lrs
 
 module _ (w : Window) (ws bs : List ℕ) (time : ℤ) (p : Packet) (payload : List ℕ) where
   -- a refusal changes nothing
-  abbrev pub refused : PushAnswer → PushOutcome
-  refused a = push_ended (record { window = w; answer = a }) ws bs
+  abbrev pub refused : PushRefusal → PushOutcome
+  refused e = push_ended (Err e) ws bs
 
   -- a push at the next expected appends; 7 BufferFull: held = capacity
   unfoldable pub append_next_of : PushOutcome
   append_next_of =
       cond (eqb w.held w.capacity)
-      (refused answers.BufferFull)
+      (refused refusals.BufferFull)
       (push_ended
-      (record { window = grown w p 1; answer = answers.Got (moved_past w.lrsn p.number) false })
+      (Ok (record { window = grown w p 1; answer = answers.Got (moved_past w.lrsn p.number) false }))
       (write_at ws (slot_in w w.held) (received p payload))
       (with_payload bs (slot_in w w.held) payload))
 
@@ -70,9 +82,9 @@ module _ (w : Window) (ws bs : List ℕ) (time : ℤ) (p : Packet) (payload : Li
   append_with_loss_of gap =
       let s = slot_in w (w.held + gap) in
       cond (ltb (room_of w) (gap + 1))
-      (refused (answers.PacketTooEarly (room_of w) (gap + 1)))
+      (refused (refusals.PacketTooEarly (room_of w) (gap + 1)))
       (push_ended
-      (record { window = grown w p (gap + 1); answer = answers.Loss (next_of w) (sum 31 p.number (2 ^ 31 - 1)) })
+      (Ok (record { window = grown w p (gap + 1); answer = answers.Loss (next_of w) (sum 31 p.number (2 ^ 31 - 1)) }))
       (write_at (with_lost w.capacity w.start ws time w.held gap) s (received p payload))
       (with_payload bs s payload))
 
@@ -81,20 +93,20 @@ module _ (w : Window) (ws bs : List ℕ) (time : ℤ) (p : Packet) (payload : Li
   recovered_of i =
       let ws₁ = write_at ws (slot_in w i) (received p payload) in
       let lrsn = recovered_lrsn w p.number ws₁ i in
-      push_ended (record { window = with_lrsn w lrsn; answer = answers.Got lrsn true }) ws₁ (with_payload bs (slot_in w i) payload)
+      push_ended (Ok (record { window = with_lrsn w lrsn; answer = answers.Got lrsn true })) ws₁ (with_payload bs (slot_in w i) payload)
 
   -- before it, a lost entry becomes received; 9 PacketTooLate: before seqno0; 10 DiscardedDuplicate: its entry is not lost
   unfoldable pub recover_of : PushOutcome
   recover_of =
       let i = distance 31 p.number w.seqno0 in
       cond (before 31 p.number w.seqno0)
-      (refused answers.PacketTooLate)
-      (cond (is_lost (entry_in w ws i)) (recovered_of i) (refused answers.DiscardedDuplicate))
+      (refused refusals.PacketTooLate)
+      (cond (is_lost (entry_in w ws i)) (recovered_of i) (refused refusals.DiscardedDuplicate))
 
-  abbrev pub by_order : Order → PushOutcome
+  abbrev pub by_order : Ordering → PushOutcome
   by_order Equal = append_next_of
-  by_order After = append_with_loss_of (distance 31 p.number (next_of w))
-  by_order Before = recover_of
+  by_order Greater = append_with_loss_of (distance 31 p.number (next_of w))
+  by_order Less = recover_of
 
   unfoldable pub push_of : PushOutcome
   push_of = by_order (order 31 p.number (next_of w))

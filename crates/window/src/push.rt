@@ -1,5 +1,5 @@
 // Push, buffer.rs `push_packet`: 01, "Window", with refusals 7 to 10.
-ghost use Rattle.std.specs.Prelude.{◌≡◌, true, ◌+◌, ◌*◌, ◌<◌, ◌≤◌, ◌^◌, length};
+ghost use Rattle.std.specs.Prelude.{◌≡◌, true, ◌+◌, ◌*◌, ◌<◌, ◌≤◌, ◌^◌, length, Ok};
 ghost use Rattle.numbers.specs.Circular.{before};
 ghost use Rattle.numbers.specs.Instants.{is_reading};
 ghost use Rattle.slots.specs.Words.{write_at};
@@ -9,10 +9,11 @@ ghost use Rattle.window.specs.Ready.{Ring, Good, Bytes, PacketRight};
 ghost use Rattle.window.specs.Push.{push_ended, received, moved_past, lost_at, with_lost, recovered_lrsn, append_next_of, append_with_loss_of, recovered_of, recover_of, push_of};
 
 use crate::Window;
-use numbers::seq::Order;
 use slots::entry::Entry;
+use std::cmp::Ordering;
 
-#[derive(Clone, Copy)]
+// `location` stays 01's number: a call takes any, and refuses those from 4 on.
+#[derive(Clone, Copy, PartialEq, Eq, Debug)]
 pub struct Packet {
     pub number: u32,
     pub message: u32,
@@ -20,17 +21,22 @@ pub struct Packet {
     pub stamp: u32,
 }
 
-#[derive(Drop)]
+#[derive(Clone, Copy, PartialEq, Eq, Debug)]
 pub enum PushAnswer {
     Got { lrsn: u32, recovered: bool },
     Loss { first: u32, last: u32 },
+}
+
+// Refusals 7 to 10.
+#[derive(Clone, Copy, PartialEq, Eq, Debug)]
+pub enum PushRefusal {
     BufferFull,
     PacketTooEarly { room: usize, need: usize },
     PacketTooLate,
     DiscardedDuplicate,
 }
 
-#[derive(Drop)]
+#[derive(Clone, Copy, PartialEq, Eq, Debug)]
 pub struct Pushed {
     pub window: Window,
     pub answer: PushAnswer,
@@ -51,7 +57,7 @@ fn write_lost(words: &mut [u64], s: usize, time: i64)
     requires { (3 * s + 3 ≤ length words.old) × (is_reading time ≡ true) }
     ensures { words.new ≡ write_at words.old s (lost_at time) }
 {
-    let feedback = numbers::instant::size(time);
+    let feedback = time.unsigned_abs();
     slots::entry::write_at(words, s, Entry::Lost { k: 2, feedback });
 }
 
@@ -67,13 +73,10 @@ fn append_lost(
     requires { Ring capacity start (from + count) words.old × (is_reading time ≡ true) }
     ensures { words.new ≡ with_lost capacity start words.old time from count }
 {
-    let mut i = 0;
     let mut s = slots::ring::slot(capacity, start, from);
-    while i < count {
-        let next = slots::ring::next_slot(capacity, s);
+    for _ in 0..count {
         write_lost(words, s, time);
-        i += 1;
-        s = next;
+        s = slots::ring::next_slot(capacity, s);
     }
 }
 
@@ -104,32 +107,27 @@ fn append_next(
     time: i64,
     p: Packet,
     payload: &[u8],
-) -> Pushed
+) -> Result<Pushed, PushRefusal>
     requires { Good w words.old × Bytes w bytes.old × PacketRight p payload.now }
     ensures { push_ended result words.new bytes.new ≡ append_next_of w words.old bytes.old time p payload.now }
 {
     if w.held == w.capacity {
-        return Pushed {
-            window: w,
-            answer: PushAnswer::BufferFull,
-        };
+        return Err(PushRefusal::BufferFull);
     }
     let lrsn = moved_past(w.lrsn, p.number);
     let s = slots::ring::slot(w.capacity, w.start, w.held);
     put_packet(words, bytes, s, p, payload);
-    Pushed {
+    Ok(Pushed {
         window: Window {
-            capacity: w.capacity,
-            start: w.start,
             held: w.held + 1,
-            seqno0: w.seqno0,
             lrsn,
+            ..w
         },
         answer: PushAnswer::Got {
             lrsn,
             recovered: false,
         },
-    }
+    })
 }
 
 // A push after the next expected number, by `gap`.
@@ -141,17 +139,14 @@ fn append_with_loss(
     p: Packet,
     payload: &[u8],
     gap: usize,
-) -> Pushed
+) -> Result<Pushed, PushRefusal>
     requires { Good w words.old × Bytes w bytes.old × PacketRight p payload.now × (is_reading time ≡ true) × (gap < 2 ^ 31) }
     ensures { push_ended result words.new bytes.new ≡ append_with_loss_of w words.old bytes.old time p payload.now gap }
 {
     let room = crate::room(w);
     let need = gap + 1;
     if room < need {
-        return Pushed {
-            window: w,
-            answer: PushAnswer::PacketTooEarly { room, need },
-        };
+        return Err(PushRefusal::PacketTooEarly { room, need });
     }
     let lrsn = moved_past(w.lrsn, p.number);
     let first = crate::number(w, w.held);
@@ -159,16 +154,14 @@ fn append_with_loss(
     let s = slots::ring::slot(w.capacity, w.start, w.held + gap);
     append_lost(words, w.capacity, w.start, w.held, gap, time);
     put_packet(words, bytes, s, p, payload);
-    Pushed {
+    Ok(Pushed {
         window: Window {
-            capacity: w.capacity,
-            start: w.start,
             held: w.held + need,
-            seqno0: w.seqno0,
             lrsn,
+            ..w
         },
         answer: PushAnswer::Loss { first, last },
-    }
+    })
 }
 
 // lrsn after the recovery of entry i.
@@ -193,19 +186,13 @@ fn take_recovered(
     i: usize,
 ) -> Pushed
     requires { Good w words.old × Bytes w bytes.old × PacketRight p payload.now × (i ≤ w.held) }
-    ensures { push_ended result words.new bytes.new ≡ recovered_of w words.old bytes.old time p payload.now i }
+    ensures { push_ended (Ok result) words.new bytes.new ≡ recovered_of w words.old bytes.old time p payload.now i }
 {
     let s = slots::ring::slot(w.capacity, w.start, i);
     put_packet(words, bytes, s, p, payload);
     let lrsn = recovered_lrsn(w, words, p.number, i);
     Pushed {
-        window: Window {
-            capacity: w.capacity,
-            start: w.start,
-            held: w.held,
-            seqno0: w.seqno0,
-            lrsn,
-        },
+        window: Window { lrsn, ..w },
         answer: PushAnswer::Got {
             lrsn,
             recovered: true,
@@ -221,26 +208,20 @@ fn recover(
     time: i64,
     p: Packet,
     payload: &[u8],
-) -> Pushed
+) -> Result<Pushed, PushRefusal>
     requires { Good w words.old × Bytes w bytes.old × PacketRight p payload.now × (before 31 p.number (next_of w) ≡ true) }
     ensures { push_ended result words.new bytes.new ≡ recover_of w words.old bytes.old time p payload.now }
 {
     let past = numbers::seq::distance(p.number, w.seqno0);
     if 0x4000_0000 <= past {
-        return Pushed {
-            window: w,
-            answer: PushAnswer::PacketTooLate,
-        };
+        return Err(PushRefusal::PacketTooLate);
     }
     let i = past as usize;
     let s = slots::ring::slot(w.capacity, w.start, i);
-    if slots::entry::is_lost(slots::entry::read_at(words, s)) {
-        return take_recovered(w, words, bytes, time, p, payload, i);
+    if !slots::entry::is_lost(slots::entry::read_at(words, s)) {
+        return Err(PushRefusal::DiscardedDuplicate);
     }
-    Pushed {
-        window: w,
-        answer: PushAnswer::DiscardedDuplicate,
-    }
+    Ok(take_recovered(w, words, bytes, time, p, payload, i))
 }
 
 // A push: at the next expected number, after it, or before it. Sequence numbers are never compared as plain numbers.
@@ -251,7 +232,7 @@ pub fn push(
     time: i64,
     p: Packet,
     payload: &[u8],
-) -> Pushed
+) -> Result<Pushed, PushRefusal>
     requires { Good w words.old × Bytes w bytes.old × PacketRight p payload.now × (is_reading time ≡ true) }
     ensures { push_ended result words.new bytes.new ≡ push_of w words.old bytes.old time p payload.now }
 {
@@ -259,8 +240,8 @@ pub fn push(
     let order = numbers::seq::compare(p.number, next);
     let gap = numbers::seq::distance(p.number, next);
     match order {
-        Order::Equal => append_next(w, words, bytes, time, p, payload),
-        Order::After => append_with_loss(w, words, bytes, time, p, payload, gap as usize),
-        Order::Before => recover(w, words, bytes, time, p, payload),
+        Ordering::Equal => append_next(w, words, bytes, time, p, payload),
+        Ordering::Greater => append_with_loss(w, words, bytes, time, p, payload, gap as usize),
+        Ordering::Less => recover(w, words, bytes, time, p, payload),
     }
 }

@@ -6,10 +6,9 @@ ghost use Rattle.window.specs.Show.{PartOf, ShownAt, shown_of};
 use crate::Window;
 use slots::entry::Entry;
 
-// A part of the payload area, and whether it is that of a received entry: a payload may be empty.
-#[derive(Drop)]
+// A part of the payload area.
+#[derive(Clone, Copy, PartialEq, Eq, Debug)]
 pub struct Part {
-    pub received: bool,
     pub at: usize,
     pub len: usize,
 }
@@ -23,42 +22,23 @@ pub fn part_at(area: &[u8], at: usize, len: usize) -> &[u8]
     &area[at..end]
 }
 
-// Where the payload of a number lies. Each answer has its own return.
-pub fn find(w: Window, words: &[u64], number: u32) -> Part
+// Where the payload of a number lies, if its entry is held and received: a payload may be empty.
+pub fn find(w: Window, words: &[u64], number: u32) -> Option<Part>
     requires { Good w words.now }
     ensures { result ≡ shown_of w words.now number }
 {
     let i = numbers::seq::distance(number, w.seqno0) as usize;
     if w.held <= i {
-        return Part {
-            received: false,
-            at: 0,
-            len: 0,
-        };
+        return None;
     }
     let s = slots::ring::slot(w.capacity, w.start, i);
     let e = slots::entry::read_at(words, s);
     match e {
-        Entry::Received {
-            length,
-            location: _,
-            message: _,
-            stamp: _,
-        } => Part {
-            received: true,
+        Entry::Received { length, .. } => Some(Part {
             at: 1456 * s,
             len: length,
-        },
-        Entry::Lost { k: _, feedback: _ } => Part {
-            received: false,
-            at: 0,
-            len: 0,
-        },
-        Entry::GivenUp => Part {
-            received: false,
-            at: 0,
-            len: 0,
-        },
+        }),
+        _ => None,
     }
 }
 
@@ -67,6 +47,8 @@ pub fn show<'a>(w: Window, words: &[u64], bytes: &'a [u8], number: u32) -> &'a [
     requires { Good w words.now × Bytes w bytes.now }
     ensures { ShownAt (shown_of w words.now number) bytes.entry result }
 {
-    let p = find(w, words, number);
-    part_at(bytes, p.at, p.len)
+    match find(w, words, number) {
+        Some(p) => part_at(bytes, p.at, p.len),
+        None => part_at(bytes, 0, 0),
+    }
 }

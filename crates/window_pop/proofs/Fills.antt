@@ -7,6 +7,7 @@ use native.Mathlib.Omega.{arith}
 use borrow.Author.Rules.{rules}
 use lib.ListN.{length, take, drop, length-drop}
 use lib.Seq.{paste, length-take-le, length-paste}
+use Rattle.std.specs.Prelude.{Option, Some, None, ⊤}
 use Rattle.numbers.proofs.Flags.{by-test}
 use Rattle.slots.specs.Words.{entry_at, length_in, message_in, is_first, is_last, in_message}
 use Rattle.slots.specs.Ring.{slot_of, payload_at}
@@ -102,39 +103,45 @@ module _ (capacity start : ℕ) (ws bs out : List ℕ) where
       → length out₁ ≡ length out
   fill-same i count f k h hs hb = let p = at-within h in ap length f ∙ fill-length i (omega arith) hs hb
 
-  -- a run that was counted: no more entries than there are, and the bytes of its payloads
-  abbrev Whole : ℕ → Message → Type 0
-  Whole top m = 0 < m.packets → (m.packets ≤ top) × ((filled capacity start ws bs out m.packets).at ≡ m.bytes)
+-- a run that was counted: one entry at least, no more than there are, and the bytes of its payloads
+pub record Whole (capacity start : ℕ) (ws bs out : List ℕ) (top : ℕ) (m : Message) : Type 0 where
+  pub some : 0 < m.packets
+  pub held : m.packets ≤ top
+  pub long : (filled capacity start ws bs out m.packets).at ≡ m.bytes
 
-  run-whole : (message top n i total : ℕ) → i + n ≤ top → total ≡ (filled capacity start ws bs out i).at → Whole top (run_from capacity start ws message i total n)
+module _ (capacity start : ℕ) (ws bs out : List ℕ) where
+  abbrev IfWhole : ℕ → Option Message → Type 0
+  IfWhole top (Some m) = Whole capacity start ws bs out top m
+  IfWhole top None = ⊤
+
+  run-whole : (message top n i total : ℕ) → i + n ≤ top → total ≡ (filled capacity start ws bs out i).at → IfWhole top (run_from capacity start ws message i total n)
   unfolding run_from
-  run-whole message top zero i total h a = λ p. absurd (omega arith)
+  run-whole message top zero i total h a = tt
   run-whole message top (suc n) i total h a =
       let e = entry_at ws (slot_of capacity start i) in
-      by-test (Whole top) (in_message message e) _ _
+      by-test (IfWhole top) (in_message message e) _ _
       (λ t.
-      by-test (Whole top) (is_last e) _ _
-      (λ u p. (omega arith, sym (at_after i a refl refl refl)))
-      (λ u. run-whole message top n (i + 1) (total + length_in e) (omega arith) (at_after i a refl refl refl)))
-      (λ t p. absurd (omega arith))
+      by-test (IfWhole top) (is_last e) _ _
+      (λ u. record { some = omega arith; held = omega arith; long = sym (at_after capacity start ws bs out i a refl refl refl) })
+      (λ u. run-whole message top n (i + 1) (total + length_in e) (omega arith) (at_after capacity start ws bs out i a refl refl refl)))
+      (λ t. tt)
 
 -- a whole message in front
-module _ (w : Window) (ws bs out : List ℕ) {m : Message} (c : m ≡ message_of w ws) (h : 0 < m.packets) where
-  pub front-whole : (m.packets ≤ w.held) × ((filled w.capacity w.start ws bs out m.packets).at ≡ m.bytes)
+module _ (w : Window) (ws bs out : List ℕ) {m : Message} (c : Some m ≡ message_of w ws) where
+  pub front-whole : Whole w.capacity w.start ws bs out w.held m
   unfolding message_of
   front-whole =
       let e = entry_in w ws 0 in
-      subst (Whole w.capacity w.start ws bs out w.held) (sym c)
-      (by-test (Whole w.capacity w.start ws bs out w.held) (is_first e) _ _
+      subst (IfWhole w.capacity w.start ws bs out w.held) (sym c)
+      (by-test (IfWhole w.capacity w.start ws bs out w.held) (is_first e) _ _
       (λ t. run-whole w.capacity w.start ws bs out (message_in e) w.held w.held 0 0 (omega arith) (at-start w.capacity w.start ws bs out))
-      (λ t p. absurd (omega arith)))
-      h
+      (λ t. tt))
 
   pub front-room : m.bytes ≤ length out → (filled w.capacity w.start ws bs out m.packets).at ≤ length out
-  front-room k = omega (arith, front-whole.1)
+  front-room k = omega (arith, front-whole.long)
 
-pub front-held : (w : Window) (ws : List ℕ) {m : Message} → m ≡ message_of w ws → 0 < m.packets → m.packets ≤ w.held
-front-held w ws c h = (front-whole w ws [] [] c h).0
+pub front-held : (w : Window) (ws : List ℕ) {m : Message} → Some m ≡ message_of w ws → m.packets ≤ w.held
+front-held w ws c = (front-whole w ws [] [] c).held
 
 pub read-most : (ws : List ℕ) (s : ℕ) {n : ℕ} {e : Entry} → n ≡ length_in e → e ≡ entry_at ws s → n ≤ 1456
 read-most ws s d c = omega (arith, d ∙ ap length_in c, length-read ws s)

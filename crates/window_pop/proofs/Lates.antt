@@ -6,12 +6,12 @@ use mathlib.Core.List.{List}
 use Prim.Native.Nat.{ℕ, zero, suc, ◌+◌, ◌-◌, ◌^◌, ◌<◌, ◌≤◌}
 use native.Mathlib.Omega.{arith}
 use borrow.Author.Rules.{rules}
-use borrow.Author.Tests.{eq-eqb, ne_eqb}
 use lib.IntN.{ℤ, pos, nat_abs, ◌+ℤ◌, ◌-ℤ◌}
 use mir.Syntax.{w64}
 use mir.Val.{SFits, to_z, of_z}
 use mir.Facts.{to_z_pos, to_z-of_z}
 use lib.Signed.{le_z}
+use Rattle.std.specs.Prelude.{Option, Some, None, ⊤}
 use Rattle.numbers.proofs.Flags.{impossible, by-test}
 use Rattle.numbers.proofs.Halves.{size-+, size--, fits-size}
 use Rattle.clock.specs.Base.{instant_of}
@@ -21,7 +21,7 @@ use Rattle.clock.proofs.Kept.{instant-near}
 use Rattle.slots.specs.Words.{is_received, entry_at, stamp_in, is_first}
 use Rattle.slots.specs.Ring.{slot_of}
 use Rattle.slots.specs.declared.entry.Entry.{Entry}
-use Rattle.window_pop.specs.Pop.{is_late, walked_to, walk_from, no_walk, due_of, limit_of}
+use Rattle.window_pop.specs.Pop.{is_late, walked_to, walk_from, due_of, limit_of}
 use Rattle.window_pop.specs.Inner.{is_kept, walk_past}
 use Rattle.window_pop.specs.declared.pop.Walk.{Walk}
 use Rattle.window.proofs.Walks.{walk-slot, walk-on, walk_start}
@@ -88,46 +88,41 @@ module _ (e : Entry) {t : Bool} (a : t ≡ is_received e) (f : t ≡ false) wher
   unfolding is_kept
   gap-not-kept base limit = rw (← a, f)
 
-  pub past-gap : (k : Walk) (i : ℕ) → k ≡ walk_past k i e
+  pub past-gap : (k : Option Walk) (i : ℕ) → k ≡ walk_past k i e
   unfolding walk_past
   past-gap k i = rw (← a, f)
 
 -- is_kept
-module _ (base : TimeBase) (limit : ℤ) (e : Entry) {t u : Bool} {l : ℤ} (a : t ≡ is_received e) (f : t ≡ true) (b : u ≡ is_late base l e) (p : l ≡ limit) where
-  pub not-kept : u ≡ true → false ≡ is_kept base limit e
-  unfolding is_kept
-  not-kept g = rw (← a, f, ← p, ← b, g)
-
-  pub kept : u ≡ false → true ≡ is_kept base limit e
-  unfolding is_kept
-  kept g = rw (← a, f, ← p, ← b, g)
+pub kept : (base : TimeBase) (limit : ℤ) (e : Entry) {t u : Bool} {l : ℤ} → t ≡ is_received e → t ≡ true → u ≡ is_late base l e → l ≡ limit → not u ≡ is_kept base limit e
+unfolding is_kept
+kept base limit e a f b p = rw (← a, f, ← p, ← b)
 
 -- walk_past
-module _ (k : Walk) (i : ℕ) (e : Entry) {t : Bool} (a : t ≡ is_received e) (f : t ≡ true) where
-  pub past_first : {stamp : ℕ} → k.count ≡ 0 → stamp ≡ stamp_in e → ◌≡◌ {A = Walk} (record { count = i + 1; first_stamp = stamp }) (walk_past k i e)
+module _ (k : Option Walk) (i : ℕ) (e : Entry) {t : Bool} (a : t ≡ is_received e) (f : t ≡ true) where
+  pub past_first : {stamp : ℕ} → k ≡ None → stamp ≡ stamp_in e → ◌≡◌ {A = Option Walk} (Some (record { count = i + 1; first_stamp = stamp })) (walk_past k i e)
   unfolding walk_past
-  past_first h b = rw (← a, f, eq-eqb k.count 0 h, ← b)
+  past_first h b = rw (← a, f, h, ← b)
 
-  pub past-later : (k.count ≡ 0 → ⊥) → ◌≡◌ {A = Walk} (record { count = i + 1; first_stamp = k.first_stamp }) (walk_past k i e)
+  pub past-later : {walk : Walk} → k ≡ Some walk → ◌≡◌ {A = Option Walk} (Some (record { count = i + 1; first_stamp = walk.first_stamp })) (walk_past k i e)
   unfolding walk_past
-  past-later h = rw (← a, f, ne_eqb k.count 0 h)
+  past-later h = rw (← a, f, h)
 
 -- walk_late: an entry that is kept, one that is not, by the tests of both
-stops : (f : Walk → Walk) (x y : Bool) (k k₁ : Walk) → (x && not y) ≡ true → cond x (cond y (f k₁) k) (f k) ≡ k
+stops : (f : Option Walk → Option Walk) (x y : Bool) (k k₁ : Option Walk) → (x && not y) ≡ true → cond x (cond y (f k₁) k) (f k) ≡ k
 stops f true true k k₁ e = impossible (sym e)
 stops f true false k k₁ e = refl
 stops f false y k k₁ e = impossible (sym e)
 
-goes : (f : Walk → Walk) (x y : Bool) (k k₁ : Walk) → (x && not y) ≡ false → cond x (cond y (f k₁) k) (f k) ≡ f (cond x k₁ k)
+goes : (f : Option Walk → Option Walk) (x y : Bool) (k k₁ : Option Walk) → (x && not y) ≡ false → cond x (cond y (f k₁) k) (f k) ≡ f (cond x k₁ k)
 goes f true true k k₁ e = refl
 goes f true false k k₁ e = impossible e
 goes f false y k k₁ e = refl
 
 pub late-start : (base : TimeBase) (limit : ℤ) (capacity start : ℕ) (ws : List ℕ) (held : ℕ)
-    → walk_from base limit capacity start ws 0 no_walk held ≡ walk_from base limit capacity start ws 0 no_walk (held - 0)
+    → walk_from base limit capacity start ws 0 None held ≡ walk_from base limit capacity start ws 0 None (held - 0)
 late-start base limit capacity start ws held = let e : held - 0 ≡ held = omega arith in rw e
 
-module _ (base : TimeBase) (limit : ℤ) (capacity start : ℕ) (ws : List ℕ) (i held : ℕ) (k : Walk) where
+module _ (base : TimeBase) (limit : ℤ) (capacity start : ℕ) (ws : List ℕ) (i held : ℕ) (k : Option Walk) where
   late-none : held ≤ i → walk_from base limit capacity start ws i k (held - i) ≡ k
   unfolding walk_from
   late-none h = let e : held - i ≡ 0 = omega arith in rw e
@@ -135,15 +130,15 @@ module _ (base : TimeBase) (limit : ℤ) (capacity start : ℕ) (ws : List ℕ) 
   abbrev here : Entry
   here = entry_at ws (slot_of capacity start i)
 
-  abbrev rest : Walk → Walk
+  abbrev rest : Option Walk → Option Walk
   rest k₁ = walk_from base limit capacity start ws (i + 1) k₁ (held - (i + 1))
 
   late-here : i < held
-      → walk_from base limit capacity start ws i k (held - i) ≡ cond (is_received here) (cond (is_late base limit here) (rest (walked_to k i here)) k) (rest k)
+      → walk_from base limit capacity start ws i k (held - i) ≡ cond (is_received here) (cond (is_late base limit here) (rest (Some (walked_to k i here))) k) (rest k)
   unfolding walk_from
   late-here h = let e : held - i ≡ suc (held - (i + 1)) = omega arith in rw e
 
-  module _ {r : Walk} (a : r ≡ walk_from base limit capacity start ws i k (held - i)) where
+  module _ {r : Option Walk} (a : r ≡ walk_from base limit capacity start ws i k (held - i)) where
     ended : held ≤ i → k ≡ r
     ended h = sym (a ∙ late-none h)
 
@@ -153,39 +148,47 @@ module _ (base : TimeBase) (limit : ℤ) (capacity start : ℕ) (ws : List ℕ) 
       tested = rw (← b, ← c, ← p) (sym d)
 
       found : t ≡ true → k ≡ r
-      found f = sym (a ∙ late-here h ∙ stops rest (is_received here) (is_late base limit here) k (walked_to k i here) (tested ∙ f))
+      found f = sym (a ∙ late-here h ∙ stops rest (is_received here) (is_late base limit here) k (Some (walked_to k i here)) (tested ∙ f))
 
-      pub late-again : {k₁ : Walk} → t ≡ false → k₁ ≡ walk_past k i e → r ≡ walk_from base limit capacity start ws (i + 1) k₁ (held - (i + 1))
+      pub late-again : {k₁ : Option Walk} → t ≡ false → k₁ ≡ walk_past k i e → r ≡ walk_from base limit capacity start ws (i + 1) k₁ (held - (i + 1))
       unfolding walk_past
       late-again f g =
-          a ∙ late-here h ∙ goes rest (is_received here) (is_late base limit here) k (walked_to k i here) (tested ∙ f) ∙ rw (← b, ← c) (ap rest (sym g))
+          a ∙ late-here h ∙ goes rest (is_received here) (is_late base limit here) k (Some (walked_to k i here)) (tested ∙ f) ∙ rw (← b, ← c) (ap rest (sym g))
 
 -- the loop has the limit as the machine reads it back, m
-module _ (base : TimeBase) (limit m : ℤ) (capacity start : ℕ) (ws : List ℕ) (i held : ℕ) (k : Walk)
-    (a : walk_from base m capacity start ws 0 no_walk held ≡ walk_from base m capacity start ws i k (held - i)) (q : m ≡ limit) where
-  read_back : {k₁ : Walk} → k₁ ≡ walk_from base m capacity start ws 0 no_walk held → k₁ ≡ walk_from base limit capacity start ws 0 no_walk held
-  read_back e = e ∙ ap (λ (z : ℤ). walk_from base z capacity start ws 0 no_walk held) q
+module _ (base : TimeBase) (limit m : ℤ) (capacity start : ℕ) (ws : List ℕ) (i held : ℕ) (k : Option Walk)
+    (a : walk_from base m capacity start ws 0 None held ≡ walk_from base m capacity start ws i k (held - i)) (q : m ≡ limit) where
+  read_back : {k₁ : Option Walk} → k₁ ≡ walk_from base m capacity start ws 0 None held → k₁ ≡ walk_from base limit capacity start ws 0 None held
+  read_back e = e ∙ ap (λ (z : ℤ). walk_from base z capacity start ws 0 None held) q
 
-  pub late-end : held ≤ i → k ≡ walk_from base limit capacity start ws 0 no_walk held
+  pub late-end : held ≤ i → k ≡ walk_from base limit capacity start ws 0 None held
   late-end h = read_back (ended base m capacity start ws i held k a h)
 
   pub late-found : {s : ℕ} {e : Entry} {t : Bool} {l : ℤ} → i < held → s ≡ slot_of capacity start i → e ≡ entry_at ws s → t ≡ is_kept base l e → l ≡ m → t ≡ true
-      → k ≡ walk_from base limit capacity start ws 0 no_walk held
+      → k ≡ walk_from base limit capacity start ws 0 None held
   late-found h b c d p f = read_back (found base m capacity start ws i held k a h b c d p f)
 
--- it discards no more entries than there are
-pub walk-held : (base : TimeBase) (limit : ℤ) (capacity start : ℕ) (ws : List ℕ) (top n i : ℕ) (k : Walk)
-    → i + n ≤ top → k.count ≤ top → (walk_from base limit capacity start ws i k n).count ≤ top
+-- it discards one entry at least, and no more than there are
+abbrev pub Walked : ℕ → Option Walk → Type 0
+Walked top (Some k) = (0 < k.count) × (k.count ≤ top)
+Walked top None = ⊤
+
+pub walk-held : (base : TimeBase) (limit : ℤ) (capacity start : ℕ) (ws : List ℕ) (top n i : ℕ) (k : Option Walk)
+    → i + n ≤ top → Walked top k → Walked top (walk_from base limit capacity start ws i k n)
 unfolding walk_from
 walk-held base limit capacity start ws top zero i k h g = g
 walk-held base limit capacity start ws top (suc n) i k h g =
     let e = entry_at ws (slot_of capacity start i) in
-    by-test (λ (x : Walk). x.count ≤ top) (is_received e) _ _
+    by-test (Walked top) (is_received e) _ _
     (λ t.
-    by-test (λ (x : Walk). x.count ≤ top) (is_late base limit e) _ _
-    (λ u. walk-held base limit capacity start ws top n (i + 1) (walked_to k i e) (omega arith) (omega arith))
+    by-test (Walked top) (is_late base limit e) _ _
+    (λ u. walk-held base limit capacity start ws top n (i + 1) (Some (walked_to k i e)) (omega arith) (walked k i e (omega arith)))
     (λ u. g))
     (λ t. walk-held base limit capacity start ws top n (i + 1) k (omega arith) g)
+  where
+    walked : (k : Option Walk) (i : ℕ) (e : Entry) → i < top → Walked top (Some (walked_to k i e))
+    walked (Some k) i e l = (omega arith, omega arith)
+    walked None i e l = (omega arith, omega arith)
 
 pub ruleset lates = (
   latency-reads,
@@ -198,7 +201,6 @@ pub ruleset lates = (
   late-unmarked,
   gap-not-kept,
   past-gap,
-  not-kept,
   kept,
   past_first,
   past-later,

@@ -1,5 +1,5 @@
 -- `pop_of` and `walk_from` as the code has them: no rule of 01 of its own.
-use Rattle.std.specs.Prelude.{Bool, not, ◌&&◌, cond, List, ℕ, eqb, ℤ}
+use Rattle.std.specs.Prelude.{Bool, not, ◌&&◌, cond, List, ℕ, eqb, ℤ, Option, Some}
 use Rattle.clock.specs.declared.base.TimeBase.{TimeBase}
 use Rattle.slots.specs.Words.{is_received}
 use Rattle.slots.specs.declared.entry.Entry.{Entry}
@@ -13,8 +13,8 @@ use Rattle.window_pop.specs.declared.pop.Walk.{Walk}
 unfoldable pub is_kept : TimeBase → ℤ → Entry → Bool
 is_kept base limit e = is_received e && not (is_late base limit e)
 
-unfoldable pub walk_past : Walk → ℕ → Entry → Walk
-walk_past k i e = cond (is_received e) (walked_to k i e) k
+unfoldable pub walk_past : Option Walk → ℕ → Entry → Option Walk
+walk_past k i e = cond (is_received e) (Some (walked_to k i e)) k
 
 -- the front, or given up where there is none: `pop_of` by one test, as the code has it
 unfoldable pub front_in : Window → List ℕ → Entry

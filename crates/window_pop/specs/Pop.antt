@@ -1,5 +1,5 @@
 -- Pop: 01, "Window", from "Pop: if the front is received" to "+ latency)".
-use Rattle.std.specs.Prelude.{Bool, not, ◌&&◌, ◌||◌, cond, List, ℕ, zero, suc, ◌+◌, ltb, eqb, ℤ, pos, ◌+ℤ◌, ◌-ℤ◌, length}
+use Rattle.std.specs.Prelude.{Bool, not, ◌&&◌, ◌||◌, cond, List, ℕ, zero, suc, ◌+◌, ltb, ℤ, pos, ◌+ℤ◌, ◌-ℤ◌, length, Option, Some, None, Result, Ok, Err}
 use Rattle.std.proofs.Math.Seq.{paste}
 use Rattle.std.specs.Int.Signed.{lt_z, le_z}
 use Rattle.numbers.specs.Instants.{interval_of}
@@ -15,36 +15,48 @@ use Rattle.window.specs.declared.Window.{Window}
 use Rattle.window_pop.specs.declared.pop.Message.{Message}
 use Rattle.window_pop.specs.declared.pop.Walk.{Walk}
 use Rattle.window_pop.specs.declared.pop.Popped.{Popped}
+use Rattle.window_pop.specs.declared.pop.OutShort.{OutShort}
+use Rattle.window_pop.specs.declared.pop.PopAnswer.{PopAnswer}
 use Rattle.window_pop.specs.declared.pop.PopAnswer.TheVariants as answers
 
--- all that a pop leaves: window, clock and answer, and the output
+-- all that a pop leaves: window, clock and answer, or refusal 11; and the output
 pub record PopOutcome : Type 0 where
-  pub popped : Popped
+  pub popped : Result Popped OutShort
   pub output : List ℕ
 
-abbrev pub pop_ended : Popped → List ℕ → PopOutcome
+abbrev pub pop_ended : Result Popped OutShort → List ℕ → PopOutcome
 pop_ended r out = record { popped = r; output = out }
 
--- no whole message
-abbrev pub no_message : Message
-no_message = record { packets = 0; bytes = 0 }
+-- the window and the clock after it: those of a refusal are as they were
+abbrev pub window_after : Window → Result Popped OutShort → Window
+window_after w (Ok r) = r.window
+window_after w (Err e) = w
+
+abbrev pub clock_after : SynchronizedRemoteClock → Result Popped OutShort → SynchronizedRemoteClock
+clock_after k (Ok r) = r.clock
+clock_after k (Err e) = k
+
+-- what it answers
+abbrev pub answered : Result Popped OutShort → Result PopAnswer OutShort
+answered (Ok r) = Ok r.answer
+answered (Err e) = Err e
 
 -- the run of received entries with this message number, through the first LAST: n entries are left from entry i on, `total` bytes lie before it
-unfoldable pub run_from : ℕ → ℕ → List ℕ → ℕ → ℕ → ℕ → ℕ → Message
-run_from capacity start ws message i total zero = no_message
+unfoldable pub run_from : ℕ → ℕ → List ℕ → ℕ → ℕ → ℕ → ℕ → Option Message
+run_from capacity start ws message i total zero = None
 run_from capacity start ws message i total (suc n) =
     let e = entry_at ws (slot_of capacity start i) in
     cond (in_message message e)
     (cond (is_last e)
-    (record { packets = i + 1; bytes = total + length_in e })
+    (Some (record { packets = i + 1; bytes = total + length_in e }))
     (run_from capacity start ws message (i + 1) (total + length_in e) n))
-    no_message
+    None
 
 -- count the message: with the front's message number, the first with FIRST
-unfoldable pub message_of : Window → List ℕ → Message
+unfoldable pub message_of : Window → List ℕ → Option Message
 message_of w ws =
     let e = entry_in w ws 0 in
-    cond (is_first e) (run_from w.capacity w.start ws (message_in e) 0 0 w.held) no_message
+    cond (is_first e) (run_from w.capacity w.start ws (message_in e) 0 0 w.held) None
 
 -- the payloads of the first n entries, in order, in the output
 pub record Filled : Type 0 where
@@ -64,20 +76,18 @@ unfoldable pub is_late : TimeBase → ℤ → Entry → Bool
 is_late base limit e = le_z (instant_of base (stamp_in e)) limit || not (is_first e)
 
 -- one more received entry walked: entry i
-abbrev pub walked_to : Walk → ℕ → Entry → Walk
-walked_to k i e = record { count = i + 1; first_stamp = cond (eqb k.count 0) (stamp_in e) k.first_stamp }
+abbrev pub walked_to : Option Walk → ℕ → Entry → Walk
+walked_to None i e = record { count = i + 1; first_stamp = stamp_in e }
+walked_to (Some k) i e = record { count = i + 1; first_stamp = k.first_stamp }
 
--- no received entry walked
-abbrev pub no_walk : Walk
-no_walk = record { count = 0; first_stamp = 0 }
-
--- the walk over entries not received, or late: how many entries go through the last received one walked, and the stamp of the first
-unfoldable pub walk_from : TimeBase → ℤ → ℕ → ℕ → List ℕ → ℕ → Walk → ℕ → Walk
+-- the walk over entries not received, or late: how many entries go through the last received one walked, if there is one,
+-- and the stamp of the first
+unfoldable pub walk_from : TimeBase → ℤ → ℕ → ℕ → List ℕ → ℕ → Option Walk → ℕ → Option Walk
 walk_from base limit capacity start ws i k zero = k
 walk_from base limit capacity start ws i k (suc n) =
     let e = entry_at ws (slot_of capacity start i) in
     cond (is_received e)
-    (cond (is_late base limit e) (walk_from base limit capacity start ws (i + 1) (walked_to k i e) n) k)
+    (cond (is_late base limit e) (walk_from base limit capacity start ws (i + 1) (Some (walked_to k i e)) n) k)
     (walk_from base limit capacity start ws (i + 1) k n)
 
 -- time + latency
@@ -96,27 +106,27 @@ unfoldable pub discard_front : Window → List ℕ → ℕ → Window
 discard_front w ws n = with_lrsn (cut w n) (lrsn_from (cut w n) ws 0)
 
 -- discard through the last received one walked (none: nothing)
-unfoldable pub discarded : SynchronizedRemoteClock → ℕ → Window → List ℕ → ℤ → Walk → Popped
-discarded k latency w ws now walk =
-    cond (eqb walk.count 0)
-    (nothing k w)
-    (record {
+unfoldable pub discarded : SynchronizedRemoteClock → ℕ → Window → List ℕ → ℤ → Option Walk → Popped
+discarded k latency w ws now None = nothing k w
+discarded k latency w ws now (Some walk) =
+    record {
       window = discard_front w ws walk.count;
       clock = k;
       answer = answers.Late w.seqno0 (number_in w walk.count) (interval_of (due_of k.base latency walk.first_stamp) now);
-    })
+    }
 
 -- refusal 11 if the message is longer than the output; else its payloads in order, and the release time
 unfoldable pub released_of : SynchronizedRemoteClock → Window → List ℕ → List ℕ → List ℕ → ℕ → Message → PopOutcome
 released_of k w ws bs out stamp m =
     cond (ltb (length out) m.bytes)
-    (pop_ended (record { window = w; clock = k; answer = answers.OutShort }) out)
+    (pop_ended (Err (record {})) out)
     (pop_ended
+    (Ok
     (record {
       window = cut w m.packets;
       clock = (release_of k stamp).clock;
       answer = answers.Message (release_of k stamp).time m.bytes m.packets;
-    })
+    }))
     (filled w.capacity w.start ws bs out m.packets).out)
 
 module _ (k : SynchronizedRemoteClock) (latency : ℕ) (drop : Bool) (w : Window) (ws : List ℕ) (now : ℤ) where
@@ -124,19 +134,21 @@ module _ (k : SynchronizedRemoteClock) (latency : ℕ) (drop : Bool) (w : Window
   unfoldable pub late_of : Popped
   late_of =
       cond drop
-      (discarded k latency w ws now (walk_from k.base (limit_of now latency) w.capacity w.start ws 0 no_walk w.held))
+      (discarded k latency w ws now (walk_from k.base (limit_of now latency) w.capacity w.start ws 0 None w.held))
       (nothing k w)
 
   module _ (bs out : List ℕ) where
-    -- the front is received: nothing if now is before its time + latency; if complete, release; otherwise the late walk
+    -- if complete, release; otherwise the late walk
+    abbrev pub by_message : ℕ → Option Message → PopOutcome
+    by_message stamp (Some m) = released_of k w ws bs out stamp m
+    by_message stamp None = pop_ended (Ok late_of) out
+
+    -- the front is received: nothing if now is before its time + latency
     unfoldable pub front_of : ℕ → PopOutcome
-    front_of stamp =
-        cond (lt_z now (due_of k.base latency stamp))
-        (pop_ended (nothing k w) out)
-        (cond (ltb 0 (message_of w ws).packets) (released_of k w ws bs out stamp (message_of w ws)) (pop_ended late_of out))
+    front_of stamp = cond (lt_z now (due_of k.base latency stamp)) (pop_ended (Ok (nothing k w)) out) (by_message stamp (message_of w ws))
 
     unfoldable pub pop_of : PopOutcome
     pop_of =
         cond (ltb 0 w.held && is_received (entry_in w ws 0))
         (front_of (stamp_in (entry_in w ws 0)))
-        (pop_ended late_of out)
+        (pop_ended (Ok late_of) out)

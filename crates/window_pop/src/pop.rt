@@ -1,9 +1,9 @@
 // Pop, buffer.rs `pop_next_message` and `drop_too_late_packets`: 01, "Window".
-ghost use Rattle.std.specs.Prelude.{◌≡◌, ◌+◌, ◌*◌, ◌<◌, ◌≤◌, ◌^◌, nat_abs, length};
+ghost use Rattle.std.specs.Prelude.{◌≡◌, ◌+◌, ◌*◌, ◌<◌, ◌≤◌, ◌^◌, nat_abs, length, Some, None};
 ghost use Rattle.std.proofs.Math.Seq.{paste};
 ghost use Rattle.slots.specs.Ring.{payload_at};
 ghost use Rattle.window.specs.Ready.{Ring, Good, Bytes};
-ghost use Rattle.window_pop.specs.Pop.{pop_ended, run_from, message_of, filled, is_late, walk_from, no_walk, discard_front, discarded, late_of, released_of, front_of, pop_of, due_of, limit_of};
+ghost use Rattle.window_pop.specs.Pop.{pop_ended, run_from, message_of, filled, is_late, walk_from, discard_front, discarded, late_of, released_of, front_of, pop_of, due_of, limit_of};
 ghost use Rattle.window_pop.specs.Ready.{PopReady};
 ghost use Rattle.window_pop.specs.Inner.{is_kept, walk_past, front_in};
 
@@ -12,21 +12,22 @@ use clock::time::SynchronizedRemoteClock;
 use slots::entry::Entry;
 use window::Window;
 
-// A message in front; 0 packets where there is no whole one.
-#[derive(Clone, Copy)]
+// A whole message in front.
+#[derive(Clone, Copy, PartialEq, Eq, Debug)]
 pub struct Message {
     pub packets: usize,
     pub bytes: usize,
 }
 
 // How far a late walk discards, and the stamp of the first received entry walked.
-#[derive(Drop)]
+#[derive(Clone, Copy, PartialEq, Eq, Debug)]
 pub struct Walk {
     pub count: usize,
     pub first_stamp: u32,
 }
 
-#[derive(Drop)]
+// Three answers, each with a line of its own in 01: an Option of the other two is no plainer than Nothing beside them.
+#[derive(Clone, Copy, PartialEq, Eq, Debug)]
 pub enum PopAnswer {
     Nothing,
     Message {
@@ -39,10 +40,13 @@ pub enum PopAnswer {
         end: u32,
         delay: i32,
     },
-    OutShort,
 }
 
-#[derive(Drop)]
+// Refusal 11: the message in front is longer than the output.
+#[derive(Clone, Copy, PartialEq, Eq, Debug)]
+pub struct OutShort;
+
+#[derive(Clone, Copy)]
 pub struct Popped {
     pub window: Window,
     pub clock: SynchronizedRemoteClock,
@@ -50,57 +54,51 @@ pub struct Popped {
 }
 
 // The run of received entries with this message number, through the first LAST.
-fn count_run(words: &[u64], capacity: usize, start: usize, held: usize, message: u32) -> Message
+fn count_run(
+    words: &[u64],
+    capacity: usize,
+    start: usize,
+    held: usize,
+    message: u32,
+) -> Option<Message>
     requires { Ring capacity start held words.now }
     ensures { result ≡ run_from capacity start words.now message 0 0 held }
 {
-    let mut i = 0;
     let mut s = start;
     let mut total = 0;
-    while i < held {
+    for i in 0..held {
         let e = slots::entry::read_at(words, s);
-        if slots::entry::in_message(message, e) {
-            total += slots::entry::length_in(e);
-            i += 1;
-            if slots::entry::is_last(e) {
-                return Message {
-                    packets: i,
-                    bytes: total,
-                };
-            }
-            s = slots::ring::next_slot(capacity, s);
-        } else {
-            return Message {
-                packets: 0,
-                bytes: 0,
-            };
+        if !slots::entry::in_message(message, e) {
+            return None;
         }
+        total += slots::entry::length_in(e);
+        if slots::entry::is_last(e) {
+            return Some(Message {
+                packets: i + 1,
+                bytes: total,
+            });
+        }
+        s = slots::ring::next_slot(capacity, s);
     }
-    Message {
-        packets: 0,
-        bytes: 0,
-    }
+    None
 }
 
 // The message in front: the first entry with FIRST, and the run with its message number.
-fn message_in_front(w: Window, words: &[u64]) -> Message
+fn message_in_front(w: Window, words: &[u64]) -> Option<Message>
     requires { Good w words.now }
     ensures { result ≡ message_of w words.now }
 {
     let e = slots::entry::read_at(words, w.start);
-    if slots::entry::is_first(e) {
-        return count_run(
-            words,
-            w.capacity,
-            w.start,
-            w.held,
-            slots::entry::message_in(e),
-        );
+    if !slots::entry::is_first(e) {
+        return None;
     }
-    Message {
-        packets: 0,
-        bytes: 0,
-    }
+    count_run(
+        words,
+        w.capacity,
+        w.start,
+        w.held,
+        slots::entry::message_in(e),
+    )
 }
 
 // Puts the payload in slot s, n bytes of it, into the output.
@@ -118,14 +116,12 @@ fn fill(words: &[u64], bytes: &[u8], capacity: usize, start: usize, count: usize
     requires { Ring capacity start count words.now × (1456 * capacity ≤ length bytes.now) × ((filled capacity start words.now bytes.now out.old count).at ≤ length out.old) }
     ensures { out.new ≡ (filled capacity start words.now bytes.now out.old count).out }
 {
-    let mut i = 0;
     let mut s = start;
     let mut at = 0;
-    while i < count {
+    for _ in 0..count {
         let n = slots::entry::length_in(slots::entry::read_at(words, s));
         put_payload(bytes, s, n, out, at);
         at += n;
-        i += 1;
         s = slots::ring::next_slot(capacity, s);
     }
 }
@@ -161,33 +157,27 @@ fn is_kept(base: TimeBase, limit: i64, e: Entry) -> bool
     requires { nat_abs base.time ≤ 2 ^ 61 }
     ensures { result ≡ is_kept base limit e }
 {
-    if slots::entry::is_received(e) {
-        if is_late(base, limit, e) {
-            return false;
-        }
-        return true;
-    }
-    false
+    slots::entry::is_received(e) && !is_late(base, limit, e)
 }
 
 // The walk after entry i.
-fn walk_past(k: Walk, i: usize, e: Entry) -> Walk
+fn walk_past(k: Option<Walk>, i: usize, e: Entry) -> Option<Walk>
     requires { i < 8192 }
     ensures { result ≡ walk_past k i e }
 {
-    if slots::entry::is_received(e) {
-        if k.count == 0 {
-            return Walk {
-                count: i + 1,
-                first_stamp: slots::entry::stamp_in(e),
-            };
-        }
-        return Walk {
-            count: i + 1,
-            first_stamp: k.first_stamp,
-        };
+    if !slots::entry::is_received(e) {
+        return k;
     }
-    k
+    match k {
+        Some(walk) => Some(Walk {
+            count: i + 1,
+            ..walk
+        }),
+        None => Some(Walk {
+            count: i + 1,
+            first_stamp: slots::entry::stamp_in(e),
+        }),
+    }
 }
 
 // The walk from the front over entries not received, or late.
@@ -198,23 +188,18 @@ fn walk_late(
     held: usize,
     base: TimeBase,
     limit: i64,
-) -> Walk
+) -> Option<Walk>
     requires { Ring capacity start held words.now × (nat_abs base.time ≤ 2 ^ 61) }
-    ensures { result ≡ walk_from base limit capacity start words.now 0 no_walk held }
+    ensures { result ≡ walk_from base limit capacity start words.now 0 None held }
 {
-    let mut i = 0;
     let mut s = start;
-    let mut k = Walk {
-        count: 0,
-        first_stamp: 0,
-    };
-    while i < held {
+    let mut k = None;
+    for i in 0..held {
         let e = slots::entry::read_at(words, s);
         if is_kept(base, limit, e) {
             return k;
         }
         k = walk_past(k, i, e);
-        i += 1;
         s = slots::ring::next_slot(capacity, s);
     }
     k
@@ -227,13 +212,7 @@ fn discard_front(w: Window, words: &[u64], n: usize) -> Window
 {
     let c = window::cut_front(w, n);
     let lrsn = window::search_lrsn(c, words, 0);
-    Window {
-        capacity: c.capacity,
-        start: c.start,
-        held: c.held,
-        seqno0: c.seqno0,
-        lrsn,
-    }
+    Window { lrsn, ..c }
 }
 
 // Discards through the last received entry walked.
@@ -246,27 +225,18 @@ fn discard(
     walk: Walk,
 ) -> Popped
     requires { Good w words.now × (walk.count ≤ w.held) × (nat_abs clock.base.time ≤ 2 ^ 61) × (latency ≤ 65535000) }
-    ensures { result ≡ discarded clock latency w words.now time walk }
+    ensures { result ≡ discarded clock latency w words.now time (Some walk) }
 {
-    if walk.count == 0 {
-        return Popped {
-            window: w,
-            clock,
-            answer: PopAnswer::Nothing,
-        };
-    }
-    let base = clock.base;
-    let delay = numbers::instant::interval(due(base, latency, walk.first_stamp), time);
+    let delay = numbers::instant::interval(due(clock.base, latency, walk.first_stamp), time);
     let window = discard_front(w, words, walk.count);
-    let answer = PopAnswer::Late {
-        first: w.seqno0,
-        end: window.seqno0,
-        delay,
-    };
     Popped {
         window,
         clock,
-        answer,
+        answer: PopAnswer::Late {
+            first: w.seqno0,
+            end: window.seqno0,
+            delay,
+        },
     }
 }
 
@@ -282,16 +252,18 @@ fn drop_late(
     requires { Good w words.now × (nat_abs clock.base.time ≤ 2 ^ 61) × (nat_abs time < 2 ^ 60) × (latency ≤ 65535000) }
     ensures { result ≡ late_of clock latency late_drop w words.now time }
 {
-    if late_drop {
-        let base = clock.base;
-        let limit = late_limit(time, latency);
-        let walk = walk_late(words, w.capacity, w.start, w.held, base, limit);
-        return discard(w, clock, latency, words, time, walk);
-    }
-    Popped {
+    let nothing = Popped {
         window: w,
         clock,
         answer: PopAnswer::Nothing,
+    };
+    if !late_drop {
+        return nothing;
+    }
+    let limit = late_limit(time, latency);
+    match walk_late(words, w.capacity, w.start, w.held, clock.base, limit) {
+        Some(walk) => discard(w, clock, latency, words, time, walk),
+        None => nothing,
     }
 }
 
@@ -304,31 +276,24 @@ fn release(
     out: &mut [u8],
     stamp: u32,
     m: Message,
-) -> Popped
-    requires { Good w words.now × Bytes w bytes.now × (nat_abs clock.base.time ≤ 2 ^ 61) × (m ≡ message_of w words.now) × (0 < m.packets) }
+) -> Result<Popped, OutShort>
+    requires { Good w words.now × Bytes w bytes.now × (nat_abs clock.base.time ≤ 2 ^ 61) × (Some m ≡ message_of w words.now) }
     ensures { pop_ended result out.new ≡ released_of clock w words.now bytes.now out.old stamp m }
 {
     if out.len() < m.bytes {
-        return Popped {
-            window: w,
-            clock,
-            answer: PopAnswer::OutShort,
-        };
+        return Err(OutShort);
     }
     fill(words, bytes, w.capacity, w.start, m.packets, out);
-    let window = window::cut_front(w, m.packets);
     let released = clock.monotonic_instant_from(stamp);
-    let next = released.clock;
-    let answer = PopAnswer::Message {
-        time: released.time,
-        bytes: m.bytes,
-        packets: m.packets,
-    };
-    Popped {
-        window,
-        clock: next,
-        answer,
-    }
+    Ok(Popped {
+        window: window::cut_front(w, m.packets),
+        clock: released.clock,
+        answer: PopAnswer::Message {
+            time: released.time,
+            bytes: m.bytes,
+            packets: m.packets,
+        },
+    })
 }
 
 // The front is received: nothing before its time + latency, else its message if that is whole.
@@ -342,26 +307,24 @@ fn pop_front(
     out: &mut [u8],
     time: i64,
     stamp: u32,
-) -> Popped
+) -> Result<Popped, OutShort>
     requires { PopReady clock latency w words.now bytes.now time }
     ensures { pop_ended result out.new ≡ front_of clock latency late_drop w words.now time bytes.now out.old stamp }
 {
-    let base = clock.base;
-    if time < due(base, latency, stamp) {
-        return Popped {
+    if time < due(clock.base, latency, stamp) {
+        return Ok(Popped {
             window: w,
             clock,
             answer: PopAnswer::Nothing,
-        };
+        });
     }
-    let m = message_in_front(w, words);
-    if 0 < m.packets {
-        return release(w, clock, words, bytes, out, stamp, m);
+    match message_in_front(w, words) {
+        Some(m) => release(w, clock, words, bytes, out, stamp, m),
+        None => Ok(drop_late(w, clock, latency, late_drop, words, time)),
     }
-    drop_late(w, clock, latency, late_drop, words, time)
 }
 
-// The front, or given up where there is none.
+// The front, or given up where there is none: one test then tells pop both, which an option would split in two.
 fn front(w: Window, words: &[u64]) -> Entry
     requires { Good w words.now }
     ensures { result ≡ front_in w words.now }
@@ -372,7 +335,7 @@ fn front(w: Window, words: &[u64]) -> Entry
     slots::entry::read_at(words, w.start)
 }
 
-// A pop at a reading of the clock.
+// A pop at a reading. Clock, latency and late dropping stand apart, as in the definitions: a struct is no plainer.
 pub fn pop(
     w: Window,
     clock: SynchronizedRemoteClock,
@@ -382,7 +345,7 @@ pub fn pop(
     bytes: &[u8],
     out: &mut [u8],
     time: i64,
-) -> Popped
+) -> Result<Popped, OutShort>
     requires { PopReady clock latency w words.now bytes.now time }
     ensures { pop_ended result out.new ≡ pop_of clock latency late_drop w words.now time bytes.now out.old }
 {
@@ -400,5 +363,5 @@ pub fn pop(
             slots::entry::stamp_in(e),
         );
     }
-    drop_late(w, clock, latency, late_drop, words, time)
+    Ok(drop_late(w, clock, latency, late_drop, words, time))
 }

@@ -2,12 +2,13 @@
 use mathlib.Core.Path.{◌≡◌, sym, ◌∙◌, ap}
 use mathlib.Core.List.{List}
 use Prim.Native.Nat.{ℕ}
+use Rattle.std.specs.Prelude.{Option, Result}
 use Rattle.window_report.specs.Drop.{Dropped, drop_ended}
 use Rattle.window_report.specs.Report.{ReportOutcome, report_ended}
-use Rattle.window_report.specs.declared.report.ReportAnswer.{ReportAnswer}
+use Rattle.window_report.specs.declared.report.ListShort.{ListShort}
 
 -- the answer, the slot area and the list of loss words
-pub report-determined : {o : ReportOutcome} (r s : ReportAnswer) (ws₁ ws₂ list₁ list₂ : List ℕ) → report_ended r ws₁ list₁ ≡ o → report_ended s ws₂ list₂ ≡ o
+pub report-determined : {o : ReportOutcome} (r s : Result (Option ℕ) ListShort) (ws₁ ws₂ list₁ list₂ : List ℕ) → report_ended r ws₁ list₁ ≡ o → report_ended s ws₂ list₂ ≡ o
     → (r ≡ s) × ((ws₁ ≡ ws₂) × (list₁ ≡ list₂))
 report-determined r s ws₁ ws₂ list₁ list₂ p q =
     let e = p ∙ sym q in

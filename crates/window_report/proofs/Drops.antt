@@ -2,7 +2,7 @@
 use mathlib.Core.Path.{◌≡◌, ap, ◌∙◌}
 use mathlib.Core.Bool.{Bool, true, false}
 use mathlib.Core.List.{List}
-use Prim.Native.Nat.{ℕ, suc, ◌+◌, ◌-◌, ◌*◌, ◌<◌, ◌≤◌}
+use Prim.Native.Nat.{ℕ, suc, ◌+◌, ◌-◌, ◌*◌, ◌<◌, ◌≤◌, min}
 use native.Mathlib.Omega.{arith}
 use borrow.Author.Rules.{rules}
 use lib.ListN.{length}
@@ -18,14 +18,9 @@ use Rattle.slots.proofs.Laws.{slot-words-kept}
 use Rattle.window_report.proofs.DropLaws.{sweep-most, sweep-long}
 
 -- end_in
-module _ (w : Window) (number : ℕ) {d : ℕ} (e : d ≡ saturating 31 number w.seqno0) where
-  pub end-inside : d < w.held → d ≡ end_in w number
-  unfolding end_in
-  end-inside h = omega arith
-
-  pub end-past : w.held ≤ d → w.held ≡ end_in w number
-  unfolding end_in
-  end-past h = omega arith
+pub end-inside : (w : Window) (number : ℕ) {d n : ℕ} → d ≡ saturating 31 number w.seqno0 → n ≡ min d w.held → n ≡ end_in w number
+unfolding end_in
+end-inside w number e q = q ∙ rw e
 
 -- give_up_one
 module _ (s n : ℕ) (ws : List ℕ) {e : Entry} {t : Bool} (a : e ≡ entry_at ws s) (b : t ≡ is_lost e) where
@@ -81,7 +76,6 @@ module _ (w : Window) (ws : List ℕ) (first last : ℕ) {f t l : ℕ} (a : f �
 
 pub ruleset drops = (
   end-inside,
-  end-past,
   given,
   stays,
   sweep-start,

@@ -1,5 +1,5 @@
 -- Laws of the loss report: 01, "Window". Assumes nothing.
-use mathlib.Core.Path.{◌≡◌, refl, sym, ◌∙◌}
+use mathlib.Core.Path.{◌≡◌, refl, sym, ◌∙◌, subst}
 use mathlib.Core.Bool.{Bool, true, false, cond}
 use mathlib.Core.List.{List}
 use Prim.Native.Nat.{ℕ, zero, suc, ◌+◌, ◌-◌, ◌*◌, ◌^◌, ◌<◌, ◌≤◌, min}
@@ -10,6 +10,7 @@ use lib.Dec.{ltb, eqb}
 use lib.IntN.{ℤ, nat_abs}
 use lib.ListN.{length, drop, length-set}
 use lib.Seq.{drop-set-lt}
+use Rattle.std.specs.Prelude.{Option, Some, None, Ok, Err}
 use Rattle.numbers.proofs.Flags.{by-test, by_bool, by-order, impossible}
 use Rattle.slots.specs.Words.{is_lost, entry_at, write_report}
 use Rattle.slots.specs.declared.entry.Entry.{Entry}
@@ -18,75 +19,79 @@ use Rattle.slots.proofs.Laws.{length-report, read-report, report-other, report-o
 use Rattle.slots.proofs.Steps.{slot-low, slot-high}
 use Rattle.window.specs.Ready.{Good}
 use Rattle.window.proofs.Walks.{one_less}
-use Rattle.window_report.specs.Report.{is_due, k_after, run_words, runs_after, slot_no, due_at, slots_to, runs_to, run_put, list_to, needed, list_all, ReportOutcome, report_ended, report_of}
-use Rattle.window_report.specs.Inner.{Within, reporting, report_one, reported_to, due_from, any_due}
+use Rattle.window_report.specs.Report.{is_due, k_after, words_of, run_words, first_at, runs_after, run_at, slot_no, due_at, slots_to, runs_to, run_put, list_to, needed, list_all, ReportOutcome, report_ended, report_of}
+use Rattle.window_report.specs.Inner.{Before, Within, reporting, report_one, reported_to, due_from, any_due}
 use Rattle.window.specs.declared.Window.{Window}
 use Rattle.window_report.specs.declared.report.Runs.{Runs}
-use Rattle.window_report.specs.declared.report.ReportAnswer.TheVariants as answers
 
--- a run has at most two words
+-- a run has at most two words, and one at least
+words-two : (o : Option ℕ) (i : ℕ) → words_of o i ≤ 2
+words-two (Some f) i = by-test (λ (n : ℕ). n ≤ 2) (eqb (f + 1) i) _ _ (λ u. omega arith) (λ u. omega arith)
+words-two None i = omega arith
+
+words-one : (f i : ℕ) → 0 < words_of (Some f) i
+words-one f i = by-test (λ (n : ℕ). 0 < n) (eqb (f + 1) i) _ _ (λ u. omega arith) (λ u. omega arith)
+
 pub words-most : (r : Runs) (i : ℕ) → run_words r i ≤ 2
-words-most r i =
-    by-test (λ (n : ℕ). n ≤ 2) r.going _ _
-    (λ t. by-test (λ (n : ℕ). n ≤ 2) (eqb (r.first + 1) i) _ _ (λ u. omega arith) (λ u. omega arith))
-    (λ t. omega arith)
+words-most r i = words-two r.first i
 
-run-some : (r : Runs) (i : ℕ) → r.going ≡ true → 0 < run_words r i
-run-some r i t =
-    rw t (by-test (λ (n : ℕ). 0 < n) (eqb (r.first + 1) i) _ _ (λ u. omega arith) (λ u. omega arith))
+pub run-some : (r : Runs) (i : ℕ) {f : ℕ} → r.first ≡ Some f → 0 < run_words r i
+run-some r i {f} t = rw t (words-one f i)
+
+-- a run that is going on began before entry i
+pub began : {r : Runs} {i f : ℕ} → Within r i → r.first ≡ Some f → f < i
+began {r} {i} h t = subst (λ (o : Option ℕ). Before o i) t h.before
 
 -- an entry more keeps the bounds of the walk
 within-after : (r : Runs) (i : ℕ) (d : Bool) → Within r i → Within (runs_after r i d) (suc i)
-within-after r i true h =
-    by-test (λ (f : ℕ). Within (record { words = r.words; going = true; first = f }) (suc i)) r.going r.first i
-    (λ t. record { words = omega arith; first = omega arith; before = λ u. omega arith })
-    (λ t. record { words = omega arith; first = omega arith; before = λ u. omega arith })
-within-after r i false h =
-    let l = words-most r i in
-    record { words = omega arith; first = omega arith; before = λ u. impossible (sym u) }
+within-after r i true h = record { words = omega (arith, h.words); before = go r.first h.before }
+  where
+    go : (o : Option ℕ) → Before o i → first_at o i < suc i
+    go (Some f) b = omega arith
+    go None b = omega arith
+within-after r i false h = let l = words-most r i in record { words = omega (arith, h.words); before = tt }
 
 -- closing the run after entry i takes no fewer words than closing it before
 words-grow : (r : Runs) (i : ℕ) (d : Bool) → Within r i → r.words + run_words r i ≤ (runs_after r i d).words + run_words (runs_after r i d) (suc i)
-words-grow r i true h =
-    by_bool r.going
-    (λ t.
-    let l = h.before t in
-    let n : (r.first + 1 ≡ suc i → ⊥) = omega arith in
-    let m = words-most r i in
-    rw (t, ne_eqb _ _ n) (omega (arith, rw t at m)))
-    (λ t. rw t (omega arith))
+words-grow r i true h = let l = go r.first h.before in omega arith
+  where
+    go : (o : Option ℕ) → Before o i → words_of o i ≤ words_of (Some (first_at o i)) (suc i)
+    go (Some f) b =
+        let n : (f + 1 ≡ suc i → ⊥) = omega arith in
+        rw (ne_eqb _ _ n) (words-two (Some f) i)
+    go None b = omega arith
 words-grow r i false h = omega arith
 
 -- and an entry takes at most one word more
 words-few : (r : Runs) (i : ℕ) (d : Bool) → Within r i → r.words + run_words r i ≤ i → (runs_after r i d).words + run_words (runs_after r i d) (suc i) ≤ suc i
-words-few r i true h k =
-    by_bool r.going
-    (λ t.
-    by_bool (eqb (r.first + 1) i)
-    (λ u. let m = words-most (runs_after r i true) (suc i) in rw t (omega (arith, rw (t, u) at k, rw t at m)))
-    (λ u. let m = words-most (runs_after r i true) (suc i) in rw t (omega (arith, rw (t, u) at k, rw t at m))))
-    (λ t. let e : i + 1 ≡ suc i = omega arith in rw (t, eq-eqb _ _ e) (omega (arith, rw t at k)))
+words-few r i true h k = let l = go r.first in omega arith
+  where
+    go : (o : Option ℕ) → words_of (Some (first_at o i)) (suc i) ≤ words_of o i + 1
+    go (Some f) = let l = words-two (Some f) (suc i) in let m = words-one f i in omega arith
+    go None = let e : i + 1 ≡ suc i = omega arith in rw (eq-eqb _ _ e) (omega arith)
 words-few r i false h k = omega arith
 
 length-put : (w : Window) (list : List ℕ) (r : Runs) (i : ℕ) → length (run_put w list r i) ≡ length list
 unfolding run_put
-length-put w list r i =
-    by-test (λ (l : List ℕ). length l ≡ length list) r.going _ _
-    (λ t. by-test (λ (l : List ℕ). length l ≡ length list) (eqb (r.first + 1) i) _ _ (λ u. simp length-set) (λ u. simp length-set))
-    (λ t. refl)
+length-put w list r i = go r.first
+  where
+    go : (o : Option ℕ) → length (run_at w list r.words o i) ≡ length list
+    go (Some f) = by-test (λ (l : List ℕ). length l ≡ length list) (eqb (f + 1) i) _ _ (λ u. simp length-set) (λ u. simp length-set)
+    go None = refl
 
 put-beyond : (w : Window) (list : List ℕ) (r : Runs) (i n : ℕ) → r.words + run_words r i ≤ n → drop n (run_put w list r i) ≡ drop n list
 unfolding run_put
-put-beyond w list r i n h =
-    by_bool r.going
-    (λ t.
-    by_bool (eqb (r.first + 1) i)
-    (λ u. let l : r.words < n = omega (arith, rw (t, u) at h) in rw (t, u) (simp drop-set-lt))
-    (λ u.
-    let l : r.words < n = omega (arith, rw (t, u) at h) in
-    let m : r.words + 1 < n = omega (arith, rw (t, u) at h) in
-    rw (t, u) (simp drop-set-lt)))
-    (λ t. rw t)
+put-beyond w list r i n h = go r.first h
+  where
+    go : (o : Option ℕ) → r.words + words_of o i ≤ n → drop n (run_at w list r.words o i) ≡ drop n list
+    go (Some f) k =
+        by_bool (eqb (f + 1) i)
+        (λ u. let l : r.words < n = omega (arith, rw u at k) in rw u (simp drop-set-lt))
+        (λ u.
+        let l : r.words < n = omega (arith, rw u at k) in
+        let m : r.words + 1 < n = omega (arith, rw u at k) in
+        rw u (simp drop-set-lt))
+    go None k = refl
 
 -- the three parts of a report go by the same test
 one-is : (d : Bool) (a b l m : List ℕ) (r : Runs) (i : ℕ)
@@ -148,7 +153,7 @@ module _ (w : Window) (ws : List ℕ) (time : ℤ) (mean : ℕ) where
 
   pub runs-within : (i : ℕ) → Within (runs_to w ws time mean i) i
   unfolding runs_to
-  runs-within zero = record { words = omega arith; first = omega arith; before = λ u. impossible (sym u) }
+  runs-within zero = record { words = omega arith; before = tt }
   runs-within (suc i) = within-after (runs_to w ws time mean i) i (due_at w ws time mean i) (runs-within i)
 
   -- the words only grow, up to what the report needs
@@ -266,7 +271,7 @@ module _ (w : Window) (ws : List ℕ) (time : ℤ) (mean : ℕ) where
       (λ t. report-past i h)
 
   -- no entry, no report: nothing is needed exactly if no held entry is due
-  runs_none : (i : ℕ) → ((j : ℕ) → j < i → due_at w ws time mean j ≡ false) → runs_to w ws time mean i ≡ record { words = 0; going = false; first = 0 }
+  runs_none : (i : ℕ) → ((j : ℕ) → j < i → due_at w ws time mean j ≡ false) → runs_to w ws time mean i ≡ record { words = 0; first = None }
   unfolding runs_to
   runs_none zero f = refl
   runs_none (suc i) f = rw (runs_none i (λ j h. f j (omega arith)), f i (omega arith))
@@ -277,7 +282,7 @@ module _ (w : Window) (ws : List ℕ) (time : ℤ) (mean : ℕ) where
   pub some-due : (j : ℕ) → j < w.held → due_at w ws time mean j ≡ true → 0 < needed w ws time mean
   unfolding runs_to
   some-due j h t =
-      let g : (runs_to w ws time mean (suc j)).going ≡ true = rw t in
+      let g : (runs_to w ws time mean (suc j)).first ≡ Some (first_at (runs_to w ws time mean j).first j) = rw t in
       omega (arith, words-rise (suc j) w.held (omega arith), run-some (runs_to w ws time mean (suc j)) (suc j) g)
 
   -- where the search finds none, none is due, and nothing is needed
@@ -325,24 +330,24 @@ module _ (w : Window) (ws : List ℕ) (time : ℤ) (mean : ℕ) where
     abbrev pub outcome : ReportOutcome
     outcome = report_of w ws time mean list
 
-    pub by-outcome : (P : ReportOutcome → Type 0) → P (report_ended answers.Nothing ws list) → P (report_ended answers.ListShort ws list)
-        → P (report_ended (answers.Report (needed w ws time mean)) (slots_to w ws time mean w.held) (list_all w ws time mean list)) → P outcome
+    pub by-outcome : (P : ReportOutcome → Type 0) → P (report_ended (Ok None) ws list) → P (report_ended (Err (record {})) ws list)
+        → P (report_ended (Ok (Some (needed w ws time mean))) (slots_to w ws time mean w.held) (list_all w ws time mean list)) → P outcome
     unfolding report_of
     by-outcome P a b c =
         by-test P (eqb (needed w ws time mean) 0) _ _
         (λ t. a)
         (λ t. by-test P (ltb (length list) (needed w ws time mean)) _ _ (λ u. b) (λ u. c))
 
-    pub nothing-stays : outcome.answer ≡ answers.Nothing → outcome ≡ report_ended answers.Nothing ws list
+    pub nothing-stays : outcome.answer ≡ Ok None → outcome ≡ report_ended (Ok None) ws list
     nothing-stays =
-        by-outcome (λ (x : ReportOutcome). x.answer ≡ answers.Nothing → x ≡ report_ended answers.Nothing ws list)
+        by-outcome (λ (x : ReportOutcome). x.answer ≡ Ok None → x ≡ report_ended (Ok None) ws list)
         (λ e. refl)
         (λ e. absurd (let z : ◌≡◌ {A = ℕ} 0 1 = cc in omega arith))
         (λ e. absurd (let z : ◌≡◌ {A = ℕ} 0 1 = cc in omega arith))
 
-    pub short-stays : outcome.answer ≡ answers.ListShort → outcome ≡ report_ended answers.ListShort ws list
+    pub short-stays : outcome.answer ≡ Err (record {}) → outcome ≡ report_ended (Err (record {})) ws list
     short-stays =
-        by-outcome (λ (x : ReportOutcome). x.answer ≡ answers.ListShort → x ≡ report_ended answers.ListShort ws list)
+        by-outcome (λ (x : ReportOutcome). x.answer ≡ Err (record {}) → x ≡ report_ended (Err (record {})) ws list)
         (λ e. absurd (let z : ◌≡◌ {A = ℕ} 0 1 = cc in omega arith))
         (λ e. refl)
         (λ e. absurd (let z : ◌≡◌ {A = ℕ} 0 1 = cc in omega arith))

@@ -7,15 +7,14 @@ use Prim.Native.Nat.{ℕ, ◌+◌, ◌-◌, ◌*◌, ◌^◌, ◌<◌, ◌≤◌
 use native.Mathlib.Nat.{mul-le-mul_right}
 use native.Mathlib.Omega.{arith}
 use borrow.Author.Rules.{rules}
-use borrow.Author.Tests.{eq-eqb, ne_eqb, lt-ltb, le-ltb, eqb-true, eqb-false}
-use lib.Dec.{eqb}
+use borrow.Author.Tests.{eq-eqb, ne_eqb, lt-ltb, le-ltb}
 use lib.IntN.{ℤ, pos, nat_abs, ◌+ℤ◌, ◌*ℤ◌}
 use lib.ListN.{length, set, length-set}
 use lib.Signed.{lt_z}
 use mir.Syntax.{w32, w64}
 use mir.Val.{Fits, SFits, to_z, of_z}
 use mir.Facts.{to_z_pos, to_z-of_z}
-use Rattle.numbers.proofs.Flags.{by_bool}
+use Rattle.std.specs.Prelude.{Option, Some, None, Ok, Err}
 use Rattle.numbers.proofs.Circle.{sum_below}
 use Rattle.slots.specs.Words.{entry_at, write_report}
 use Rattle.slots.specs.Ready.{Fit}
@@ -25,13 +24,12 @@ use Rattle.slots.specs.declared.entry.Entry.TheVariants.{Lost, Received, GivenUp
 use Rattle.slots.proofs.Laws.{entry-fit, slot-words, slot-words-kept}
 use Rattle.window.specs.Window.{number_in}
 use Rattle.window.specs.Ready.{Good}
-use Rattle.window_report.specs.Report.{is_due, k_after, run_words, closed, runs_after, slots_to, runs_to, run_put, list_to, needed, list_all, ReportOutcome, report_ended, report_of}
+use Rattle.window_report.specs.Report.{is_due, k_after, run_words, closed, runs_after, slots_to, runs_to, run_at, run_put, list_to, needed, list_all, ReportOutcome, report_ended, report_of}
 use Rattle.window_report.specs.Inner.{Within, Reporting, reporting, report_one, reported_to, due_from, any_due}
 use Rattle.window.specs.declared.Window.{Window}
 use Rattle.window_report.specs.declared.report.Runs.{Runs}
-use Rattle.window_report.specs.declared.report.ReportAnswer.TheVariants as answers
 use Rattle.window.proofs.Walks.{walk_start, walk-slot, walk-most, held-most, walk-on}
-use Rattle.window_report.proofs.ReportLaws.{words-most, runs-within, runs-more, words-rise, needed-held, slots_same, list_same, length-slots, length-list, report-more, due-end, due-here, due-on, any-needs}
+use Rattle.window_report.proofs.ReportLaws.{words-most, run-some, began, runs-within, runs-more, words-rise, needed-held, slots_same, list_same, length-slots, length-list, report-more, due-end, due-here, due-on, any-needs}
 
 -- is_due: its numbers as signed ones
 pub mean-fits : (mean : ℕ) → mean < 2 ^ 31 → SFits w64 (pos mean)
@@ -72,38 +70,62 @@ module _ {e : Entry} {k f : ℕ} (p : e ≡ Lost k f) where
     due-lost time q = rw (to_z-of_z due-sum, to_z-of_z due-product, due-feedback h, due-k h, due-mean mean m, q, p)
 
   -- k_after
-  pub k-more : k < 65535 → k + 1 ≡ k_after e
-  k-more h = rw p (omega arith)
+  pub k-more-fits : Fit e → Fits w32 (k + 1)
+  k-more-fits h = let g : Fit (Lost k f) = subst Fit p h in record { fits = omega arith }
 
-  pub k-most : 65535 ≤ k → 65535 ≡ k_after e
-  k-most h = rw p (omega arith)
+  pub k-more : {n : ℕ} → n ≡ min (k + 1) 65535 → n ≡ k_after e
+  k-more h = h ∙ rw p
 
-pub due-received : (time : ℤ) (mean : ℕ) {e : Entry} {n l m t : ℕ} → e ≡ Received n l m t → false ≡ is_due time mean e
-unfolding is_due
-due-received time mean p = rw p
+-- an entry that is not lost
+module _ {e : Entry} (p : (k f : ℕ) → e ≡ Lost k f → ⊥) where
+  pub due-others : (time : ℤ) (mean : ℕ) → false ≡ is_due time mean e
+  unfolding is_due
+  due-others time mean = go e p
+    where
+      go : (e : Entry) → ((k f : ℕ) → e ≡ Lost k f → ⊥) → false ≡ is_due time mean e
+      go (Lost k f) q = absurd (q k f refl)
+      go (Received n l m t) q = refl
+      go GivenUp q = refl
 
-pub due-given-up : (time : ℤ) (mean : ℕ) {e : Entry} → e ≡ GivenUp → false ≡ is_due time mean e
-unfolding is_due
-due-given-up time mean p = rw p
+  pub k-others : 0 ≡ k_after e
+  k-others = go e p
+    where
+      go : (e : Entry) → ((k f : ℕ) → e ≡ Lost k f → ⊥) → 0 ≡ k_after e
+      go (Lost k f) q = absurd (q k f refl)
+      go (Received n l m t) q = refl
+      go GivenUp q = refl
 
 -- run_words, runs_closed, runs_after
 module _ (r : Runs) (i : ℕ) where
-  pub run-one : r.going ≡ true → r.first + 1 ≡ i → 1 ≡ run_words r i
-  run-one t h = rw (t, eq-eqb _ _ h)
+  pub run-none : r.first ≡ None → 0 ≡ run_words r i
+  run-none t = rw t
 
-  pub run-two : r.going ≡ true → (r.first + 1 ≡ i → ⊥) → 2 ≡ run_words r i
-  run-two t h = rw (t, ne_eqb _ _ h)
+  module _ {f : ℕ} (t : r.first ≡ Some f) where
+    pub run-one : f + 1 ≡ i → 1 ≡ run_words r i
+    run-one h = rw (t, eq-eqb _ _ h)
 
-  pub run-closed : {n : ℕ} → n ≡ run_words r i → ◌≡◌ {A = Runs} (record { words = r.words + n; going = false; first = 0 }) (closed r i)
+    pub run-two : (f + 1 ≡ i → ⊥) → 2 ≡ run_words r i
+    run-two h = rw (t, ne_eqb _ _ h)
+
+    pub run-fits : Within r i → i ≤ 8192 → Fits w64 (f + 1)
+    run-fits h k = let l = began h t in omega arith
+
+    pub run-near : Within r i → i ≤ 8192 → f ≤ 8192
+    run-near h k = let l = began h t in omega arith
+
+    pub run-past : Within r i → 1 ≤ i
+    run-past h = let l = began h t in omega arith
+
+    pub run-goes : {d : Bool} → d ≡ true → r ≡ runs_after r i d
+    run-goes e = rw (e, t)
+
+  pub run-closed : {n : ℕ} → n ≡ run_words r i → ◌≡◌ {A = Runs} (record { words = r.words + n; first = None }) (closed r i)
   run-closed e = rw e
 
   pub run-ended : {d : Bool} {q : Runs} → d ≡ false → q ≡ closed r i → q ≡ runs_after r i d
   run-ended e f = rw e f
 
-  pub run-goes : {d : Bool} → d ≡ true → r.going ≡ true → ◌≡◌ {A = Runs} (record { words = r.words; going = true; first = r.first }) (runs_after r i d)
-  run-goes e f = rw (e, f)
-
-  pub run-begins : {d : Bool} → d ≡ true → r.going ≡ false → ◌≡◌ {A = Runs} (record { words = r.words; going = true; first = i }) (runs_after r i d)
+  pub run-begins : {d : Bool} → d ≡ true → r.first ≡ None → ◌≡◌ {A = Runs} (record { words = r.words; first = Some i }) (runs_after r i d)
   run-begins e f = rw (e, f)
 
 pub run-sum : (r : Runs) (i : ℕ) {n : ℕ} → n ≡ run_words r i → r.words ≤ 2 * i → i ≤ 8192 → Fits w64 (r.words + n)
@@ -115,7 +137,7 @@ due-fit ws s p = subst Fit (sym p) (entry-fit ws s)
 
 -- count_runs: the bounds, the start, a turn and the end
 module _ (w : Window) (ws : List ℕ) (time : ℤ) (mean : ℕ) where
-  pub runs-start : ◌≡◌ {A = Runs} (record { words = 0; going = false; first = 0 }) (runs_to w ws time mean 0)
+  pub runs-start : ◌≡◌ {A = Runs} (record { words = 0; first = None }) (runs_to w ws time mean 0)
   unfolding runs_to
   runs-start = refl
 
@@ -132,62 +154,42 @@ module _ (w : Window) (ws : List ℕ) (time : ℤ) (mean : ℕ) where
     pub runs_done : (t : ℤ) → time ≡ t → i ≤ w.held → w.held ≤ i → r ≡ runs_to w ws t mean w.held
     runs_done t q h k = let e : i ≡ w.held = omega arith in a ∙ rw (q, e)
 
--- run_put: by the number of words of the run
-module _ (r : Runs) (i : ℕ) where
-  by_words : {P : Type 0} → (r.going ≡ false → run_words r i ≡ 0 → P) → (r.going ≡ true → r.first + 1 ≡ i → run_words r i ≡ 1 → P) → (r.going ≡ true → (r.first + 1 ≡ i → ⊥) → run_words r i ≡ 2 → P) → P
-  by_words f g h =
-      by_bool r.going
-      (λ t.
-      by_bool (eqb (r.first + 1) i)
-      (λ u. let e = eqb-true _ _ u in g t e (sym (run-one r i t e)))
-      (λ u. let e = eqb-false _ _ u in h t e (sym (run-two r i t e))))
-      (λ t. f t (rw t))
+-- run_put
+module _ (r : Runs) (i : ℕ) (w : Window) (list : List ℕ) where
+  pub put-none : ((f : ℕ) → r.first ≡ Some f → ⊥) → list ≡ run_put w list r i
+  unfolding run_put
+  put-none t = go r.first t
+    where
+      go : (o : Option ℕ) → ((f : ℕ) → o ≡ Some f → ⊥) → list ≡ run_at w list r.words o i
+      go (Some f) q = absurd (q f refl)
+      go None q = refl
 
-  pub put-past : {n : ℕ} → n ≡ run_words r i → (n ≡ 0 → ⊥) → Within r i → 1 ≤ i
-  put-past e z h =
-      by_words
-      (λ t u. absurd (z (e ∙ u)))
-      (λ t u v. let l = h.before t in omega arith)
-      (λ t u v. let l = h.before t in omega arith)
-
-  module _ (w : Window) (list : List ℕ) {n : ℕ} (e : n ≡ run_words r i) where
-    pub put-none : n ≡ 0 → list ≡ run_put w list r i
+  module _ {f m : ℕ} (t : r.first ≡ Some f) (e : m ≡ number_in w f) where
+    pub put_one : f + 1 ≡ i → set list r.words m ≡ run_put w list r i
     unfolding run_put
-    put-none z = by_words (λ t u. rw t) (λ t u v. absurd (omega arith)) (λ t u v. absurd (omega arith))
+    put_one h = rw (t, eq-eqb _ _ h, e)
 
-    pub put_one : {m : ℕ} → n ≡ 1 → m ≡ number_in w r.first → set list r.words m ≡ run_put w list r i
+    pub put-run : {l : ℕ} → (f + 1 ≡ i → ⊥) → l ≡ number_in w (i - 1) → set (set list r.words (2 ^ 31 + m)) (r.words + 1) l ≡ run_put w list r i
     unfolding run_put
-    put_one z f =
-        by_words
-        (λ t u. absurd (omega arith))
-        (λ t u v. rw (t, eq-eqb _ _ u, f))
-        (λ t u v. absurd (omega arith))
+    put-run h g = rw (t, ne_eqb _ _ h, e, g)
 
-    pub put-run : {m l : ℕ} → (n ≡ 0 → ⊥) → (n ≡ 1 → ⊥) → m ≡ number_in w r.first → l ≡ number_in w (i - 1)
-        → set (set list r.words (2 ^ 31 + m)) (r.words + 1) l ≡ run_put w list r i
-    unfolding run_put
-    put-run z o f g =
-        by_words
-        (λ t u. absurd (z (e ∙ u)))
-        (λ t u v. absurd (o (e ∙ v)))
-        (λ t u v. rw (t, ne_eqb _ _ u, f, g))
+module _ (r : Runs) (i : ℕ) (list : List ℕ) {f : ℕ} (t : r.first ≡ Some f) (h : r.words + run_words r i ≤ length list) where
+  pub put_first : r.words < length list
+  put_first = omega (arith, run-some r i t)
 
-pub put_second : (r : Runs) (i : ℕ) (list : List ℕ) (j v at : ℕ) {n : ℕ}
-    → n ≡ run_words r i → (n ≡ 0 → ⊥) → (n ≡ 1 → ⊥) → r.words + run_words r i ≤ length list → at ≡ r.words
-    → at + 1 < length (set list j v)
-put_second r i list j v at e z o h f = rw length-set (omega (arith, z, o))
+  pub put_second : (j v : ℕ) → (f + 1 ≡ i → ⊥) → r.words + 1 < length (set list j v)
+  put_second j v o = rw length-set (omega (arith, run-two r i t o))
 
 pub put-fits : (w : Window) (i : ℕ) {n : ℕ} → n ≡ number_in w i → Fits w32 (2 ^ 31 + n)
 put-fits w i e = omega (arith, sum_below 31 w.seqno0 i)
 
 -- run_end: where no run is going
-module _ (r : Runs) (i : ℕ) (t : r.going ≡ false) where
-  pub end_list : (w : Window) (list : List ℕ) → list ≡ run_put w list r i
-  unfolding run_put
-  end_list w list = rw t
+pub end_list : (r : Runs) (i : ℕ) (w : Window) (list : List ℕ) → r.first ≡ None → list ≡ run_put w list r i
+unfolding run_put
+end_list r i w list t = rw t
 
-  pub end-runs : ◌≡◌ {A = Runs} (record { words = r.words; going = false; first = 0 }) (closed r i)
-  end-runs = let z : r.words + run_words r i ≡ r.words = rw t (omega arith) in rw z
+pub end-runs : (r : Runs) (i : ℕ) → r.first ≡ None → r ≡ closed r i
+end-runs r i t = let z : r.words + 0 ≡ r.words = omega arith in rw (t, z)
 
 -- report_one
 module _ (w : Window) (time : ℤ) (mean s i : ℕ) (ws list : List ℕ) (r : Runs) {e : Entry} {d : Bool} {z : ℤ} {q : Runs}
@@ -204,7 +206,7 @@ module _ (w : Window) (time : ℤ) (mean s i : ℕ) (ws list : List ℕ) (r : Ru
 
 -- report_entries: the start, what a turn needs, a turn and the end
 module _ (w : Window) (ws : List ℕ) (time : ℤ) (mean : ℕ) (list : List ℕ) where
-  pub report-start : reporting ws list (record { words = 0; going = false; first = 0 }) ≡ reported_to w ws time mean list 0
+  pub report-start : reporting ws list (record { words = 0; first = None }) ≡ reported_to w ws time mean list 0
   unfolding slots_to list_to runs_to
   report-start = refl
 
@@ -278,17 +280,17 @@ module _ (w : Window) (ws : List ℕ) (time : ℤ) (mean : ℕ) where
   report-fits list a h = rw (← a) h
 
   module _ (list : List ℕ) {n : ℕ} {z : ℤ} (a : n ≡ needed w ws z mean) (q : z ≡ time) where
-    pub report-none : n ≡ 0 → report_ended answers.Nothing ws list ≡ report_of w ws time mean list
+    pub report-none : n ≡ 0 → report_ended (Ok None) ws list ≡ report_of w ws time mean list
     unfolding report_of
     report-none o = rw (← q, eq-eqb _ _ (sym a ∙ o))
 
     module _ (o : n ≡ 0 → ⊥) where
-      pub report-short : length list < n → report_ended answers.ListShort ws list ≡ report_of w ws time mean list
+      pub report-short : length list < n → report_ended (Err (record {})) ws list ≡ report_of w ws time mean list
       unfolding report_of
       report-short h = rw (← q, ← a, ne_eqb _ _ o, lt-ltb _ _ h)
 
       report-long : {ws₁ list₁ : List ℕ} → n ≤ length list → ws₁ ≡ slots_to w ws z mean w.held → list₁ ≡ list_all w ws z mean list
-          → report_ended (answers.Report n) ws₁ list₁ ≡ report_of w ws time mean list
+          → report_ended (Ok (Some n)) ws₁ list₁ ≡ report_of w ws time mean list
       unfolding report_of
       report-long h b c = rw (← q, ← a, ne_eqb _ _ o, le-ltb _ _ h, b, c)
 
@@ -313,7 +315,7 @@ module _ (w : Window) (ws : List ℕ) (time : ℤ) (mean : ℕ) where
         rw (any-front, f, b) (k ∙ rw q₁)
 
   -- loss_report
-  pub lost-none : (list : List ℕ) {d : Bool} {z : ℤ} → Good w ws → d ≡ any_due w ws z mean → z ≡ time → d ≡ false → report_ended answers.Nothing ws list ≡ report_of w ws time mean list
+  pub lost-none : (list : List ℕ) {d : Bool} {z : ℤ} → Good w ws → d ≡ any_due w ws z mean → z ≡ time → d ≡ false → report_ended (Ok None) ws list ≡ report_of w ws time mean list
   lost-none list g e q f = report-none list (sym (any-needs w ws time mean g (rw q at (sym e ∙ f)))) refl refl
 
   pub held_fits : (list : List ℕ) → w.held ≤ length list → needed w ws time mean ≤ length list
@@ -336,13 +338,13 @@ module _ (w : Window) (ws : List ℕ) (time : ℤ) (mean : ℕ) (list : List ℕ
   all_words : q.words ≡ needed w ws z mean
   all_words = needs-words w ws z mean (ap (λ (x : Reporting). x.runs) a) refl c
 
-  pub all_none : q.words ≡ 0 → report_ended answers.Nothing ws₁ list₁ ≡ report_of w ws time mean list
+  pub all_none : q.words ≡ 0 → report_ended (Ok None) ws₁ list₁ ≡ report_of w ws time mean list
   all_none o =
       let e : needed w ws z mean ≡ 0 = sym all_words ∙ o in
       rw (all_slots ∙ slots_same w ws z mean e, all_list ∙ list_same w ws z mean e list) (report-none w ws time mean list all_words y o)
 
   pub all-some : (q.words ≡ 0 → ⊥) → needed w ws time mean ≤ length list
-      → report_ended (answers.Report q.words) ws₁ list₁ ≡ report_of w ws time mean list
+      → report_ended (Ok (Some q.words)) ws₁ list₁ ≡ report_of w ws time mean list
   all-some o h = report-long w ws time mean list all_words y o (rw (all_words, y) h) all_slots all_list
 
 pub ruleset reports = (
@@ -355,14 +357,18 @@ pub ruleset reports = (
   due-product,
   due-sum,
   due-lost,
-  due-received,
-  due-given-up,
+  due-others,
+  k-others,
+  k-more-fits,
   k-more,
-  k-most,
+  run-none,
   run-one,
   run-two,
   run-closed,
   run-ended,
+  run-fits,
+  run-near,
+  run-past,
   run-goes,
   run-begins,
   run-sum,
@@ -371,10 +377,10 @@ pub ruleset reports = (
   runs-kept,
   runs-again,
   runs_done,
-  put-past,
   put-none,
   put_one,
   put-run,
+  put_first,
   put_second,
   put-fits,
   end_list,

@@ -1,15 +1,19 @@
 -- For the loop of the report: no rule of 01 of its own.
-use Rattle.std.specs.Prelude.{◌≡◌, Bool, true, false, cond, List, ℕ, zero, suc, ◌+◌, ◌-◌, ◌*◌, ◌<◌, ◌≤◌, min, ℤ, nat_abs}
+use Rattle.std.specs.Prelude.{Bool, true, false, cond, List, ℕ, zero, suc, ◌+◌, ◌-◌, ◌*◌, ◌<◌, ◌≤◌, min, ℤ, nat_abs, Option, Some, None, ⊤}
 use Rattle.slots.specs.Words.{entry_at, write_report}
 use Rattle.window.specs.declared.Window.{Window}
 use Rattle.window_report.specs.Report.{is_due, k_after, runs_after, run_put, slots_to, runs_to, list_to}
 use Rattle.window_report.specs.declared.report.Runs.{Runs}
 
+-- a run that is going on began before entry i
+abbrev pub Before : Option ℕ → ℕ → Type 0
+Before (Some first) i = first < i
+Before None i = ⊤
+
 -- what holds of a walk before entry i: at most two words an entry, and a run that goes on began before i
 pub record Within (r : Runs) (i : ℕ) : Type 0 where
   pub words : r.words ≤ 2 * i
-  pub first : r.first ≤ i
-  pub before : r.going ≡ true → r.first < i
+  pub before : Before r.first i
 
 -- a report under way: the slot area, the list and the runs
 pub record Reporting : Type 0 where

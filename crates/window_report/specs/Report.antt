@@ -1,5 +1,5 @@
 -- The loss report: 01, "Window", from "Loss report: lost entries" to "No entry, no report."
-use Rattle.std.specs.Prelude.{Bool, true, false, cond, List, ℕ, zero, suc, ◌+◌, ◌-◌, ◌*◌, ◌^◌, min, ltb, eqb, ℤ, pos, nat_abs, ◌+ℤ◌, length, set}
+use Rattle.std.specs.Prelude.{Bool, false, cond, List, ℕ, zero, suc, ◌+◌, ◌-◌, ◌*◌, ◌^◌, min, ltb, eqb, ℤ, pos, nat_abs, ◌+ℤ◌, length, set, Option, Some, None, Result, Ok, Err}
 use Rattle.std.specs.Int.Signed.{lt_z}
 use Rattle.slots.specs.Words.{entry_at, write_report}
 use Rattle.slots.specs.Ring.{slot_of}
@@ -8,16 +8,15 @@ use Rattle.slots.specs.declared.entry.Entry.TheVariants.{Lost, Received, GivenUp
 use Rattle.window.specs.Window.{number_in}
 use Rattle.window.specs.declared.Window.{Window}
 use Rattle.window_report.specs.declared.report.Runs.{Runs}
-use Rattle.window_report.specs.declared.report.ReportAnswer.{ReportAnswer}
-use Rattle.window_report.specs.declared.report.ReportAnswer.TheVariants as answers
+use Rattle.window_report.specs.declared.report.ListShort.{ListShort}
 
--- all that a report leaves: the answer, the slot area and the list of loss words
+-- all that a report leaves: how many words it has, if there is one, or refusal 12; the slot area and the list of loss words
 pub record ReportOutcome : Type 0 where
-  pub answer : ReportAnswer
+  pub answer : Result (Option ℕ) ListShort
   pub slots : List ℕ
   pub list : List ℕ
 
-abbrev pub report_ended : ReportAnswer → List ℕ → List ℕ → ReportOutcome
+abbrev pub report_ended : Result (Option ℕ) ListShort → List ℕ → List ℕ → ReportOutcome
 report_ended r ws list = record { answer = r; slots = ws; list = list }
 
 -- lost entries with now > feedback + k × mean RTT
@@ -33,23 +32,34 @@ k_after (Received n l m t) = 0
 k_after GivenUp = 0
 
 -- words so far, and the run that is open before entry i: its first entry. A run of one is one word, a run of two or more two
+abbrev pub words_of : Option ℕ → ℕ → ℕ
+words_of (Some first) i = cond (eqb (first + 1) i) 1 2
+words_of None i = 0
+
 abbrev pub run_words : Runs → ℕ → ℕ
-run_words r i = cond r.going (cond (eqb (r.first + 1) i) 1 2) 0
+run_words r i = words_of r.first i
+
+-- the first entry of the run that entry i goes on with or begins
+abbrev pub first_at : Option ℕ → ℕ → ℕ
+first_at (Some first) i = first
+first_at None i = i
 
 abbrev pub closed : Runs → ℕ → Runs
-closed r i = record { words = r.words + run_words r i; going = false; first = 0 }
+closed r i = record { words = r.words + run_words r i; first = None }
 
 abbrev pub runs_after : Runs → ℕ → Bool → Runs
-runs_after r i due = cond due (record { words = r.words; going = true; first = cond r.going r.first i }) (closed r i)
+runs_after r i due = cond due (record { words = r.words; first = Some (first_at r.first i) }) (closed r i)
 
 -- a single number; a run of two or more consecutive as first with bit 31 set, then last
+abbrev pub run_at : Window → List ℕ → ℕ → Option ℕ → ℕ → List ℕ
+run_at w list at (Some first) i =
+    cond (eqb (first + 1) i)
+    (set list at (number_in w first))
+    (set (set list at (2 ^ 31 + number_in w first)) (at + 1) (number_in w (i - 1)))
+run_at w list at None i = list
+
 unfoldable pub run_put : Window → List ℕ → Runs → ℕ → List ℕ
-run_put w list r i =
-    cond r.going
-    (cond (eqb (r.first + 1) i)
-    (set list r.words (number_in w r.first))
-    (set (set list r.words (2 ^ 31 + number_in w r.first)) (r.words + 1) (number_in w (i - 1))))
-    list
+run_put w list r i = run_at w list r.words r.first i
 
 module _ (w : Window) (ws : List ℕ) (time : ℤ) (mean : ℕ) where
   -- the slot of entry i, and whether it is due
@@ -66,7 +76,7 @@ module _ (w : Window) (ws : List ℕ) (time : ℤ) (mean : ℕ) where
 
   -- the runs of the first i entries, and the words that all of them need
   unfoldable pub runs_to : ℕ → Runs
-  runs_to zero = record { words = 0; going = false; first = 0 }
+  runs_to zero = record { words = 0; first = None }
   runs_to (suc i) = runs_after (runs_to i) i (due_at i)
 
   abbrev pub needed : ℕ
@@ -85,7 +95,7 @@ module _ (w : Window) (ws : List ℕ) (time : ℤ) (mean : ℕ) where
   unfoldable pub report_of : List ℕ → ReportOutcome
   report_of list =
       cond (eqb needed 0)
-      (report_ended answers.Nothing ws list)
+      (report_ended (Ok None) ws list)
       (cond (ltb (length list) needed)
-      (report_ended answers.ListShort ws list)
-      (report_ended (answers.Report needed) (slots_to w.held) (list_all list)))
+      (report_ended (Err (record {})) ws list)
+      (report_ended (Ok (Some needed)) (slots_to w.held) (list_all list)))

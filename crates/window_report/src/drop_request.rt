@@ -10,7 +10,7 @@ fn end_in(w: window::Window, number: u32) -> usize
     ensures { result ≡ end_in w number }
 {
     let d = numbers::seq::saturating(number, w.seqno0) as usize;
-    if d < w.held { d } else { w.held }
+    d.min(w.held)
 }
 
 // Gives up the entry in slot s if it is lost, and counts it, n being those before it.
@@ -31,13 +31,10 @@ fn give_up(words: &mut [u64], capacity: usize, start: usize, from: usize, to: us
     ensures { drop_ended result words.new ≡ sweep capacity start words.old from (to - from) }
 {
     let mut n = 0;
-    let mut i = from;
     let mut s = slots::ring::slot(capacity, start, from);
-    while i < to {
-        let next = slots::ring::next_slot(capacity, s);
+    for _ in from..to {
         n = give_up_one(words, s, n);
-        s = next;
-        i += 1;
+        s = slots::ring::next_slot(capacity, s);
     }
     n
 }

@@ -1,5 +1,5 @@
 // The loss report, buffer.rs `prepare_loss_list`: 01, "Window".
-ghost use Rattle.std.specs.Prelude.{◌≡◌, ◌+◌, ◌-◌, ◌*◌, ◌<◌, ◌≤◌, ◌^◌, length};
+ghost use Rattle.std.specs.Prelude.{◌≡◌, ◌+◌, ◌-◌, ◌*◌, ◌<◌, ◌≤◌, ◌^◌, length, Ok};
 ghost use Rattle.slots.specs.Ready.{Fit};
 ghost use Rattle.window.specs.Ready.{Good};
 ghost use Rattle.window_report.specs.Report.{is_due, k_after, report_ended, run_words, closed, runs_after, runs_to, run_put, needed, report_of};
@@ -7,20 +7,16 @@ ghost use Rattle.window_report.specs.Inner.{Within, reporting, report_one, repor
 
 use slots::entry::Entry;
 
-// Words so far, and whether a run of reported entries is going on, with its first entry.
-#[derive(Clone, Copy)]
+// Words so far, and the first entry of the run of reported entries that is going on, if one is.
+#[derive(Clone, Copy, PartialEq, Eq, Debug)]
 pub struct Runs {
     pub words: usize,
-    pub going: bool,
-    pub first: usize,
+    pub first: Option<usize>,
 }
 
-#[derive(Drop)]
-pub enum ReportAnswer {
-    Nothing,
-    Report { words: usize },
-    ListShort,
-}
+// Refusal 12: the report needs more words than lent.
+#[derive(Clone, Copy, PartialEq, Eq, Debug)]
+pub struct ListShort;
 
 // A lost entry whose feedback time is more than k mean round trips ago.
 fn is_due(e: Entry, time: i64, mean: u32) -> bool
@@ -29,41 +25,30 @@ fn is_due(e: Entry, time: i64, mean: u32) -> bool
 {
     match e {
         Entry::Lost { k, feedback } => (feedback as i64) + (k as i64) * (mean as i64) < time,
-        Entry::Received {
-            length: _,
-            location: _,
-            message: _,
-            stamp: _,
-        } => false,
-        Entry::GivenUp => false,
+        _ => false,
     }
 }
 
 // k of a reported entry.
 fn k_after(e: Entry) -> u32
+    requires { Fit e }
     ensures { result ≡ k_after e }
 {
     match e {
-        Entry::Lost { k, feedback: _ } => if k < 65535 { k + 1 } else { 65535 },
-        Entry::Received {
-            length: _,
-            location: _,
-            message: _,
-            stamp: _,
-        } => 0,
-        Entry::GivenUp => 0,
+        Entry::Lost { k, .. } => (k + 1).min(65535),
+        _ => 0,
     }
 }
 
 // The words of the run that ends before entry i.
 fn run_words(r: Runs, i: usize) -> usize
-    requires { r.first ≤ 8192 }
+    requires { Within r i × (i ≤ 8192) }
     ensures { result ≡ run_words r i }
 {
-    if r.going {} else {
-        return 0;
+    match r.first {
+        Some(first) => if first + 1 == i { 1 } else { 2 },
+        None => 0,
     }
-    if r.first + 1 == i { 1 } else { 2 }
 }
 
 fn runs_closed(r: Runs, i: usize) -> Runs
@@ -72,8 +57,7 @@ fn runs_closed(r: Runs, i: usize) -> Runs
 {
     Runs {
         words: r.words + run_words(r, i),
-        going: false,
-        first: 0,
+        first: None,
     }
 }
 
@@ -82,14 +66,15 @@ fn runs_after(r: Runs, i: usize, due: bool) -> Runs
     requires { Within r i × (i ≤ 8192) }
     ensures { result ≡ runs_after r i due }
 {
-    if due {} else {
+    if !due {
         return runs_closed(r, i);
     }
-    let first = if r.going { r.first } else { i };
-    Runs {
-        words: r.words,
-        going: true,
-        first,
+    match r.first {
+        Some(_) => r,
+        None => Runs {
+            first: Some(i),
+            ..r
+        },
     }
 }
 
@@ -100,16 +85,13 @@ fn count_runs(w: window::Window, words: &[u64], time: i64, mean: u32) -> Runs
 {
     let mut r = Runs {
         words: 0,
-        going: false,
-        first: 0,
+        first: None,
     };
-    let mut i = 0;
     let mut s = w.start;
-    while i < w.held {
+    for i in 0..w.held {
         let due = is_due(slots::entry::read_at(words, s), time, mean);
         r = runs_after(r, i, due);
         s = slots::ring::next_slot(w.capacity, s);
-        i += 1;
     }
     r
 }
@@ -119,8 +101,7 @@ fn words_needed(w: window::Window, words: &[u64], time: i64, mean: u32) -> usize
     requires { Good w words.now × (mean < 2 ^ 31) }
     ensures { result ≡ needed w words.now time mean }
 {
-    let r = runs_closed(count_runs(w, words, time, mean), w.held);
-    r.words
+    runs_closed(count_runs(w, words, time, mean), w.held).words
 }
 
 // The run that ends before entry i: its number, or its first with bit 31 set and its last.
@@ -128,13 +109,12 @@ fn run_put(w: window::Window, list: &mut [u32], r: Runs, i: usize)
     requires { Within r i × (i ≤ 8192) × (r.words + run_words r i ≤ length list.old) }
     ensures { list.new ≡ run_put w list.old r i }
 {
-    let n = run_words(r, i);
-    if n == 0 {
+    let Some(begun) = r.first else {
         return;
-    }
+    };
     let at = r.words;
-    let first = window::number(w, r.first);
-    if n == 1 {
+    let first = window::number(w, begun);
+    if begun + 1 == i {
         list[at] = first;
         return;
     }
@@ -148,15 +128,13 @@ fn run_end(w: window::Window, list: &mut [u32], r: Runs, i: usize) -> Runs
     requires { Within r i × (i ≤ 8192) × (r.words + run_words r i ≤ length list.old) }
     ensures { (list.new ≡ run_put w list.old r i) × (result ≡ closed r i) }
 {
-    if r.going {} else {
-        return Runs {
-            words: r.words,
-            going: false,
-            first: 0,
-        };
+    match r.first {
+        Some(_) => {
+            run_put(w, list, r, i);
+            runs_closed(r, i)
+        }
+        None => r,
     }
-    run_put(w, list, r, i);
-    runs_closed(r, i)
 }
 
 // Entry i, which lies in slot s: reported if it is due; if not, the run before it is written.
@@ -176,7 +154,7 @@ fn report_one(
     let e = slots::entry::read_at(words, s);
     if is_due(e, time, mean) {
         let k = k_after(e);
-        let feedback = numbers::instant::size(time);
+        let feedback = time.unsigned_abs();
         slots::entry::write_report(words, s, k, feedback);
         return runs_after(r, i, true);
     }
@@ -196,16 +174,12 @@ fn report_entries(
 {
     let mut r = Runs {
         words: 0,
-        going: false,
-        first: 0,
+        first: None,
     };
-    let mut i = 0;
     let mut s = w.start;
-    while i < w.held {
-        let next = slots::ring::next_slot(w.capacity, s);
+    for i in 0..w.held {
         r = report_one(w, words, list, time, mean, s, i, r);
-        s = next;
-        i += 1;
+        s = slots::ring::next_slot(w.capacity, s);
     }
     r
 }
@@ -217,16 +191,16 @@ fn report_in(
     list: &mut [u32],
     time: i64,
     mean: u32,
-) -> ReportAnswer
+) -> Option<usize>
     requires { Good w words.old × (mean < 2 ^ 31) × (needed w words.old time mean ≤ length list.old) }
-    ensures { report_ended result words.new list.new ≡ report_of w words.old time mean list.old }
+    ensures { report_ended (Ok result) words.new list.new ≡ report_of w words.old time mean list.old }
 {
     let r = report_entries(w, words, list, time, mean);
     let q = run_end(w, list, r, w.held);
     if q.words == 0 {
-        return ReportAnswer::Nothing;
+        return None;
     }
-    ReportAnswer::Report { words: q.words }
+    Some(q.words)
 }
 
 // The report in a list that may be too short for it: its words are counted first.
@@ -236,18 +210,18 @@ fn report_counted(
     list: &mut [u32],
     time: i64,
     mean: u32,
-) -> ReportAnswer
+) -> Result<Option<usize>, ListShort>
     requires { Good w words.old × (mean < 2 ^ 31) }
     ensures { report_ended result words.new list.new ≡ report_of w words.old time mean list.old }
 {
     let n = words_needed(w, words, time, mean);
     if n == 0 {
-        return ReportAnswer::Nothing;
+        return Ok(None);
     }
     if list.len() < n {
-        return ReportAnswer::ListShort;
+        return Err(ListShort);
     }
-    report_in(w, words, list, time, mean)
+    Ok(report_in(w, words, list, time, mean))
 }
 
 // Whether one of the slots from `from` to before `to` holds an entry that is due.
@@ -255,18 +229,16 @@ fn due_between(words: &[u64], from: usize, to: usize, time: i64, mean: u32) -> b
     requires { (3 * to ≤ length words.now) × (mean < 2 ^ 31) }
     ensures { result ≡ due_from words.now time mean from (to - from) }
 {
-    let mut s = from;
-    while s < to {
+    for s in from..to {
         if is_due(slots::entry::read_at(words, s), time, mean) {
             return true;
         }
-        s += 1;
     }
     false
 }
 
-// Whether some entry is due. Where none is, the report ends with this walk: it minds no runs, and takes the ring as one or two
-// stretches of slots, so that a step is one addition.
+// Whether some entry is due. Where none is, the report ends with this walk: it minds no runs, and takes the ring as
+// one or two stretches of slots, so that a step is one addition.
 fn any_due(w: window::Window, words: &[u64], time: i64, mean: u32) -> bool
     requires { Good w words.now × (mean < 2 ^ 31) }
     ensures { result ≡ any_due w words.now time mean }
@@ -281,22 +253,23 @@ fn any_due(w: window::Window, words: &[u64], time: i64, mean: u32) -> bool
     due_between(words, 0, end - w.capacity, time, mean)
 }
 
-// The loss report. On ListShort, and where nothing is due, the areas stay. It never needs more words than there are entries.
+// The loss report: how many words it has, if an entry is due. On ListShort, and where nothing is due, the areas stay.
+// It never needs more words than there are entries.
 pub fn loss_report(
     w: window::Window,
     words: &mut [u64],
     list: &mut [u32],
     time: i64,
     mean: u32,
-) -> ReportAnswer
+) -> Result<Option<usize>, ListShort>
     requires { Good w words.old × (mean < 2 ^ 31) }
     ensures { report_ended result words.new list.new ≡ report_of w words.old time mean list.old }
 {
-    if any_due(w, words, time, mean) {} else {
-        return ReportAnswer::Nothing;
+    if !any_due(w, words, time, mean) {
+        return Ok(None);
     }
     if w.held <= list.len() {
-        return report_in(w, words, list, time, mean);
+        return Ok(report_in(w, words, list, time, mean));
     }
     report_counted(w, words, list, time, mean)
 }

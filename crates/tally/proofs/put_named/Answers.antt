@@ -1,9 +1,6 @@
 use Rattle.tally.proofs.Laws.{names}
 use Rattle.tally.proofs.put_named.Goals as goal
 
-pub put_byte-p-requires : goal.put_byte-p-requires
-put_byte-p-requires c = search names
-
 pub put_bytes-q-requires : goal.put_bytes-q-requires
 put_bytes-q-requires c = search names
 
@@ -12,9 +9,6 @@ put_byte-s-requires c = search names
 
 pub put_decimal-requires : goal.put_decimal-requires
 put_decimal-requires c = search names
-
-pub shape_of-out : goal.shape_of-out
-shape_of-out c = search names
 
 pub returns : goal.returns
 returns c = search names

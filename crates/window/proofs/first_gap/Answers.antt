@@ -13,20 +13,14 @@ read_at-requires c = search walks
 pub is_received-requires : goal.is_received-requires
 is_received-requires c = search walks
 
-pub overflow_add-i : goal.overflow_add-i
-overflow_add-i c = search walks
-
 pub next_slot-s-requires : goal.next_slot-s-requires
 next_slot-s-requires c = search walks
-
-pub loop-i-smaller : goal.loop-i-smaller
-loop-i-smaller c = search walks
 
 pub loop-i-preserved : goal.loop-i-preserved
 loop-i-preserved c = search walks
 
-pub returns-else-is_received : goal.returns-else-is_received
-returns-else-is_received c = search walks
+pub returns-then-not-is_received : goal.returns-then-not-is_received
+returns-then-not-is_received c = search walks
 
 pub returns : goal.returns
 returns c = search walks

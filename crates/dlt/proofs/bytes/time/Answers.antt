@@ -1,11 +1,6 @@
-use Rattle.dlt.proofs.Numbers.{numbering}
+use Rattle.std.proofs.Common.{to_z-of_z}
+use Rattle.dlt.proofs.Numbers.{time-is}
 use Rattle.dlt.proofs.bytes.time.Goals as goal
 
-pub double-requires : goal.double-requires
-double-requires c = search numbering
-
-pub twos-requires : goal.twos-requires
-twos-requires c = search numbering
-
 pub returns : goal.returns
-returns c = search numbering
+returns c = rw (to_z-of_z (record { sfits = c.from_be_bytes.type_inv })) (time-is c.args.piece.now c.args.at c.type_inv.piece c.requires c.from_be_bytes.ensures)

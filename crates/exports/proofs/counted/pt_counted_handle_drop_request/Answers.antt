@@ -1,26 +1,7 @@
-use Rattle.exports.proofs.Boundary.{boundary}
+use Rattle.std.proofs.Common.{rules}
+use Rattle.cells.specs.declared.Gone.{Gone}
+use Rattle.exports.proofs.Boundary.{mapped, boundary}
 use Rattle.exports.proofs.counted.pt_counted_handle_drop_request.Goals as goal
 
-pub unpack-h-requires : goal.unpack-h-requires
-unpack-h-requires c = search boundary
-
-pub counters-c-requires : goal.counters-c-requires
-counters-c-requires c = search boundary
-
-pub handle_drop_request-r-requires : goal.handle_drop_request-r-requires
-handle_drop_request-r-requires c = search boundary
-
-pub of_counters-requires : goal.of_counters-requires
-of_counters-requires c = search boundary
-
-pub drop_cells-requires : goal.drop_cells-requires
-drop_cells-requires c = search boundary
-
-pub drop_refusal-requires : goal.drop_refusal-requires
-drop_refusal-requires c = search boundary
-
-pub shape_of-slots : goal.shape_of-slots
-shape_of-slots c = search boundary
-
 pub returns : goal.returns
-returns c = search boundary
+returns c = let m = mapped (λ (r : Gone). r.0) c.handle_drop_request-r.result.left c.map.result _ (λ x r p. search rules) c.map.ensures.cases in search boundary

@@ -1,11 +1,8 @@
 use Rattle.feedback.proofs.Ackings.{ackings}
 use Rattle.feedback.proofs.acking.held_ack2.Goals as goal
 
-pub calculate_ack2-answered-requires : goal.calculate_ack2-answered-requires
-calculate_ack2-answered-requires c = search ackings
-
-pub after_ack2-requires : goal.after_ack2-requires
-after_ack2-requires c = search ackings
+pub calculate_ack2-requires : goal.calculate_ack2-requires
+calculate_ack2-requires c = search ackings
 
 pub returns : goal.returns
 returns c = search ackings

@@ -1,17 +1,11 @@
-use Rattle.inplace.proofs.Datas.{pushes-in}
+use borrow.Author.Rules.{rules}
+use Rattle.inplace.specs.Pushes.{taken_by}
+use Rattle.inplace.proofs.Datas.{taken-by}
 use Rattle.inplace.proofs.data.take_packet.Goals as goal
 
-pub push-pushed-requires : goal.push-pushed-requires
-push-pushed-requires c = search pushes-in
-
-pub after_push-requires : goal.after_push-requires
-after_push-requires c = search pushes-in
-
-pub shape_of-slots : goal.shape_of-slots
-shape_of-slots c = search pushes-in
-
-pub shape_of-bytes : goal.shape_of-bytes
-shape_of-bytes c = search pushes-in
+pub returns-in_err-pushed : goal.returns-in_err-pushed
+unfolding taken_by
+returns-in_err-pushed c = search rules
 
 pub returns : goal.returns
-returns c = search pushes-in
+returns c = taken-by _ _ _ _ _ _ _ c.requires.1 c.after_push.ensures (search rules) c.push.ensures c.in_ok-pushed.was (search rules)

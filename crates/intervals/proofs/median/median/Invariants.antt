@@ -6,6 +6,3 @@ use Rattle.intervals.proofs.median.median.Given as goal
 
 abbrev pub invariant-loop-i : goal.invariant-loop-i
 invariant-loop-i l = (l.i ≤ 15) × (median_of l.values l.k ≡ pick l.values l.k l.i (15 - l.i))
-
-abbrev pub decreases-loop-i : goal.decreases-loop-i
-decreases-loop-i l = 15 - l.i

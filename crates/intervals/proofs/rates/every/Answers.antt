@@ -1,23 +1,12 @@
-use Rattle.intervals.proofs.RateSteps.{rateSteps}
+-- `rates::every` meets its contract: the chain folds. Assumes nothing.
+use Rattle.std.proofs.Common.{true, ◌&&◌, ltb, rules, tests}
+use Rattle.std.proofs.lemmas.Iterator.{YieldsList-from_slice}
+use Rattle.std.proofs.lemmas.Iterator.Consumers.{fold_from_yields_List}
+use Rattle.intervals.proofs.RateSteps.{every-is}
 use Rattle.intervals.proofs.rates.every.Goals as goal
 
-pub loop-i-init : goal.loop-i-init
-loop-i-init c = search rateSteps
-
-pub offset_bounds-values-i : goal.offset_bounds-values-i
-offset_bounds-values-i c = search rateSteps
-
-pub bounds-values-i : goal.bounds-values-i
-bounds-values-i c = search rateSteps
-
-pub overflow_add-i : goal.overflow_add-i
-overflow_add-i c = search rateSteps
-
-pub loop-i-smaller : goal.loop-i-smaller
-loop-i-smaller c = search rateSteps
-
-pub loop-i-preserved : goal.loop-i-preserved
-loop-i-preserved c = search rateSteps
-
 pub returns : goal.returns
-returns c = search rateSteps
+returns c =
+    let b = c.args.bound in
+    every-is b c.args.values.now
+    (fold_from_yields_List _ (λ ok x. ok && ltb x b) true c.fold.result c.fold.ensures.ran (YieldsList-from_slice c.args.values.now cc) (λ a x r q k. search (rules, tests)))

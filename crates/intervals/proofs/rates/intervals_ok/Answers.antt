@@ -7,8 +7,5 @@ returns-then-count-gt16 c = search rateSteps
 pub returns-then-at-ge16 : goal.returns-then-at-ge16
 returns-then-at-ge16 c = search rateSteps
 
-pub all_under-requires : goal.all_under-requires
-all_under-requires c = search rateSteps
-
 pub returns : goal.returns
 returns c = search rateSteps

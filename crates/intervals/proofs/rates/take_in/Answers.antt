@@ -1,9 +1,6 @@
 use Rattle.intervals.proofs.RateSteps.{rateSteps}
 use Rattle.intervals.proofs.rates.take_in.Goals as goal
 
-pub keeps-requires : goal.keeps-requires
-keeps-requires c = search rateSteps
-
 pub overflow_add-result : goal.overflow_add-result
 overflow_add-result c = search rateSteps
 

@@ -4,9 +4,6 @@ use Rattle.numbers.proofs.instant.since.Goals as goal
 pub returns-then-now-time : goal.returns-then-now-time
 returns-then-now-time c = search sinces
 
-pub interval-requires : goal.interval-requires
-interval-requires c = search sinces
-
 pub overflow_cast-result : goal.overflow_cast-result
 overflow_cast-result c = search sinces
 

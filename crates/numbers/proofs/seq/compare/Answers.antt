@@ -1,9 +1,6 @@
 use Rattle.numbers.proofs.Steps.{steps}
 use Rattle.numbers.proofs.seq.compare.Goals as goal
 
-pub distance-ahead-requires : goal.distance-ahead-requires
-distance-ahead-requires c = search steps
-
 pub returns-then-ahead-eq0 : goal.returns-then-ahead-eq0
 returns-then-ahead-eq0 c = search steps
 

@@ -1,9 +1,6 @@
 use Rattle.numbers.proofs.Steps.{steps}
 use Rattle.numbers.proofs.seq.saturating.Goals as goal
 
-pub distance-d-requires : goal.distance-d-requires
-distance-d-requires c = search steps
-
 pub returns-then-d-lt1073741824 : goal.returns-then-d-lt1073741824
 returns-then-d-lt1073741824 c = search steps
 

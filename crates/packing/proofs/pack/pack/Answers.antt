@@ -6,7 +6,7 @@ use Rattle.head.specs.declared.state.Head.{Head}
 use Rattle.packing.specs.Packed.{pack_of, unpack_of}
 use Rattle.packing.specs.Holds.{Holds}
 use Rattle.packing.proofs.Undo.{unpack-pack}
-use Rattle.packing.proofs.Puts.{puts, puts-all}
+use Rattle.packing.proofs.Puts.{puts-all}
 use Rattle.packing.proofs.pack.pack.Goals.{After-put_history}
 use Rattle.packing.proofs.pack.pack.Goals as goal
 
@@ -44,27 +44,3 @@ module _ (c : After-put_history) where
 
 pub returns : goal.returns
 returns c = (all c, ap unpack_of (all c) ∙ unpack-pack (h c) (holds c))
-
-pub put_settings-requires : goal.put_settings-requires
-put_settings-requires c = search puts
-
-pub put_window-requires : goal.put_window-requires
-put_window-requires c = search puts
-
-pub put_base-requires : goal.put_base-requires
-put_base-requires c = search puts
-
-pub put_stats-requires : goal.put_stats-requires
-put_stats-requires c = search puts
-
-pub put_rtt-requires : goal.put_rtt-requires
-put_rtt-requires c = search puts
-
-pub put_arrivals-requires : goal.put_arrivals-requires
-put_arrivals-requires c = search puts
-
-pub put_links-requires : goal.put_links-requires
-put_links-requires c = search puts
-
-pub put_history-requires : goal.put_history-requires
-put_history-requires c = search puts

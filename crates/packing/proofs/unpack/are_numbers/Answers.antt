@@ -4,21 +4,6 @@ use Rattle.packing.proofs.unpack.are_numbers.Goals as goal
 pub loop-i-init : goal.loop-i-init
 loop-i-init c = search says_all
 
-pub overflow_add-ok : goal.overflow_add-ok
-overflow_add-ok c = search says_all
-
-pub offset_bounds-ws-at : goal.offset_bounds-ws-at
-offset_bounds-ws-at c = search says_all
-
-pub bounds-ws-at : goal.bounds-ws-at
-bounds-ws-at c = search says_all
-
-pub overflow_add-i : goal.overflow_add-i
-overflow_add-i c = search says_all
-
-pub loop-i-smaller : goal.loop-i-smaller
-loop-i-smaller c = search says_all
-
 pub loop-i-preserved : goal.loop-i-preserved
 loop-i-preserved c = search says_all
 

@@ -1,9 +1,6 @@
 use Rattle.packing.proofs.Steps.{steps}
 use Rattle.packing.proofs.words.moment.Goals as goal
 
-pub whole-requires : goal.whole-requires
-whole-requires c = search steps
-
 pub returns-then-set-eq1 : goal.returns-then-set-eq1
 returns-then-set-eq1 c = search steps
 

@@ -7,8 +7,5 @@ record-arrivals-requires c = search datas
 pub record-links-requires : goal.record-links-requires
 record-links-requires c = search datas
 
-pub with_rates-requires : goal.with_rates-requires
-with_rates-requires c = search datas
-
 pub returns : goal.returns
 returns c = search datas

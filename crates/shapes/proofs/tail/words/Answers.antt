@@ -1,32 +1,19 @@
-use Rattle.shapes.proofs.Tails.{wording}
+use Rattle.std.proofs.Common.{◌+◌, ◌*◌, ◌≤◌, length, arith}
+use Rattle.head.specs.Paper.{plain}
+use Rattle.shapes.proofs.Tails.{tails, items-again}
 use Rattle.shapes.proofs.tail.words.Goals as goal
 
-pub loop-i-init : goal.loop-i-init
-loop-i-init c = search wording
+pub loop-word-init : goal.loop-word-init
+loop-word-init c = search tails
 
-pub offset_bounds-list-i : goal.offset_bounds-list-i
-offset_bounds-list-i c = search wording
-
-pub bounds-list-i : goal.bounds-list-i
-bounds-list-i c = search wording
-
-pub wide-requires : goal.wide-requires
-wide-requires c = search wording
-
-pub number-cursor-requires : goal.number-cursor-requires
-number-cursor-requires c = search wording
-
-pub overflow_add-i : goal.overflow_add-i
-overflow_add-i c = search wording
-
-pub loop-i-smaller : goal.loop-i-smaller
-loop-i-smaller c = search wording
-
-pub loop-i-preserved : goal.loop-i-preserved
-loop-i-preserved c = search wording
-
-pub shape_of-out : goal.shape_of-out
-shape_of-out c = search wording
+pub loop-word-preserved : goal.loop-word-preserved
+loop-word-preserved c =
+    let i = c.loop-word.word-index in
+    let low : c.loop-word.cursor ≤ c.args.at + 21 * i = c.loop-word.invariant.0 in
+    let room : c.args.at + 21 * length c.args.list.now ≤ length c.args.out.now = c.requires in
+    let here : i + 1 ≤ length c.args.list.now = omega (arith, c.loop-word-test.true) in
+    let within : c.number-cursor.result ≤ c.loop-word.cursor + 21 = c.number-cursor.ensures.within in
+    (omega arith, items-again plain c.args.out.now c.args.at c.args.list.now i _ c.loop-word.invariant.1 c.number-cursor.ensures.bytes c.loop-word-test.true (omega arith))
 
 pub returns : goal.returns
-returns c = search wording
+returns c = search tails

@@ -1,9 +1,6 @@
 use Rattle.slots.proofs.Steps.{steps}
 use Rattle.slots.proofs.ring.slot.Goals as goal
 
-pub overflow_add-s : goal.overflow_add-s
-overflow_add-s c = search steps
-
 pub returns-then-s-capacity : goal.returns-then-s-capacity
 returns-then-s-capacity c = search steps
 

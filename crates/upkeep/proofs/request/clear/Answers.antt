@@ -1,14 +1,8 @@
 use Rattle.upkeep.proofs.Requests.{requests}
 use Rattle.upkeep.proofs.request.clear.Goals as goal
 
-pub head-n-requires : goal.head-n-requires
-head-n-requires c = search requests
+pub returns-in-Ok : goal.returns-in-Ok
+returns-in-Ok c = search requests
 
-pub emptied-requires : goal.emptied-requires
-emptied-requires c = search requests
-
-pub returns-then-n-eq0 : goal.returns-then-n-eq0
-returns-then-n-eq0 c = search requests
-
-pub returns : goal.returns
-returns c = search requests
+pub returns-in-Err : goal.returns-in-Err
+returns-in-Err c = search requests

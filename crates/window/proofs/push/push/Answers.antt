@@ -16,8 +16,8 @@ enum_told-1 c = search pushes
 pub append_next-requires : goal.append_next-requires
 append_next-requires c = search pushes
 
-pub enum_told-in-After : goal.enum_told-in-After
-enum_told-in-After c = search pushes
+pub enum_told-in-Greater : goal.enum_told-in-Greater
+enum_told-in-Greater c = search pushes
 
 pub overflow_cast-gap : goal.overflow_cast-gap
 overflow_cast-gap c = search pushes
@@ -25,8 +25,8 @@ overflow_cast-gap c = search pushes
 pub append_with_loss-requires : goal.append_with_loss-requires
 append_with_loss-requires c = search pushes
 
-pub enum_told-in-Before : goal.enum_told-in-Before
-enum_told-in-Before c = search pushes
+pub enum_told-in-Less : goal.enum_told-in-Less
+enum_told-in-Less c = search pushes
 
 pub recover-requires : goal.recover-requires
 recover-requires c = search pushes
@@ -40,20 +40,20 @@ shape_of-bytes-in-Equal c = search pushes
 pub returns-in-Equal : goal.returns-in-Equal
 returns-in-Equal c = search pushes
 
-pub shape_of-words-in-After : goal.shape_of-words-in-After
-shape_of-words-in-After c = search pushes
+pub shape_of-words-in-Greater : goal.shape_of-words-in-Greater
+shape_of-words-in-Greater c = search pushes
 
-pub shape_of-bytes-in-After : goal.shape_of-bytes-in-After
-shape_of-bytes-in-After c = search pushes
+pub shape_of-bytes-in-Greater : goal.shape_of-bytes-in-Greater
+shape_of-bytes-in-Greater c = search pushes
 
-pub returns-in-After : goal.returns-in-After
-returns-in-After c = search pushes
+pub returns-in-Greater : goal.returns-in-Greater
+returns-in-Greater c = search pushes
 
-pub shape_of-words-in-Before : goal.shape_of-words-in-Before
-shape_of-words-in-Before c = search pushes
+pub shape_of-words-in-Less : goal.shape_of-words-in-Less
+shape_of-words-in-Less c = search pushes
 
-pub shape_of-bytes-in-Before : goal.shape_of-bytes-in-Before
-shape_of-bytes-in-Before c = search pushes
+pub shape_of-bytes-in-Less : goal.shape_of-bytes-in-Less
+shape_of-bytes-in-Less c = search pushes
 
-pub returns-in-Before : goal.returns-in-Before
-returns-in-Before c = search pushes
+pub returns-in-Less : goal.returns-in-Less
+returns-in-Less c = search pushes

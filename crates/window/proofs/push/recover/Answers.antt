@@ -19,20 +19,11 @@ read_at-requires c = search pushes
 pub is_lost-requires : goal.is_lost-requires
 is_lost-requires c = search pushes
 
+pub returns-then-not-is_lost : goal.returns-then-not-is_lost
+returns-then-not-is_lost c = search pushes
+
 pub take_recovered-requires : goal.take_recovered-requires
 take_recovered-requires c = search pushes
-
-pub shape_of-words-then-is_lost : goal.shape_of-words-then-is_lost
-shape_of-words-then-is_lost c = search pushes
-
-pub shape_of-bytes-then-is_lost : goal.shape_of-bytes-then-is_lost
-shape_of-bytes-then-is_lost c = search pushes
-
-pub returns-then-is_lost : goal.returns-then-is_lost
-returns-then-is_lost c = search pushes
-
-pub shape_of-words : goal.shape_of-words
-shape_of-words c = search pushes
 
 pub returns : goal.returns
 returns c = search pushes

@@ -1,9 +1,6 @@
 use Rattle.window.proofs.Pushes.{pushes}
 use Rattle.window.proofs.push.write_lost.Goals as goal
 
-pub size-feedback-requires : goal.size-feedback-requires
-size-feedback-requires c = search pushes
-
 pub write_at-requires : goal.write_at-requires
 write_at-requires c = search pushes
 

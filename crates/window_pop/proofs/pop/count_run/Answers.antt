@@ -10,14 +10,8 @@ read_at-e-requires c = search runs
 pub in_message-requires : goal.in_message-requires
 in_message-requires c = search runs
 
-pub length_in-total-requires : goal.length_in-total-requires
-length_in-total-requires c = search runs
-
 pub overflow_add-total : goal.overflow_add-total
 overflow_add-total c = search runs
-
-pub overflow_add-i : goal.overflow_add-i
-overflow_add-i c = search runs
 
 pub is_last-requires : goal.is_last-requires
 is_last-requires c = search runs
@@ -28,14 +22,11 @@ returns-then-is_last c = search runs
 pub next_slot-s-requires : goal.next_slot-s-requires
 next_slot-s-requires c = search runs
 
-pub loop-i-smaller : goal.loop-i-smaller
-loop-i-smaller c = search runs
-
 pub loop-i-preserved : goal.loop-i-preserved
 loop-i-preserved c = search runs
 
-pub returns-else-in_message : goal.returns-else-in_message
-returns-else-in_message c = search runs
+pub returns-then-not-in_message : goal.returns-then-not-in_message
+returns-then-not-in_message c = search runs
 
 pub returns : goal.returns
 returns c = search runs

@@ -6,7 +6,4 @@ use Rattle.window_pop.proofs.pop.count_run.Given as goal
 
 abbrev pub invariant-loop-i : goal.invariant-loop-i
 invariant-loop-i l =
-    (l.i ≤ l.held) × (l.s ≡ slot_of l.capacity l.start l.i) × (l.total ≤ 1456 * l.i) × (run_from l.capacity l.start l.words l.message 0 0 l.held ≡ run_from l.capacity l.start l.words l.message l.i l.total (l.held - l.i))
-
-abbrev pub decreases-loop-i : goal.decreases-loop-i
-decreases-loop-i l = l.held - l.i
+    (l.s ≡ slot_of l.capacity l.start l.i) × (l.total ≤ 1456 * l.i) × (run_from l.capacity l.start l.words l.message 0 0 l.held ≡ run_from l.capacity l.start l.words l.message l.i l.total (l.held - l.i))

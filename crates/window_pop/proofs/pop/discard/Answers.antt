@@ -1,9 +1,6 @@
 use Rattle.window_pop.proofs.Pops.{pops}
 use Rattle.window_pop.proofs.pop.discard.Goals as goal
 
-pub returns-then-walk-eq0 : goal.returns-then-walk-eq0
-returns-then-walk-eq0 c = search pops
-
 pub due-requires : goal.due-requires
 due-requires c = search pops
 

@@ -13,8 +13,8 @@ message_in-requires c = search runs
 pub count_run-requires : goal.count_run-requires
 count_run-requires c = search runs
 
-pub returns-then-is_first : goal.returns-then-is_first
-returns-then-is_first c = search runs
+pub returns-then-not-is_first : goal.returns-then-not-is_first
+returns-then-not-is_first c = search runs
 
 pub returns : goal.returns
 returns c = search runs

@@ -4,17 +4,8 @@ use Rattle.window_pop.proofs.pop.pop.Goals as goal
 pub front-e-requires : goal.front-e-requires
 front-e-requires c = search pops
 
-pub is_received-requires : goal.is_received-requires
-is_received-requires c = search pops
-
-pub stamp_in-requires : goal.stamp_in-requires
-stamp_in-requires c = search pops
-
 pub pop_front-requires : goal.pop_front-requires
 pop_front-requires c = search pops
-
-pub shape_of-out-then-is_received : goal.shape_of-out-then-is_received
-shape_of-out-then-is_received c = search pops
 
 pub returns-then-is_received : goal.returns-then-is_received
 returns-then-is_received c = search pops

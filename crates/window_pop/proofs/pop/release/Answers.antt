@@ -7,14 +7,8 @@ returns-then-out-m c = search pops
 pub fill-requires : goal.fill-requires
 fill-requires c = search pops
 
-pub cut_front-window-requires : goal.cut_front-window-requires
-cut_front-window-requires c = search pops
-
-pub monotonic_instant_from-released-requires : goal.monotonic_instant_from-released-requires
-monotonic_instant_from-released-requires c = search pops
-
-pub shape_of-out : goal.shape_of-out
-shape_of-out c = search pops
+pub cut_front-requires : goal.cut_front-requires
+cut_front-requires c = search pops
 
 pub returns : goal.returns
 returns c = search pops

@@ -1,4 +1,3 @@
-use Prim.Native.Nat.{◌-◌}
 use Rattle.window_pop.proofs.Lates.{lates}
 use Rattle.window_pop.proofs.pop.walk_late.Goals as goal
 
@@ -17,17 +16,11 @@ returns-then-is_kept c = search lates
 pub walk_past-k-requires : goal.walk_past-k-requires
 walk_past-k-requires c = search lates
 
-pub overflow_add-i : goal.overflow_add-i
-overflow_add-i c = search lates
-
 pub next_slot-s-requires : goal.next_slot-s-requires
 next_slot-s-requires c = search lates
 
-pub loop-i-smaller : goal.loop-i-smaller
-loop-i-smaller c = search lates
-
 pub loop-i-preserved : goal.loop-i-preserved
-loop-i-preserved c = (search lates, search lates, search lates)
+loop-i-preserved c = search lates
 
 pub returns : goal.returns
 returns c = search lates

@@ -7,8 +7,5 @@ saturating-d-requires c = search drops
 pub overflow_cast-d : goal.overflow_cast-d
 overflow_cast-d c = search drops
 
-pub returns-then-d-w : goal.returns-then-d-w
-returns-then-d-w c = search drops
-
-pub returns-else-d-w : goal.returns-else-d-w
-returns-else-d-w c = search drops
+pub returns : goal.returns
+returns c = search drops

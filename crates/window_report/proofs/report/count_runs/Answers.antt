@@ -1,4 +1,3 @@
-use Prim.Native.Nat.{◌-◌}
 use Rattle.window_report.proofs.Reports.{reports}
 use Rattle.window_report.proofs.report.count_runs.Goals as goal
 
@@ -17,14 +16,8 @@ runs_after-r-requires c = search reports
 pub next_slot-s-requires : goal.next_slot-s-requires
 next_slot-s-requires c = search reports
 
-pub overflow_add-i : goal.overflow_add-i
-overflow_add-i c = search reports
-
-pub loop-i-smaller : goal.loop-i-smaller
-loop-i-smaller c = search reports
-
 pub loop-i-preserved : goal.loop-i-preserved
-loop-i-preserved c = (search reports, search reports, search reports)
+loop-i-preserved c = search reports
 
 pub returns : goal.returns
 returns c = search reports

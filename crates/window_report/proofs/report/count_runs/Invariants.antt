@@ -1,12 +1,8 @@
 use mathlib.Core.Path.{◌≡◌}
-use Prim.Native.Nat.{◌-◌, ◌≤◌}
 use Rattle.slots.specs.Ring.{slot_of}
 use Rattle.window_report.specs.Report.{runs_to}
 use Rattle.window_report.proofs.report.count_runs.Given as goal
 
 abbrev pub invariant-loop-i : goal.invariant-loop-i
 invariant-loop-i l =
-    (l.i ≤ l.w.held) × (l.s ≡ slot_of l.w.capacity l.w.start l.i) × (l.r ≡ runs_to l.w l.words l.time l.mean l.i)
-
-abbrev pub decreases-loop-i : goal.decreases-loop-i
-decreases-loop-i l = l.w.held - l.i
+    (l.s ≡ slot_of l.w.capacity l.w.start l.i) × (l.r ≡ runs_to l.w l.words l.time l.mean l.i)

@@ -13,12 +13,6 @@ is_due-requires c = search reports
 pub returns-then-is_due : goal.returns-then-is_due
 returns-then-is_due c = search reports
 
-pub overflow_add-s : goal.overflow_add-s
-overflow_add-s c = search reports
-
-pub loop-s-smaller : goal.loop-s-smaller
-loop-s-smaller c = search reports
-
 pub loop-s-preserved : goal.loop-s-preserved
 loop-s-preserved c = search reports
 

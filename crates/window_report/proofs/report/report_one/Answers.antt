@@ -10,9 +10,6 @@ is_due-requires c = search reports
 pub k_after-k-requires : goal.k_after-k-requires
 k_after-k-requires c = search reports
 
-pub size-feedback-requires : goal.size-feedback-requires
-size-feedback-requires c = search reports
-
 pub write_report-requires : goal.write_report-requires
 write_report-requires c = search reports
 

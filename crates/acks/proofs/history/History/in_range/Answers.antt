@@ -4,11 +4,5 @@ use Rattle.acks.proofs.history.History.in_range.Goals as goal
 pub returns-then-self-gt1024 : goal.returns-then-self-gt1024
 returns-then-self-gt1024 c = search histories
 
-pub overflow_cast-newest : goal.overflow_cast-newest
-overflow_cast-newest c = search histories
-
-pub overflow_add-newest : goal.overflow_add-newest
-overflow_add-newest c = search histories
-
 pub returns : goal.returns
 returns c = search histories

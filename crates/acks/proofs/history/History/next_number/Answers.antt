@@ -4,11 +4,5 @@ use Rattle.acks.proofs.history.History.next_number.Goals as goal
 pub returns-then-self-eq0 : goal.returns-then-self-eq0
 returns-then-self-eq0 c = search histories
 
-pub overflow_cast-result : goal.overflow_cast-result
-overflow_cast-result c = search histories
-
-pub overflow_add-result : goal.overflow_add-result
-overflow_add-result c = search histories
-
 pub returns : goal.returns
 returns c = search histories

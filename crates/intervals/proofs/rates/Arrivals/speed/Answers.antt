@@ -4,12 +4,6 @@ use Rattle.intervals.proofs.rates.Arrivals.speed.Goals as goal
 pub returns-then-self-lt16 : goal.returns-then-self-lt16
 returns-then-self-lt16 c = search rateSteps
 
-pub median-ai-requires : goal.median-ai-requires
-median-ai-requires c = search rateSteps
-
-pub keep-k-requires : goal.keep-k-requires
-keep-k-requires c = search rateSteps
-
 pub returns-then-k-le8 : goal.returns-then-k-le8
 returns-then-k-le8 c = search rateSteps
 

@@ -4,11 +4,5 @@ use Rattle.intervals.proofs.rates.Links.capacity.Goals as goal
 pub returns-then-self-lt16 : goal.returns-then-self-lt16
 returns-then-self-lt16 c = search rateSteps
 
-pub median-median-requires : goal.median-median-requires
-median-median-requires c = search rateSteps
-
-pub link_rate-requires : goal.link_rate-requires
-link_rate-requires c = search rateSteps
-
 pub returns : goal.returns
 returns c = search rateSteps

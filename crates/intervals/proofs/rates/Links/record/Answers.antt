@@ -4,9 +4,6 @@ use Rattle.intervals.proofs.rates.Links.record.Goals as goal
 pub returns-then-place-eq0 : goal.returns-then-place-eq0
 returns-then-place-eq0 c = search rateSteps
 
-pub pair-requires : goal.pair-requires
-pair-requires c = search rateSteps
-
 pub returns-then-place-eq1 : goal.returns-then-place-eq1
 returns-then-place-eq1 c = search rateSteps
 

@@ -1,5 +1,0 @@
-use Rattle.cells.proofs.Numbers.{numbers}
-use Rattle.cells.proofs.same.Goals as goal
-
-pub returns : goal.returns
-returns c = search numbers

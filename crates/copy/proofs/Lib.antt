@@ -1,2 +1,0 @@
--- The laws of the copy loop.
-pub mod Copies

@@ -1,8 +1,0 @@
-use Rattle.counts.proofs.Rises.{rises}
-use Rattle.counts.proofs.after.unique.Goals as goal
-
-pub duplicate-r-requires : goal.duplicate-r-requires
-duplicate-r-requires c = search rises
-
-pub returns : goal.returns
-returns c = search rises

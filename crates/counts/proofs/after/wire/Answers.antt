@@ -1,8 +1,0 @@
-use Rattle.counts.proofs.Rises.{rises}
-use Rattle.counts.proofs.after.wire.Goals as goal
-
-pub wrapping_add_u64-requires : goal.wrapping_add_u64-requires
-wrapping_add_u64-requires c = search rises
-
-pub returns : goal.returns
-returns c = search rises

@@ -1,5 +1,0 @@
-use Rattle.head.proofs.Gates.{gates}
-use Rattle.head.proofs.gate.bytes_short.Goals as goal
-
-pub returns : goal.returns
-returns c = search gates
