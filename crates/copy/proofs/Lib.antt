@@ -1,0 +1,2 @@
+-- The laws of the copy loop.
+pub mod Copies
