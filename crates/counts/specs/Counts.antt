@@ -86,26 +86,30 @@ refused_counts c size n =
     (cond (n == 10) (raised c (duplicate (wire size)))
     c)
 
--- a data packet with a payload of that size; a loss is found by a unique packet
-abbrev pub data_counts : Counters → ℕ → Result DataAnswer Refusal → Counters
-data_counts c size (Ok (datas.Got lrsn recovered)) = got_counts c size recovered
-data_counts c size (Ok (datas.Light lrsn recovered)) = got_counts c size recovered
-data_counts c size (Ok (datas.Loss first last)) = raised c (unique (wire size))
-data_counts c size (Err e) = refused_counts c size (number_of e)
+-- a data packet with a payload of that size, whatever tells a refusal and its number; a loss is found by a unique packet
+abbrev pub data_counts_by : {R : Type 0} → (R → ℕ) → Counters → ℕ → Result DataAnswer R → Counters
+data_counts_by number c size (Ok (datas.Got lrsn recovered)) = got_counts c size recovered
+data_counts_by number c size (Ok (datas.Light lrsn recovered)) = got_counts c size recovered
+data_counts_by number c size (Ok (datas.Loss first last)) = raised c (unique (wire size))
+data_counts_by number c size (Err e) = refused_counts c size (number e)
 
--- an ACK2: 003 raises the errors for a found one (A6)
-abbrev pub ack2_counts : Counters → Result (Option Rtt) Refusal → Counters
+-- the same of an answer of the receiver's
+abbrev pub data_counts : Counters → ℕ → Result DataAnswer Refusal → Counters
+data_counts c size a = data_counts_by number_of c size a
+
+-- an ACK2, whatever refused it: 003 raises the errors for a found one (A6)
+abbrev pub ack2_counts : {R : Type 0} → Counters → Result (Option Rtt) R → Counters
 ack2_counts c (Ok None) = raised c unknown
 ack2_counts c (Ok (Some rtt)) = raised c found
 ack2_counts c (Err e) = c
 
 -- a drop request raises dropped data by its count, no bytes
-abbrev pub drop_counts : Counters → Result ℕ Refusal → Counters
+abbrev pub drop_counts : {R : Type 0} → Counters → Result ℕ R → Counters
 drop_counts c (Ok n) = raised c (gone n)
 drop_counts c (Err e) = c
 
 -- the first drift, a sample and unsteady raise nothing
-abbrev pub clock_counts : Counters → Result Synchronized Refusal → Counters
+abbrev pub clock_counts : {R : Type 0} → Counters → Result Synchronized R → Counters
 clock_counts c (Ok clocks.Nothing) = c
 clock_counts c (Ok (clocks.Adjusted mean deviation)) = raised c adjusted
 clock_counts c (Ok (clocks.Unsteady deviation v)) = c

@@ -1,14 +1,38 @@
 // The counters after an answer, from the answer alone: 01, "Counters follow 003", "7 to 10 still count in the
 // counters".
-ghost use Rattle.std.specs.Prelude.{◌≡◌};
+ghost use Rattle.std.specs.Prelude.{◌≡◌, ℕ};
 ghost use Rattle.head.specs.Rules.{number_of};
-ghost use Rattle.counts.specs.Counts.{unique, again, dropped, duplicate, wire, got_counts, refused_counts, data_counts, found, unknown, ack2_counts, gone, drop_counts, adjusted, clock_counts};
+ghost use Rattle.counts.specs.Counts.{unique, again, dropped, duplicate, wire, got_counts, refused_counts, data_counts_by, found, unknown, ack2_counts, gone, drop_counts, adjusted, clock_counts};
 
 use crate::Counters;
 use acks::rtt::Rtt;
 use feedback::sync::ClockAnswer;
 use head::refusal::Refusal;
 use receiver::data::DataAnswer;
+
+// A refusal as a caller has it: a Refusal, or only its number, which may be any and counts by itself.
+pub trait Refused {
+    ghost number: { Self → ℕ };
+
+    fn told_number(self) -> u32
+        ensures { result ≡ number self };
+}
+
+impl Refused for Refusal {
+    ghost number = { number_of };
+
+    fn told_number(self) -> u32 {
+        self.number()
+    }
+}
+
+impl Refused for u32 {
+    ghost number = { λ n. n };
+
+    fn told_number(self) -> u32 {
+        self
+    }
+}
 
 // What a packet raises by what became of it. Each starts from `duplicate`, since a packet that counts at all came.
 
@@ -68,28 +92,30 @@ fn after_got(c: Counters, size: usize, recovered: bool) -> Counters
     c.raised(unique(bytes))
 }
 
-fn after_refused(c: Counters, size: usize, e: Refusal) -> Counters
-    ensures { result ≡ refused_counts c size (number_of e) }
+fn after_refused(c: Counters, size: usize, n: u32) -> Counters
+    ensures { result ≡ refused_counts c size n }
 {
     let bytes = wire(size);
-    match e {
-        Refusal::BufferFull | Refusal::PacketTooEarly { .. } | Refusal::PacketTooLate => {
-            c.raised(dropped(bytes))
-        }
-        Refusal::DiscardedDuplicate => c.raised(duplicate(bytes)),
+    match n {
+        7..=9 => c.raised(dropped(bytes)),
+        10 => c.raised(duplicate(bytes)),
         _ => c,
     }
 }
 
-pub fn after_data(c: Counters, size: usize, answer: Result<DataAnswer, Refusal>) -> Counters
-    ensures { result ≡ data_counts c size answer }
+pub fn after_data<R: Refused + Drop>(
+    c: Counters,
+    size: usize,
+    answer: Result<DataAnswer, R>,
+) -> Counters
+    ensures { result ≡ data_counts_by R.number c size answer }
 {
     match answer {
         Ok(DataAnswer::Got { recovered, .. } | DataAnswer::Light { recovered, .. }) => {
             after_got(c, size, recovered)
         }
         Ok(DataAnswer::Loss { .. }) => after_got(c, size, false),
-        Err(e) => after_refused(c, size, e),
+        Err(e) => after_refused(c, size, e.told_number()),
     }
 }
 
@@ -112,7 +138,7 @@ fn found() -> Counters
     }
 }
 
-pub fn after_ack2(c: Counters, answer: Result<Option<Rtt>, Refusal>) -> Counters
+pub fn after_ack2<R: Drop>(c: Counters, answer: Result<Option<Rtt>, R>) -> Counters
     ensures { result ≡ ack2_counts c answer }
 {
     match answer {
@@ -131,7 +157,7 @@ fn gone(n: usize) -> Counters
     }
 }
 
-pub fn after_drop(c: Counters, answer: Result<usize, Refusal>) -> Counters
+pub fn after_drop<R: Drop>(c: Counters, answer: Result<usize, R>) -> Counters
     ensures { result ≡ drop_counts c answer }
 {
     let Ok(n) = answer else {
@@ -149,7 +175,7 @@ fn adjusted() -> Counters
     }
 }
 
-pub fn after_clock(c: Counters, answer: Result<ClockAnswer, Refusal>) -> Counters
+pub fn after_clock<R: Drop>(c: Counters, answer: Result<ClockAnswer, R>) -> Counters
     ensures { result ≡ clock_counts c answer }
 {
     let Ok(ClockAnswer::Adjusted { .. }) = answer else {
