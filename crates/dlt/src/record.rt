@@ -1,6 +1,6 @@
 // A record of a trace: 01, "Trace, mark DLT".
 ghost use Rattle.std.specs.Prelude.{◌≡◌, ◌≤◌, length, drop};
-ghost use Rattle.dlt.specs.Record.{code_of, least_size, data_in, data_of, fields_of, record_of, size_in};
+ghost use Rattle.dlt.specs.Record.{code_of, least_size, data_in, data_of, fields_of, record_of, size_of};
 
 use crate::Unread;
 use crate::bytes::{half, time, word};
@@ -119,11 +119,14 @@ pub fn read(piece: &[u8], at: usize) -> Result<Record, Unread>
     first(piece.get(at..).ok_or(Unread::Short)?)
 }
 
-// The bytes that a record takes, its payload too. By its own match: the sizes by Kind::fixed would need one more, of a
-// record's kind.
-pub fn size(r: Record) -> usize
-    ensures { result ≡ size_in r }
+// The bytes that a record takes, its payload too, and none where there is no record. By its own match: the sizes by
+// Kind::fixed would need one more, of a record's kind.
+pub fn size(read: Result<Record, Unread>) -> usize
+    ensures { result ≡ size_of read }
 {
+    let Ok(r) = read else {
+        return 0;
+    };
     match r {
         Record::Data { length, .. } => 24 + usize::from(length),
         Record::Pop { .. } | Record::Report { .. } | Record::FullAck { .. } | Record::Drop { .. } =>

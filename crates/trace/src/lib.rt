@@ -246,7 +246,7 @@ fn make(
     requires { RecordHere list.old line.old piece.now at r }
     ensures { turn_left (turned result line.new) (areas_of words.new bytes.new area.new out.new list.new) ≡ advances t (areas_of words.old bytes.old area.old out.old list.old) line.old (call_in (Ok r)) (payload_in (drop at piece.now) (Ok r)) (size_in r) }
 {
-    let size = dlt::record::size(r);
+    let size = dlt::record::size(Ok(r));
     let call = call_of(r);
     let n = length_of(r);
     let to = at + size;
