@@ -1,5 +1,5 @@
 -- A value as the code has it, and the most bytes that values need: no rules of 01 of their own.
-use Rattle.std.specs.Prelude.{List, ℕ, ◌+◌}
+use Rattle.std.specs.Prelude.{Bool, cond, List, ℕ, ◌+◌, Option, Some, None}
 use Rattle.std.specs.List.{sum_by}
 use Rattle.head.specs.Paper as paper
 use Rattle.head.specs.Paper.{whole, dash, plain}
@@ -11,6 +11,14 @@ abbrev pub value_of : Value → paper.Value
 value_of (Plain n) = plain n
 value_of (Whole z) = whole z
 value_of Dash = dash
+
+-- the value of a flag, and of a rate
+abbrev pub one_if : Bool → ℕ
+one_if b = cond b 1 0
+
+abbrev pub rate_in : Option ℕ → Value
+rate_in None = Dash
+rate_in (Some n) = Plain n
 
 -- the most bytes of a value, with the space before it
 abbrev pub width_of : Value → ℕ

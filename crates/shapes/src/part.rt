@@ -2,10 +2,10 @@
 ghost use Rattle.std.specs.Prelude.{◌≡◌, [], ◌∷◌, ◌++◌, ◌+◌, ◌≤◌, length};
 ghost use Rattle.text.specs.Decimal.{decimal};
 ghost use Rattle.text.specs.Put.{put_ended, put_of};
-ghost use Rattle.head.specs.Paper.{whole as Paper·whole, plain, flag};
+ghost use Rattle.head.specs.Paper.{whole as Paper·whole, plain};
 ghost use Rattle.shapes.specs.Shapes.{spaced, closed};
-ghost use Rattle.feedback.specs.Paper.{rate_value};
-ghost use Rattle.shapes.specs.Inner.{value_of};
+ghost use Rattle.shapes.specs.Inner.{one_if, rate_in};
+ghost use Rattle.shapes.specs.declared.part.Value.TheVariants.{Plain, Whole};
 ghost use Rattle.shapes.specs.Ready.{Wrote};
 
 // A value of a line: a number, one that may be below zero, or `-`.
@@ -18,7 +18,7 @@ pub enum Value {
 
 // `-` for no rate.
 impl From<Option<u32>> for Value {
-    ghost from_gives = { λ rate v. value_of v ≡ rate_value rate };
+    ghost from_gives = { λ rate v. v ≡ rate_in rate };
 
     fn from(rate: Option<u32>) -> Value {
         match rate {
@@ -30,7 +30,7 @@ impl From<Option<u32>> for Value {
 
 // 1 if it holds, else 0.
 impl From<bool> for Value {
-    ghost from_gives = { λ b v. value_of v ≡ flag b };
+    ghost from_gives = { λ b v. v ≡ Plain (one_if b) };
 
     fn from(b: bool) -> Value {
         Value::Plain(u64::from(b))
@@ -39,7 +39,7 @@ impl From<bool> for Value {
 
 // A number stands as it is, and one of a signed type as one that may be below zero.
 impl From<u32> for Value {
-    ghost from_gives = { λ n v. value_of v ≡ plain n };
+    ghost from_gives = { λ n v. v ≡ Plain n };
 
     fn from(n: u32) -> Value {
         Value::Plain(n as u64)
@@ -47,7 +47,7 @@ impl From<u32> for Value {
 }
 
 impl From<u64> for Value {
-    ghost from_gives = { λ n v. value_of v ≡ plain n };
+    ghost from_gives = { λ n v. v ≡ Plain n };
 
     fn from(n: u64) -> Value {
         Value::Plain(n)
@@ -55,7 +55,7 @@ impl From<u64> for Value {
 }
 
 impl From<usize> for Value {
-    ghost from_gives = { λ n v. value_of v ≡ plain n };
+    ghost from_gives = { λ n v. v ≡ Plain n };
 
     fn from(n: usize) -> Value {
         Value::Plain(n as u64)
@@ -63,7 +63,7 @@ impl From<usize> for Value {
 }
 
 impl From<i32> for Value {
-    ghost from_gives = { λ z v. value_of v ≡ Paper·whole z };
+    ghost from_gives = { λ z v. v ≡ Whole z };
 
     fn from(z: i32) -> Value {
         Value::Whole(i64::from(z))
@@ -71,7 +71,7 @@ impl From<i32> for Value {
 }
 
 impl From<i64> for Value {
-    ghost from_gives = { λ z v. value_of v ≡ Paper·whole z };
+    ghost from_gives = { λ z v. v ≡ Whole z };
 
     fn from(z: i64) -> Value {
         Value::Whole(z)
