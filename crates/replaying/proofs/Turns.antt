@@ -1,6 +1,6 @@
 -- A header that was read has its 24 bytes, and a turn of the trace uses no more bytes than are at hand and writes no more than the lent line has: so each
 -- cursor stays in its buffer. Assumes nothing.
-use Rattle.std.proofs.Common.{◌≡◌, ℕ, ◌+◌, ◌<◌, ◌≤◌, Bool, true, false, not, ◌&&◌, eqb, leb, List, length, drop, sym, ap, ◌∙◌, subst, arith, length-append, length-drop, length-take, lt-ltb, rules}
+use Rattle.std.proofs.Common.{◌≡◌, ℕ, zero, suc, refl, eq-eqb, ne_eqb, ◌+◌, ◌<◌, ◌≤◌, Bool, true, false, not, ◌&&◌, eqb, leb, List, length, drop, sym, ap, ◌∙◌, subst, arith, length-append, length-drop, length-take, lt-ltb, rules}
 use Rattle.std.specs.Prelude.{Result, Ok, Err}
 use Rattle.numbers.proofs.Flags.{by-test, by-order}
 use Rattle.text.specs.Put.{put, put_of}
@@ -57,4 +57,9 @@ turn-used t a a₁ piece at end last line line₁ e f h =
 pub turn-wrote : (t : Trace) (a a₁ : Areas) (rest : List ℕ) (last : Bool) (line line₁ : List ℕ) {r : Turned} → turn_left (turned r line₁) a₁ ≡ turn_of t a rest last line → r.length ≤ length line₁
 turn-wrote t a a₁ rest last line line₁ e = (subst (Inside rest) (sym e) (turn-inside t a rest last line)).wrote
 
-pub ruleset turns = (header-there, turn-used, rules)
+-- a read that gave nothing moves the end of the bytes at hand nowhere, and no other leaves it
+pub none-came : (kept n : ℕ) → eqb n 0 ≡ eqb (kept + n) kept
+none-came kept zero = rw (eq-eqb (kept + 0) kept (omega arith), eq-eqb 0 0 refl)
+none-came kept (suc n) = rw (ne_eqb (kept + suc n) kept (λ e. omega (arith, e)), ne_eqb (suc n) 0 (λ e. omega (arith, e)))
+
+pub ruleset turns = (header-there, turn-used, none-came, rules)

@@ -5,13 +5,14 @@
 // file.
 #![tactic(auto)]
 
-ghost use Rattle.std.specs.Prelude.{◌≡◌, ◌+◌, ◌≤◌, length, IfSome, OnOk, OnErr};
+ghost use Rattle.std.specs.Prelude.{◌≡◌, ◌+◌, ◌≤◌, length, IfSome, IfOk, IfErr, OnOk, OnErr};
 ghost use Rattle.trace.specs.Lends.{slots_lent, payloads_lent, history_lent, output_lent, list_lent};
 ghost use Rattle.replaying.specs.Counts.{IsPrefixLen};
-ghost use Rattle.replaying.specs.Reads.{Filled, Flushed};
+ghost use Rattle.replaying.specs.Reads.{Took, Unfilled, Refilled, Written, Flushed, IsUnread, Came, Served};
 ghost use Rattle.replaying.specs.Same.{same_bytes};
 
 mod held;
+mod holding;
 
 use crate::held::{Hand, Lines};
 use dlt::Unread;
@@ -51,35 +52,53 @@ impl Areas {
 }
 
 impl Hand {
-    // A read that gave nothing is the end of the file, and no other is.
-    fn took(&mut self, kept: usize, n: usize)
-        requires { kept + n ≤ 65536 }
-        ensures { Filled self.old kept n self.new }
+    // A read that gave nothing is the end of the file, and no other is; one that failed leaves all.
+    fn took(&mut self, kept: usize, read: io::Result<usize>) -> io::Result<()>
+        requires { IfOk read (λ n. kept + n ≤ 65536) }
+        ensures { Took self.old kept read self.new result }
     {
-        self.at = 0;
-        self.end = kept + n;
-        self.last = n == 0;
+        match read {
+            Ok(n) => {
+                self.at = 0;
+                self.end = kept + n;
+                self.last = n == 0;
+                Ok(())
+            }
+            Err(failure) => Err(failure),
+        }
     }
 
     // The unread bytes go to the front, and one read behind them.
     fn fill<R: Read>(&mut self, input: &mut R) -> io::Result<()>
-        ensures unread { OnErr result (self.new.last ≡ self.old.last) }
+        ensures read { OnOk result (Refilled self.old self.new) }
+        ensures unread { OnErr result (Unfilled self.old self.new) }
     {
         let kept = self.shift();
-        let n = input.read(&mut self.bytes[kept..])?;
-        self.took(kept, n);
-        Ok(())
+        let read = input.read(&mut self.bytes[kept..]);
+        self.took(kept, read)
     }
 }
 
 impl Lines {
+    // Once they are written out none is left; a write that failed leaves all.
+    fn wrote(&mut self, written: io::Result<()>) -> io::Result<()>
+        ensures { Written self.old written self.new result }
+    {
+        match written {
+            Ok(()) => {
+                self.used = 0;
+                Ok(())
+            }
+            Err(e) => Err(e),
+        }
+    }
+
     fn flush(&mut self, output: &impl Print) -> io::Result<()>
         ensures done { OnOk result (Flushed self.old self.new) }
         ensures failed { OnErr result (self.new ≡ self.old) }
     {
-        output.write_all(&self.text[..self.used])?;
-        self.used = 0;
-        Ok(())
+        let written = output.write_all(&self.text[..self.used]);
+        self.wrote(written)
     }
 }
 
@@ -109,12 +128,21 @@ struct Replay {
 
 // A proved loop has to end, and nothing says that a file does: each counts up to a number that no run reaches.
 impl Replay {
+    // More bytes, for the header or for a turn.
+    fn more<R: Read>(&mut self, input: &mut R) -> Result<(), Failure>
+        ensures { Came self.old self.new result }
+    {
+        self.hand.fill(input).map_err(Failure::Unread)
+    }
+
     // The header. Where it is bad the bytes at hand stay, so that the reason can be told.
-    fn open<R: Read>(&mut self, input: &mut R, counting: bool) -> io::Result<Option<Trace>> {
+    fn open<R: Read>(&mut self, input: &mut R, counting: bool) -> Result<Option<Trace>, Failure>
+        ensures unread { IfErr result (λ failure. IsUnread failure) }
+    {
         for _ in 0..u64::MAX {
             match self.hand.begin(counting) {
                 Ok(trace) => return Ok(Some(trace)),
-                Err(Unread::Short) if !self.hand.last => self.hand.fill(input)?,
+                Err(Unread::Short) if !self.hand.last => self.more(input)?,
                 Err(_) => break,
             }
         }
@@ -143,6 +171,31 @@ impl Replay {
         x.status
     }
 
+    // What a turn's status asks for is done: the end of the file, or none where the loop goes on.
+    fn serve<R: Read>(
+        &mut self,
+        status: Status,
+        trace: &Trace,
+        input: &mut R,
+        output: &impl Print,
+    ) -> Result<Option<End>, Failure>
+        ensures { Served status trace.now self.old self.new result }
+    {
+        match status {
+            Status::Line => {}
+            Status::More => self.more(input)?,
+            Status::LineShort => self.lines.flush(output).map_err(Failure::Unwritten)?,
+            Status::End => return Ok(Some(End::Whole)),
+            Status::Bad => {
+                return Ok(Some(End::BadRecord {
+                    offset: trace.offset,
+                    count: trace.count,
+                }));
+            }
+        }
+        Ok(None)
+    }
+
     // The whole file, but for the lines that are left at its end.
     fn run<R: Read>(
         &mut self,
@@ -150,21 +203,13 @@ impl Replay {
         output: &impl Print,
         counting: bool,
     ) -> Result<End, Failure> {
-        let Some(mut trace) = self.open(input, counting).map_err(Failure::Unread)? else {
+        let Some(mut trace) = self.open(input, counting)? else {
             return Ok(End::BadHeader);
         };
         for _ in 0..u64::MAX {
-            match self.turn(&mut trace) {
-                Status::Line => {}
-                Status::More => self.hand.fill(input).map_err(Failure::Unread)?,
-                Status::LineShort => self.lines.flush(output).map_err(Failure::Unwritten)?,
-                Status::End => break,
-                Status::Bad => {
-                    return Ok(End::BadRecord {
-                        offset: trace.offset,
-                        count: trace.count,
-                    });
-                }
+            let status = self.turn(&mut trace);
+            if let Some(end) = self.serve(status, &trace, input, output)? {
+                return Ok(end);
             }
         }
         Ok(End::Whole)
